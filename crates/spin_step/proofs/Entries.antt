@@ -1,9 +1,8 @@
 -- A party's step changes the party's entries as if it were alone, and changes nobody else's.
-use Rattle.std.proofs.Common.{◌≡◌, ℕ, ◌==◌, Bool, true, false, cond, Option, Some, None, List, [], ◌∷◌, ◌++◌, filter, arith, refl, sym, ◌∙◌, subst, eq-eqb, ne_eqb}
-use Rattle.std.specs.Prelude.{◌&&◌, if◌then◌else◌}
+use Rattle.std.proofs.Common.{◌≡◌, ℕ, ◌==◌, Bool, true, cond, Option, Some, None, List, [], ◌∷◌, ◌++◌, filter, arith, refl, sym, ◌∙◌, subst, eq-eqb}
 use Rattle.std.proofs.lemmas.List.{append-nil}
 use Rattle.std.proofs.lemmas.List.Elements.{filter-append}
-use Rattle.spin_step.specs.Plain.{Plain, Ask, Kind, Holder, holder, same_kind, Effect, effect, given, Change, gets, apply, is_open, without_holder, with_kind, without_starver}
+use Rattle.spin_step.specs.Plain.{Plain, Ask, Kind, Holder, Effect, effect, given, Change, gets, apply, is_open, without_holder, with_kind, without_starver}
 use Rattle.spin_step.specs.Parties.{party_of, apply_some, IsOpenStep, entries, entries_after}
 use Rattle.spin_step.proofs.Exclusive.{Lets, lets}
 
@@ -16,19 +15,13 @@ filter-more test xs x = grind (arith, filter-append test xs (x ∷ []), append-n
 abbrev of : ℕ → List Holder → List Holder
 of q hs = filter (λ h. h.party == q) hs
 
--- q has the same holders in two lists that differ by one holder of p
-others-less : (p q : ℕ) (b : Bool) (h : Holder) (hs less rest : List Holder) → (p ≡ q → ⊥) → of q less ≡ of q hs
-    → of q rest ≡ of q hs → of q (if (h.party == p) && b then less else h ∷ rest) ≡ of q (h ∷ hs)
-others-less p q b h hs less rest ne e f = grind arith
-
 others-without_holder : (p q : ℕ) (k : Kind) (hs : List Holder) → (p ≡ q → ⊥) → of q (without_holder p k hs) ≡ of q hs
 others-without_holder p q k [] ne = refl
-others-without_holder p q k (h ∷ hs) ne = others-less p q (same_kind k h.kind) h hs hs (without_holder p k hs) ne refl (others-without_holder p q k hs ne)
+others-without_holder p q k (h ∷ hs) ne = grind (arith, others-without_holder p q k hs)
 
 others-with_kind : (p q : ℕ) (k l : Kind) (hs : List Holder) → (p ≡ q → ⊥) → of q (with_kind p k l hs) ≡ of q hs
 others-with_kind p q k l [] ne = refl
-others-with_kind p q k l (h ∷ hs) ne =
-    others-less p q (same_kind k h.kind) h hs (holder p l ∷ hs) (with_kind p k l hs) ne (rw (ne_eqb p q ne)) (others-with_kind p q k l hs ne)
+others-with_kind p q k l (h ∷ hs) ne = grind (arith, others-with_kind p q k l hs)
 
 others-without_starver : (p q : ℕ) (rs : List ℕ) → (p ≡ q → ⊥) → filter (λ r. r == q) (without_starver p rs) ≡ filter (λ r. r == q) rs
 others-without_starver p q [] ne = refl
@@ -48,28 +41,13 @@ entries-other s p q (Some c) ne may = entries-others s c q (λ e. ne (sym may.0 
 
 -- The party's own entries change as if it were alone.
 
-cond-ap : (f : List Holder → List Holder) (a : Bool) (xs ys : List Holder) → cond a (f xs) (f ys) ≡ f (cond a xs ys)
-cond-ap f true xs ys = refl
-cond-ap f false xs ys = refl
-
-own-less : (p : ℕ) (b : Bool) (h : Holder) (less rest new own : List Holder) → of p less ≡ new → of p rest ≡ own
-    → of p (if (h.party == p) && b then less else h ∷ rest) ≡ cond (h.party == p) (if (h.party == p) && b then new else h ∷ own) own
-own-less p b h less rest new own e f = grind arith
-
 own-without_holder : (p : ℕ) (k : Kind) (hs : List Holder) → of p (without_holder p k hs) ≡ without_holder p k (of p hs)
 own-without_holder p k [] = refl
-own-without_holder p k (h ∷ hs) =
-    let own = of p hs in
-    own-less p (same_kind k h.kind) h hs (without_holder p k hs) own (without_holder p k own) refl (own-without_holder p k hs)
-    ∙ cond-ap (without_holder p k) (h.party == p) (h ∷ own) own
+own-without_holder p k (h ∷ hs) = grind (arith, own-without_holder p k hs)
 
 own-with_kind : (p : ℕ) (k l : Kind) (hs : List Holder) → of p (with_kind p k l hs) ≡ with_kind p k l (of p hs)
 own-with_kind p k l [] = refl
-own-with_kind p k l (h ∷ hs) =
-    let own = of p hs in
-    own-less p (same_kind k h.kind) h (holder p l ∷ hs) (with_kind p k l hs) (holder p l ∷ own) (with_kind p k l own)
-    (rw (eq-eqb p p refl)) (own-with_kind p k l hs)
-    ∙ cond-ap (with_kind p k l) (h.party == p) (h ∷ own) own
+own-with_kind p k l (h ∷ hs) = grind (arith, own-with_kind p k l hs, eq-eqb p p refl)
 
 own-without_starver : (p : ℕ) (rs : List ℕ) → filter (λ r. r == p) (without_starver p rs) ≡ without_starver p (filter (λ r. r == p) rs)
 own-without_starver p [] = refl

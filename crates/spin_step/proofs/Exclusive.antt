@@ -1,10 +1,10 @@
 -- Open steps keep a lock exclusive: a writer gets no second holder beside it, and there is no second upgrader and no second entered ticket.
-use Rattle.std.proofs.Common.{◌≡◌, ℕ, ◌+◌, ◌<◌, ◌⊎◌, inl, inr, Bool, true, false, Option, Some, None, List, [], ◌∷◌, ◌++◌, length, refl, ap, arith, length-append}
+use Rattle.std.proofs.Common.{◌≡◌, ℕ, ◌<◌, ◌⊎◌, inl, inr, true, false, Option, Some, None, List, [], ◌∷◌, ◌++◌, length, refl, arith, length-append}
 use Rattle.std.proofs.lemmas.Bool.{and_parts}
-use Rattle.spin_step.specs.Plain.{Plain, Kind, writing, Holder, Ticket, Ask, Effect, comes, becomes, queues, enters, starves, runs, effect, given, Change, gets, releases, serves, turns, apply, is_open, is_open_to, is_holder, is_only, is_first, is_empty, is_nothing, may_turn, may_come, upgraders, count_against, count_kind, holder, ticket, ticket_limit, without_holder, with_kind, with_first_entered, without_first}
+use Rattle.spin_step.specs.Plain.{Plain, Kind, writing, Holder, Ticket, Ask, Effect, comes, becomes, queues, enters, starves, runs, effect, given, Change, gets, releases, turns, apply, is_open, is_open_to, is_holder, is_only, is_first, is_empty, is_nothing, may_turn, may_come, count_against, holder, ticket, ticket_limit, without_holder, with_kind}
 use Rattle.spin_step.specs.Parties.{apply_some, IsOpenStep, IsExclusive, none_entered, first_alone_entered}
 use Rattle.spin_step.proofs.Holders.{length-without_holder}
-use Rattle.spin_step.proofs.Sums.{sum_kinds, upgrader, against, one_of, by_kinds, all_kinds, sum-more, sum-less, sum-turned, length-with_kind}
+use Rattle.spin_step.proofs.Sums.{sum_kinds, upgrader, against, one_of, by_kinds, all_kinds, length_by, sum-more, sum-less, sum-turned, length-with_kind}
 
 pub empty_is : {X : Type 0} (xs : List X) → is_empty xs ≡ true → xs ≡ []
 empty_is [] e = refl
@@ -32,24 +32,15 @@ room_to_come k s may = grind arith
 -- the first has entered.
 pub exclusive-like : (s t : Plain) → ((f : Kind → ℕ) → sum_kinds f t.holders ≡ sum_kinds f s.holders) → first_alone_entered t.tickets ≡ true
     → IsExclusive s → IsExclusive t
-exclusive-like s t same e x =
-    record {
-      writer = λ some. omega (arith, same (λ k. 1), length_by s.holders, length_by t.holders, x.writer (omega (arith, same (one_of writing), some)));
-      one_upgradable = omega (arith, same upgrader, x.one_upgradable);
-      one_entered = e;
-    }
-  where
-    length_by : (hs : List Holder) → length hs ≡ sum_kinds (λ k. 1) hs
-    length_by hs = omega (arith, all_kinds hs, by_kinds (λ k. 1) hs)
+exclusive-like s t same e x = record {
+  writer = λ some. omega (arith, same (λ k. 1), length_by, x.writer (omega (arith, same (one_of writing), some)));
+  one_upgradable = omega (arith, same upgrader, x.one_upgradable);
+  one_entered = e;
+}
 
 -- a lock without holders and tickets is exclusive
 pub exclusive-free : (s : Plain) → s.holders ≡ [] → s.tickets ≡ [] → IsExclusive s
-exclusive-free s none empty =
-    record {
-      writer = λ some. absurd (omega (arith, some, ap (λ hs. count_kind writing hs) none));
-      one_upgradable = omega (arith, ap upgraders none);
-      one_entered = ap first_alone_entered empty;
-    }
+exclusive-free s none empty = grind arith
 
 -- an exclusive lock stays exclusive if one holder takes the place of its holders
 alone : (s : Plain) (hs : List Holder) → IsExclusive s → length hs ≡ 1 → IsExclusive (record s { holders = hs })
@@ -57,63 +48,48 @@ alone s hs x one = record { writer = λ some. one; one_upgradable = omega (arith
 
 -- a lock stays exclusive if a party comes that every holder admits
 come : (s : Plain) (k : Kind) (p : ℕ) → IsExclusive s → count_against k s.holders ≡ 0 → IsExclusive (record s { holders = s.holders ++ holder p k ∷ [] })
-come s k p x none =
-    let hs = s.holders in let others = by_kinds (against k) hs in
-    record {
-      writer = grind (arith, others, all_kinds hs, sum-more (one_of writing) hs p k, length-append hs (holder p k ∷ []));
-      one_upgradable = grind (arith, others, by_kinds upgrader hs, sum-more upgrader hs p k);
-      one_entered = x.one_entered;
-    }
+come s k p x none = let hs = s.holders in let others = by_kinds (against k) hs in record {
+  writer = grind (arith, others, all_kinds hs, sum-more (one_of writing) hs p k, length-append hs (holder p k ∷ []));
+  one_upgradable = grind (arith, others, by_kinds upgrader hs, sum-more upgrader hs p k);
+  one_entered = x.one_entered;
+}
 
 released : (s : Plain) (p : ℕ) (k : Kind) → IsExclusive s → is_holder p k s.holders ≡ true → IsExclusive (apply s (releases p k))
-released s p k x found =
-    let hs = s.holders in
-    record {
-      writer = grind (arith, x.writer, sum-less (one_of writing) p k hs found, length-without_holder p k hs found, all_kinds (without_holder p k hs));
-      one_upgradable = grind (arith, sum-less upgrader p k hs found);
-      one_entered = x.one_entered;
-    }
+released s p k x found = let hs = s.holders in let fewer = length-without_holder p k hs found in record {
+  writer = grind (arith, x.writer, sum-less (one_of writing) p k hs found, fewer, all_kinds (without_holder p k hs));
+  one_upgradable = grind (arith, sum-less upgrader p k hs found);
+  one_entered = x.one_entered;
+}
 
 turned : (s : Plain) (p : ℕ) (j k : Kind) → IsExclusive s → is_holder p j s.holders ≡ true → may_turn j k ≡ true → IsExclusive (apply s (turns p j k))
-turned s p j k x found may =
-    let hs = s.holders in let writes = sum-less (one_of writing) p j hs found in
-    record {
-      writer = grind (arith, x.writer, sum-turned (one_of writing) p j k hs found, writes, length-with_kind p j k hs);
-      one_upgradable = grind (arith, x.writer, writes, by_kinds upgrader hs, all_kinds hs, sum-turned upgrader p j k hs found);
-      one_entered = x.one_entered;
-    }
-
-queued : (s : Plain) (ts : List Ticket) (n : ℕ) → IsExclusive s → first_alone_entered ts ≡ true → IsExclusive (record s { tickets = ts; next = n })
-queued s ts n x e = exclusive-like s (record s { tickets = ts; next = n }) (λ f. refl) e x
+turned s p j k x found may = let hs = s.holders in let writes = sum-less (one_of writing) p j hs found in record {
+  writer = grind (arith, x.writer, sum-turned (one_of writing) p j k hs found, writes, length-with_kind p j k hs);
+  one_upgradable = grind (arith, x.writer, writes, by_kinds upgrader hs, all_kinds hs, sum-turned upgrader p j k hs);
+  one_entered = x.one_entered;
+}
 
 none_entered-more : (ts : List Ticket) (p n : ℕ) → none_entered ts ≡ true → none_entered (ts ++ ticket p n false ∷ []) ≡ true
 none_entered-more [] p n e = refl
 none_entered-more (t ∷ ts) p n e = grind (arith, none_entered-more ts p n)
 
-taken : (ts : List Ticket) (p n : ℕ) (b : Bool) → first_alone_entered ts ≡ true → (b ≡ true → is_empty ts ≡ true)
-    → first_alone_entered (ts ++ ticket p n b ∷ []) ≡ true
-taken ts p n b e none = grind (arith, none_entered-more)
+-- after an open step too, only the first ticket may have entered
+tickets-kept : (s : Plain) (c : Change) → IsExclusive s → is_open s c ≡ true
+    → first_alone_entered (apply s c).tickets ≡ true
+tickets-kept s c x may = grind (arith, x.one_entered, none_entered-more)
 
-entered : (ts : List Ticket) → first_alone_entered ts ≡ true → first_alone_entered (with_first_entered ts) ≡ true
-entered ts e = grind arith
-
-served : (ts : List Ticket) → first_alone_entered ts ≡ true → first_alone_entered (without_first ts) ≡ true
-served ts e = grind arith
-
-exclusive-given : (s : Plain) (p : ℕ) (e : Effect) → IsExclusive s → Lets s p e → IsExclusive (given s p e)
-exclusive-given s p (comes k) x (inl empty) = alone s (s.holders ++ holder p k ∷ []) x (grind (arith, length-append))
-exclusive-given s p (comes k) x (inr may) = come s k p x (room_to_come k s may).0
-exclusive-given s p (becomes j k) x only = alone s (with_kind p j k s.holders) x (grind (arith, length-with_kind))
-exclusive-given s p (queues b) x let_in = queued s (s.tickets ++ ticket p s.next b ∷ []) (s.next + 1) x (taken s.tickets p s.next b x.one_entered let_in.1)
-exclusive-given s p enters x let_in = queued s (with_first_entered s.tickets) s.next x (entered s.tickets x.one_entered)
-exclusive-given s p e x let_in = exclusive-like s (given s p e) (λ f. refl) x.one_entered x
+exclusive-given : (s : Plain) (p : ℕ) (e : Effect) → IsExclusive s → Lets s p e
+    → first_alone_entered (given s p e).tickets ≡ true → IsExclusive (given s p e)
+exclusive-given s p (comes k) x (inl none) one = alone s (s.holders ++ holder p k ∷ []) x (grind (arith, length-append))
+exclusive-given s p (comes k) x (inr may) one = come s k p x (room_to_come k s may).0
+exclusive-given s p (becomes j k) x only one = alone s (with_kind p j k s.holders) x (grind (arith, length-with_kind))
+exclusive-given s p e x let_in one = exclusive-like s (given s p e) (λ f. refl) one x
 
 exclusive-applied : (s : Plain) (c : Change) → IsExclusive s → is_open s c ≡ true → IsExclusive (apply s c)
-exclusive-applied s (gets p ask) x may = exclusive-given s p (effect ask) x (lets s p ask may)
+exclusive-applied s (gets p ask) x may =
+    exclusive-given s p (effect ask) x (lets s p ask may) (tickets-kept s (gets p ask) x may)
 exclusive-applied s (releases p k) x may = released s p k x may
-exclusive-applied s (serves p) x may = queued s (without_first s.tickets) s.next x (served s.tickets x.one_entered)
 exclusive-applied s (turns p j k) x may = let parts = and_parts (is_holder p j s.holders) (may_turn j k) may in turned s p j k x parts.0 parts.1
-exclusive-applied s c x may = exclusive-like s (apply s c) (λ f. refl) x.one_entered x
+exclusive-applied s c x may = exclusive-like s (apply s c) (λ f. refl) (tickets-kept s c x may) x
 
 -- an open step, or none, keeps the lock exclusive
 pub exclusive-kept : (s : Plain) (p : ℕ) (step : Option Change) → IsExclusive s → IsOpenStep s p step → IsExclusive (apply_some s step)

@@ -37,12 +37,12 @@ by_kinds f (h ∷ hs) =
     rw (cons f h hs, cons (one_of reading) h hs, cons (one_of upgradable) h hs, cons (one_of asking) h hs, cons (one_of writing) h hs, by_kinds f hs)
     (one_more f h.kind (λ k. count_kind k hs))
 
+pub length_by : (hs : List Holder) → length hs ≡ sum_kinds (λ k. 1) hs
+length_by [] = refl
+length_by (h ∷ hs) = omega (arith, length_by hs, cons (λ k. 1) h hs)
+
 pub all_kinds : (hs : List Holder) → length hs ≡ over_kinds (λ k. count_kind k hs)
-all_kinds hs = omega (arith, by_kinds (λ k. 1) hs, ones hs)
-  where
-    ones : (hs : List Holder) → length hs ≡ sum_kinds (λ k. 1) hs
-    ones [] = refl
-    ones (h ∷ hs) = omega (arith, ones hs, cons (λ k. 1) h hs)
+all_kinds hs = omega (arith, by_kinds (λ k. 1) hs, length_by hs)
 
 -- The sum after a holder is added, is removed, or changes its kind.
 

@@ -1,8 +1,8 @@
 -- The queue of tickets, whose numbers are consecutive.
-use Rattle.std.proofs.Common.{◌≡◌, ℕ, suc, ◌+◌, ◌-◌, ◌<◌, ◌≤◌, ◌==◌, Bool, true, false, cond, List, [], ◌∷◌, ◌++◌, length, filter, refl, sym, ap, subst, arith, length-append, inl, inr}
+use Rattle.std.proofs.Common.{◌≡◌, ℕ, suc, ◌+◌, ◌-◌, ◌<◌, ◌≤◌, ◌==◌, Bool, true, false, cond, List, [], ◌∷◌, ◌++◌, length, filter, refl, arith, length-append}
 use Rattle.std.specs.Prelude.{◌⊎◌, sum_by}
 use Rattle.std.proofs.lemmas.List.Sums.{sum_by-cons}
-use Rattle.spin_step.specs.Plain.{Plain, Ticket, ticket, is_first, is_empty, serving_word, Effect, queues, enters, effect, given, Change, gets, serves, apply, is_open, with_first_entered, without_first}
+use Rattle.spin_step.specs.Plain.{Plain, Ticket, ticket, is_first, is_empty, serving_word, Effect, given, Change, serves, apply, is_open, with_first_entered, without_first}
 use Rattle.spin_step.specs.Parties.{none_entered, first_alone_entered}
 use Rattle.spin_step.specs.Tickets.{numbered_from, Numbered, gone}
 
@@ -47,64 +47,38 @@ numbered-more : (k : ℕ) (ts : List Ticket) (p n : ℕ) (b : Bool) → numbered
 numbered-more k [] p n b numbers e = (omega (arith, e), tt)
 numbered-more k (t ∷ ts) p n b numbers e = (numbers.0, numbered-more (suc k) ts p n b numbers.1 (omega (arith, e)))
 
-numbered-entered : (k : ℕ) (ts : List Ticket) → numbered_from k ts → numbered_from k (with_first_entered ts)
-numbered-entered k ts numbers = grind arith
-
-length-entered : (ts : List Ticket) → length (with_first_entered ts) ≡ length ts
-length-entered ts = grind arith
-
 -- taking a ticket does not change the served number
 pub serving-taken : (s : Plain) (p : ℕ) (b : Bool) → Numbered s → (s.next + 1) - length (s.tickets ++ ticket p s.next b ∷ []) ≡ serving_word s
 serving-taken s p b numbered = omega (arith, length-append s.tickets (ticket p s.next b ∷ []), numbered.0)
 
 -- a party that takes the next number stands at the end of the queue
 numbered-taken : (s : Plain) (p : ℕ) (b : Bool) → Numbered s → Numbered (record s { tickets = s.tickets ++ ticket p s.next b ∷ []; next = s.next + 1 })
-numbered-taken s p b numbered = (
-  omega (arith, length-append s.tickets (ticket p s.next b ∷ []), numbered.0),
-  rw (serving-taken s p b numbered) (numbered-more (serving_word s) s.tickets p s.next b numbered.1 (omega (arith, numbered.0))),
-)
+numbered-taken s p b numbered =
+    grind (arith, length-append, serving-taken s p b numbered, numbered-more (serving_word s) s.tickets p s.next b)
 
 pub serving-entered : (s : Plain) → s.next - length (with_first_entered s.tickets) ≡ serving_word s
-serving-entered s = ap (λ n. s.next - n) (length-entered s.tickets)
-
-numbered-gone : (n : ℕ) (ts : List Ticket) → (length ts ≤ n) × numbered_from (n - length ts) ts → (length (without_first ts) ≤ n) × numbered_from (n - length (without_first ts)) (without_first ts)
-numbered-gone n ts numbered = grind arith
+serving-entered s = grind arith
 
 -- when the first ticket leaves, the served number grows by one
 pub serving-gone : (n : ℕ) (ts : List Ticket) → length ts ≤ n → is_empty ts ≡ false → n - length (without_first ts) ≡ (n - length ts) + 1
 serving-gone n ts within some = grind arith
 
 pub numbered-given : (s : Plain) (p : ℕ) (e : Effect) → Numbered s → Numbered (given s p e)
-numbered-given s p (queues b) numbered = numbered-taken s p b numbered
-numbered-given s p enters numbered = (
-  omega (arith, length-entered s.tickets, numbered.0),
-  subst (λ k. numbered_from k (with_first_entered s.tickets)) (sym (serving-entered s)) (numbered-entered (serving_word s) s.tickets numbered.1),
-)
-numbered-given s p _ numbered = numbered
+numbered-given s p e numbered = grind (arith, numbered-taken s p)
 
 pub numbered-serves : (s : Plain) (p : ℕ) → Numbered s → Numbered (apply s (serves p))
-numbered-serves s p numbered = numbered-gone s.next s.tickets numbered
-
-pub first_stands : (p : ℕ) (b : Bool) (ts : List Ticket) → is_first p b ts ≡ true → is_empty ts ≡ false
-first_stands p b ts e = grind arith
-
-serving-given : (s : Plain) (p : ℕ) (e : Effect) → Numbered s → serving_word (given s p e) ≡ serving_word s
-serving-given s p e numbered = grind (arith, serving-taken, length-entered)
+numbered-serves s p numbered = grind arith
 
 -- the served number grows by one with each ticket that leaves; no other step changes it
 pub serving-moves : (s : Plain) (c : Change) → Numbered s → is_open s c ≡ true → serving_word (apply s c) ≡ serving_word s + gone c
-serving-moves s (gets p ask) numbered may = omega (arith, serving-given s p (effect ask) numbered)
-serving-moves s (serves p) numbered may = serving-gone s.next s.tickets numbered.0 (first_stands p true s.tickets may)
-serving-moves s _ numbered may = omega arith
+serving-moves s c numbered may = grind (arith, serving-taken s, serving-gone)
 
 -- the served number stays the same; or it grows by one, and somebody has a ticket before the step
 abbrev pub Advances : Plain → Change → Type 0
 Advances s c = (serving_word (apply s c) ≡ serving_word s) ⊎ ((is_empty s.tickets ≡ false) × (serving_word (apply s c) ≡ serving_word s + 1))
 
 pub serving-advances : (s : Plain) (c : Change) → Numbered s → is_open s c ≡ true → Advances s c
-serving-advances s (gets p ask) numbered may = inl (serving-given s p (effect ask) numbered)
-serving-advances s (serves p) numbered may = let some = first_stands p true s.tickets may in inr (some, serving-gone s.next s.tickets numbered.0 some)
-serving-advances s _ numbered may = inl refl
+serving-advances s c numbered may = grind (arith, serving-taken s, serving-gone)
 
 -- Whether anybody has a ticket.
 

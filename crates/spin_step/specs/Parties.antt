@@ -15,8 +15,7 @@ party_of (arrives p) = p
 
 -- the lock after a step, or after none
 abbrev pub apply_some : Plain → Option Change → Plain
-apply_some s None = s
-apply_some s (Some c) = apply s c
+apply_some s step = elim step [ None ↦ s | Some c ↦ apply s c ]
 
 -- there is no step, or it is an open step of the party p
 abbrev pub IsOpenStep : Plain → ℕ → Option Change → Type 0
@@ -30,24 +29,19 @@ pub record Entries : Type 0 where
   pub starvers : List ℕ
 
 abbrev pub entries : ℕ → Plain → Entries
-entries p s =
-    record {
-      holders = filter (λ h. h.party == p) s.holders;
-      tickets = filter (λ t. t.party == p) s.tickets;
-      starvers = filter (λ q. q == p) s.starvers;
-    }
+entries p s = record {
+  holders = filter (λ h. h.party == p) s.holders;
+  tickets = filter (λ t. t.party == p) s.tickets;
+  starvers = filter (λ q. q == p) s.starvers;
+}
 
 abbrev pub no_entries : Entries
 no_entries = record { holders = []; tickets = []; starvers = [] }
 
--- the lock with exactly these entries
-abbrev pub with_entries : Plain → Entries → Plain
-with_entries s e = record s { holders = e.holders; tickets = e.tickets; starvers = e.starvers }
-
--- a party's entries after a step of its own, made in the state s
+-- a party's entries after a step of its own, made in the state s, as if the lock had only these entries
 abbrev pub entries_after : Plain → Option Change → Entries → Entries
 entries_after s step e =
-    let t = apply_some (with_entries s e) step in
+    let t = apply_some (record s { holders = e.holders; tickets = e.tickets; starvers = e.starvers }) step in
     record { holders = t.holders; tickets = t.tickets; starvers = t.starvers }
 
 -- some party holds the lock, or waits in its queue
@@ -60,8 +54,7 @@ none_entered (t ∷ ts) = not t.entered && none_entered ts
 
 -- only the first ticket may have entered
 abbrev pub first_alone_entered : List Ticket → Bool
-first_alone_entered [] = true
-first_alone_entered (t ∷ ts) = none_entered ts
+first_alone_entered ts = elim ts [ [] ↦ true | t ∷ rest ↦ none_entered rest ]
 
 -- a writer is the only holder, at most one holder may upgrade, and at most one ticket has entered
 pub record IsExclusive (s : Plain) : Type 0 where

@@ -71,8 +71,7 @@ abbrev pub count_kind : Kind → List Holder → ℕ
 count_kind k hs = count_by (λ h. same_kind k h.kind) hs
 
 abbrev pub is_empty : {X : Type 0} → List X → Bool
-is_empty [] = true
-is_empty (x ∷ xs) = false
+is_empty xs = elim xs [ [] ↦ true | x ∷ rest ↦ false ]
 
 abbrev pub is_only : ℕ → Kind → List Holder → Bool
 is_only p k [] = false
@@ -87,40 +86,29 @@ abbrev pub is_starver : ℕ → List ℕ → Bool
 is_starver p [] = false
 is_starver p (q ∷ qs) = (q == p) || is_starver p qs
 
-abbrev pub is_only_starver : ℕ → List ℕ → Bool
-is_only_starver p [] = false
-is_only_starver p (q ∷ []) = q == p
-is_only_starver p (q ∷ r ∷ qs) = false
-
 -- the first ticket is the party's own, and has or has not entered
 abbrev pub is_first : ℕ → Bool → List Ticket → Bool
 is_first p entered [] = false
 is_first p entered (t ∷ ts) = (t.party == p) && (if entered then t.entered else not t.entered)
 
 abbrev pub is_nothing : Phase → Bool
-is_nothing nothing = true
-is_nothing _ = false
+is_nothing phase = elim phase [ nothing ↦ true | _ ↦ false ]
 
 abbrev pub is_running : ℕ → Phase → Bool
-is_running p (running q) = q == p
-is_running p _ = false
+is_running p phase = elim phase [ running q ↦ q == p | _ ↦ false ]
 
 abbrev pub is_complete : Phase → Bool
-is_complete complete = true
-is_complete _ = false
+is_complete phase = elim phase [ complete ↦ true | _ ↦ false ]
 
 abbrev pub is_reader : Kind → Bool
-is_reader writing = false
-is_reader _ = true
+is_reader kind = elim kind [ writing ↦ false | _ ↦ true ]
 
 abbrev pub reader_count : List Holder → ℕ
 reader_count hs = count_by (λ h. is_reader h.kind) hs
 
 -- a holder of this kind may upgrade: become the writer
 abbrev pub may_upgrade : Kind → Bool
-may_upgrade upgradable = true
-may_upgrade asking = true
-may_upgrade _ = false
+may_upgrade kind = elim kind [ upgradable ↦ true | asking ↦ true | _ ↦ false ]
 
 abbrev pub upgraders : List Holder → ℕ
 upgraders hs = count_by (λ h. may_upgrade h.kind) hs
@@ -152,7 +140,7 @@ is_open_to s p to_enter = is_first p false s.tickets
 is_open_to s p to_take_and_enter = is_empty s.tickets && nat_lt s.next ticket_limit
 is_open_to s p to_lock_unregistered = is_empty s.holders && is_empty s.starvers
 is_open_to s p to_lock_starving = is_starver p s.starvers && is_empty s.holders
-is_open_to s p to_lock_starving_alone = is_only_starver p s.starvers && is_empty s.holders
+is_open_to s p to_lock_starving_alone = is_starver p s.starvers && (length s.starvers == 1) && is_empty s.holders
 is_open_to s p to_starve = nat_lt (length s.starvers) s.cap
 is_open_to s p to_begin = is_nothing s.phase
 
@@ -207,12 +195,10 @@ without_starver p (q ∷ qs) = if q == p then qs else q ∷ without_starver p qs
 
 -- the tickets, where the first one has entered
 abbrev pub with_first_entered : List Ticket → List Ticket
-with_first_entered [] = []
-with_first_entered (t ∷ ts) = ticket t.party t.number true ∷ ts
+with_first_entered ts = elim ts [ [] ↦ [] | t ∷ rest ↦ ticket t.party t.number true ∷ rest ]
 
 abbrev pub without_first : List Ticket → List Ticket
-without_first [] = []
-without_first (t ∷ ts) = ts
+without_first ts = elim ts [ [] ↦ [] | t ∷ rest ↦ rest ]
 
 -- what changes for a party when it gets what it asks
 pub data Effect : Type 0 where

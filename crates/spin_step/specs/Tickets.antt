@@ -26,5 +26,4 @@ served number = number + 1
 
 -- how many tickets a plain step removes
 abbrev pub gone : Change → ℕ
-gone (serves p) = 1
-gone _ = 0
+gone c = elim c [ serves p ↦ 1 | _ ↦ 0 ]
