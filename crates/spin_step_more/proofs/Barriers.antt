@@ -29,11 +29,9 @@ pub record Arrival (s : Plain) (n : ℕ) (a : (ℕ × ℕ) × Bool) (generation 
   pub stays : a.1 ≡ false → generation_at s (s.arrivals + 1) ≡ generation
 
 pub barrier_arrive-words : (s : Plain) (n count generation : ℕ) → IsBarrier s n count generation → Arrival s n (arrived n count generation) generation
-barrier_arrive-words s n count generation is =
-    let g : ℕ = max s.group 1 in
+barrier_arrive-words s n count generation is = let g : ℕ = max s.group 1 in
     let below = mod-lt s.arrivals (some-group s) in
-    let one = within s.arrivals g in
-    let last = fills s.arrivals g in record {
+    let one = within s.arrivals g in let last = fills s.arrivals g in record {
       words = record {
         group = is.group;
         counts = grind (arith, is.group, is.counts, one, last);
@@ -53,8 +51,7 @@ barrier_may_leave-tells s k n count generation own is le at =
 
 -- if a party that does not lead finds another generation, its group is full
 pub barrier_may_leave-full : (s : Plain) (k n count generation own : ℕ) → IsBarrier s n count generation → k ≤ s.arrivals → generation_at s k ≡ own → is_leading s k ≡ false → not (generation == own) ≡ true → filled_by s k ≤ s.arrivals
-barrier_may_leave-full s k n count generation own is le at follows leave =
-    let g : ℕ = max s.group 1 in
+barrier_may_leave-full s k n count generation own is le at follows leave = let g : ℕ = max s.group 1 in
     let some : 0 < k % g = grind (arith, follows) in
     let before : k - 1 ≡ (k / g) * g + (k % g - 1) = omega (arith, div-add-mod' k g, some) in
     let same : (k - 1) / g ≡ k / g = (parts (k - 1) (k / g) g (k % g - 1) before (omega (arith, mod-lt k (some-group s), some))).0 in

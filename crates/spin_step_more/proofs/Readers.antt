@@ -38,9 +38,6 @@ empty-word hs word is = grind (arith, all_kinds hs, by_kinds weight hs)
 
 -- Whether a holder is alone.
 
-pub only_holds : (p : ℕ) (k : Kind) (hs : List Holder) → is_only p k hs ≡ true → (is_holder p k hs ≡ true) × (length hs ≡ 1)
-only_holds p k hs only = grind arith
-
 -- a holder of this kind is alone exactly if there is one holder
 pub only-length : (p : ℕ) (k : Kind) (hs : List Holder) → is_holder p k hs ≡ true → is_only p k hs ≡ (length hs == 1)
 only-length p k hs found = grind arith

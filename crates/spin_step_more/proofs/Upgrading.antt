@@ -9,7 +9,7 @@ use Rattle.spin_step_more.specs.Upgrading.{StaysAsking, apply_all, reader_releas
 use Rattle.spin_step.proofs.Exclusive.{Lets, lets, exclusive-kept}
 use Rattle.spin_step.proofs.Holders.{length-without_holder}
 use Rattle.spin_step.proofs.Sums.{against, one_of, by_kinds, all_kinds, sum-less, length-with_kind}
-use Rattle.spin_step_more.proofs.Readers.{beside_asking, only_holds, only-length}
+use Rattle.spin_step_more.proofs.Readers.{beside_asking, only-length}
 
 -- no other party may come to hold
 nobody_comes : (s : Plain) (p q : ℕ) (k : Kind) → IsExclusive s → is_holder p asking s.holders ≡ true → Lets s q (comes k) → ⊥
@@ -18,10 +18,9 @@ nobody_comes s p q k alone found let_in = grind (arith, beside_asking s p alone 
 -- if the asking reader still asks afterwards, a party that gets something does not change the number of readers
 readers_stay : (s : Plain) (p q : ℕ) (e : Effect) → IsExclusive s → is_holder p asking s.holders ≡ true → Lets s q e → is_holder p asking (given s q e).holders ≡ true → count_kind reading (given s q e).holders ≡ count_kind reading s.holders
 readers_stay s p q (comes k) alone found let_in stays = absurd (nobody_comes s p q k alone found let_in)
-readers_stay s p q (becomes j k) alone found let_in stays =
-    let after = with_kind q j k s.holders in
+readers_stay s p q (becomes j k) alone found let_in stays = let after = with_kind q j k s.holders in
     let fewer = sum-less (one_of asking) p asking after stays in
-    grind (arith, only_holds q j s.holders let_in, all_kinds s.holders, beside_asking s p alone found, length-with_kind q j k s.holders, all_kinds after)
+    grind (arith, all_kinds s.holders, beside_asking s p alone found, length-with_kind q j k s.holders, all_kinds after)
 readers_stay s p q _ alone found let_in stays = omega arith
 
 -- as long as the asking reader asks, each step is a release by a reader or does not change the number of readers
@@ -29,18 +28,14 @@ pub readers_only_go : (s : Plain) (p : ℕ) (c : Change) → IsExclusive s → i
     → count_kind reading (apply s c).holders + bit (reader_goes c) ≡ count_kind reading s.holders
 readers_only_go s p (gets q ask) alone found may stays = omega (arith, readers_stay s p q (effect ask) alone found (lets s q ask may) stays)
 readers_only_go s p (releases q k) alone found may stays = grind (arith, sum-less (one_of reading) q k s.holders may)
-readers_only_go s p (turns q writing k) alone found may stays =
-    grind (arith, beside_asking s p alone found, sum-less (one_of writing) q writing s.holders)
-readers_only_go s p (turns q upgradable k) alone found may stays =
-    grind (arith, beside_asking s p alone found, sum-less (one_of upgradable) q upgradable s.holders)
-readers_only_go s p (turns q j k) alone found may stays = grind arith
+readers_only_go s p (turns q j k) alone found may stays = let fewer = λ (i : Kind). sum-less (one_of i) q i s.holders in
+    grind (arith, beside_asking s p alone found, fewer writing, fewer upgradable)
 readers_only_go s p _ alone found may stays = omega arith
 
 -- the asking reader is alone exactly when no other reader is left
 pub alone_when_gone : (s : Plain) (p : ℕ) → IsExclusive s → is_holder p asking s.holders ≡ true → (is_only p asking s.holders ≡ true) ↔ (count_kind reading s.holders ≡ 0)
 alone_when_gone s p alone found =
-    let lone = only-length p asking s.holders found in let beside = beside_asking s p alone found in
-    (λ only. grind (arith, all_kinds s.holders), λ none. grind (arith, all_kinds s.holders))
+    grind (arith, only-length p asking s.holders found, beside_asking s p alone found, all_kinds s.holders)
 
 -- Lists of steps.
 

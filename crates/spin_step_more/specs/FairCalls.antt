@@ -43,17 +43,14 @@ looks_on patience n = either (nat_lt n patience) (Continue (Look (n + 1))) (Cont
 
 -- if the number of starvers is at the cap, `lock` looks again and `starve` fails
 abbrev pub finds_no_room : {V : Type 0} → ℕ → FairCall → Option Hold → Next FairPoint (Answer V)
-finds_no_room patience Lock h = Continue (Look patience)
-finds_no_room patience _ h = Answers Refused h
+finds_no_room patience c h = elim c [ Lock ↦ Continue (Look patience) | _ ↦ Answers Refused h ]
 
 abbrev pub registered : {V : Type 0} → FairCall → Next FairPoint (Answer V)
-registered Lock = Continue SetFlag
-registered _ = Answers Granted (Some Starver)
+registered c = elim c [ Lock ↦ Continue SetFlag | _ ↦ Answers Granted (Some Starver) ]
 
 -- if the flag is set, a starver waits or its try fails
 abbrev pub finds_flag_set : {V : Type 0} → FairCall → Option Hold → Next FairPoint (Answer V)
-finds_flag_set StarverTryLock h = Answers Refused h
-finds_flag_set _ h = Continue Await
+finds_flag_set c h = elim c [ StarverTryLock ↦ Answers Refused h | _ ↦ Continue Await ]
 
 -- the step of each call that takes one step, and the first step of `StarverTryLockFair`
 abbrev pub act_of_first : {V : Type 0} → FairCall → Option Hold → Act ℕ FairPoint (Answer V)

@@ -62,5 +62,4 @@ turned j k word = word + (weight k - weight j)
 
 -- the step is a release by a reader
 abbrev pub reader_goes : Change → Bool
-reader_goes (releases p k) = same_kind reading k
-reader_goes _ = false
+reader_goes c = elim c [ releases p k ↦ same_kind reading k | _ ↦ false ]

@@ -41,5 +41,4 @@ abbrev pub unlocked : ℕ → ℕ
 unlocked word = word - holder_weight
 
 abbrev pub reason_text : LockRejectReason → List ℕ
-reason_text Locked = codes "locked"
-reason_text Starved = codes "starved"
+reason_text reason = elim reason [ Locked ↦ codes "locked" | Starved ↦ codes "starved" ]
