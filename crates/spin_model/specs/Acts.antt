@@ -1,6 +1,6 @@
 -- An object as a table, which gives the shape of the next step for each point of a call. The shapes determine the machine, and what has to
 -- be shown of each step.
-use Rattle.std.specs.Prelude.{ℕ, zero, suc, ◌+◌, ◌%◌, Bool, true, false, Option, Some, None, List, [], ◌∷◌, is_some, ◌==◌, if◌then◌else◌, get_or, unwrap_or}
+use Rattle.std.specs.Prelude.{ℕ, zero, suc, ◌+◌, ◌%◌, Bool, true, false, Option, Some, None, List, [], ◌∷◌, is_some, ◌==◌, if◌then◌else◌, get_or, unwrap_or, option_map}
 use Rattle.spin_step.specs.Plain.{Change}
 use Rattle.spin_model.specs.declared.place.Hold.{Hold}
 use Rattle.spin_model.specs.declared.answer.Answer.{Answer}
@@ -20,21 +20,15 @@ pub record Memory (W : Type 0) : Type 0 where
   pub numbers : W → List ℕ
   pub put : ℕ → ℕ → W → W
 
-abbrev put_alone : ℕ → ℕ → ℕ → ℕ
-put_alone zero k w = k
-put_alone _ k w = w
-
 abbrev pub one_number : Memory ℕ
-one_number = record { numbers = λ w. w ∷ []; put = put_alone }
-
-abbrev put_in_two : {W : Type 0} → (ℕ → W → W) → (ℕ → W → W) → ℕ → ℕ → W → W
-put_in_two f g zero k w = f k w
-put_in_two f g (suc zero) k w = g k w
-put_in_two f g _ k w = w
+one_number = record { numbers = λ w. w ∷ []; put = λ i k w. elim i [ zero ↦ k | _ ↦ w ] }
 
 -- the memory of an object with two numbers: how each is read and replaced
 abbrev pub two_numbers : {W : Type 0} → (W → ℕ) → (W → ℕ) → (ℕ → W → W) → (ℕ → W → W) → Memory W
-two_numbers a b f g = record { numbers = λ w. a w ∷ b w ∷ []; put = put_in_two f g }
+two_numbers a b f g = record {
+  numbers = λ w. a w ∷ b w ∷ [];
+  put = λ i k w. elim i [ zero ↦ f k w | suc zero ↦ g k w | _ ↦ w ];
+}
 
 abbrev pub number_at : {W : Type 0} → Memory W → ℕ → W → ℕ
 number_at m i w = get_or (m.numbers w) i 0
@@ -80,8 +74,7 @@ abbrev pub guessed : ℕ → (ℕ → Option ℕ) → ℕ → Option ℕ
 guessed k f n = if n == k then f n else None
 
 abbrev pub either : {X : Type 0} → Bool → X → X → X
-either true a b = a
-either false a b = b
+either test a b = if test then a else b
 
 abbrev pub stays : {W V L A : Type 0} → W → Next L A → Stepped W V L A
 stays w next = record { words = w; placed = None; next = next }
@@ -92,8 +85,7 @@ becomes put w None won lost = stays w lost
 becomes put w (Some x) won lost = stays (put x) won
 
 abbrev pub passing : {X : Type 0} → Bool → X → Option X
-passing true x = Some x
-passing false x = None
+passing test x = if test then Some x else None
 
 abbrev pub retried : {W V L A : Type 0} → (ℕ → W) → Bool → W → Option ℕ → Next L A → Next L A → Next L A → Stepped W V L A
 retried put true w o won found missed = becomes put w o won missed
@@ -101,8 +93,7 @@ retried put false w o won found missed = stays w (either (is_some o) found misse
 
 -- the word that a step is on; a retry is always on the first word
 abbrev pub place_of : {W L A : Type 0} → ℕ → Act W L A → ℕ
-place_of i (retry k f step won found missed) = 0
-place_of i _ = i
+place_of i act = elim act [ retry k f step won found missed ↦ 0 | _ ↦ i ]
 
 -- the outcome of a step on the i-th word, in which it finds the number n
 abbrev pub step_at : {W V L A : Type 0} → Memory W → ℕ → ℕ → Act W L A → W → Stepped W V L A
@@ -121,18 +112,14 @@ abbrev pub step_by : {W V L A : Type 0} → Memory W → ℕ → Act W L A → W
 step_by m i act w = step_at m (place_of i act) (number_at m (place_of i act) w) act w
 
 -- the plain step is made if the operation gives something new
-abbrev pub made_if : {X : Type 0} → Option X → Change → Option Change
-made_if None c = None
-made_if (Some x) c = Some c
-
 abbrev pub change_at : {W L A : Type 0} → ℕ → Act W L A → ℕ → W → Option Change
-change_at n (enter test step won lost) p w = made_if (passing (test n) n) (step p)
-change_at n (exchange operation step won lost) p w = made_if (tried operation n) (step p)
-change_at n (weak_exchange k f step won lost) p w = made_if (tried (swap k f) n) (step p)
-change_at n (attempt k f step won lost) p w = made_if (guessed k f n) (step p)
-change_at n (retry k f step won found missed) p w = made_if (guessed k f n) (step p)
+change_at n (enter test step won lost) p w = option_map (λ k. step p) (passing (test n) n)
+change_at n (exchange operation step won lost) p w = option_map (λ k. step p) (tried operation n)
+change_at n (weak_exchange k f step won lost) p w = option_map (λ k. step p) (tried (swap k f) n)
+change_at n (attempt k f step won lost) p w = option_map (λ k. step p) (guessed k f n)
+change_at n (retry k f step won found missed) p w = option_map (λ k. step p) (guessed k f n)
 change_at n (store can operation step next) p w = Some (step p)
-change_at n (section can f step won lost) p w = made_if (f w) (step p)
+change_at n (section can f step won lost) p w = option_map (λ u. step p) (f w)
 change_at n _ p w = None
 
 abbrev pub change_by : {W L A : Type 0} → Memory W → ℕ → Act W L A → ℕ → W → Option Change
@@ -144,8 +131,7 @@ can_by m i (section can f step won lost) w = can w
 can_by m i _ w = true
 
 abbrev pub refusal_by : {W L A : Type 0} → Act W L A → Option (Next L A)
-refusal_by (weak_exchange k f step won lost) = Some lost
-refusal_by _ = None
+refusal_by act = elim act [ weak_exchange k f step won lost ↦ Some lost | _ ↦ None ]
 
 -- the plain step that a step of this shape makes if it succeeds
 abbrev pub makes_by : {W L A : Type 0} → Act W L A → ℕ → Option Change
@@ -168,8 +154,7 @@ operation_by (store can operation step next) = operation
 operation_by _ = loads
 
 abbrev pub is_section : {W L A : Type 0} → Act W L A → Bool
-is_section (section can f step won lost) = true
-is_section _ = false
+is_section act = elim act [ section can f step won lost ↦ true | _ ↦ false ]
 
 -- the kind of a `load_if` or an `enter`: a look if the call may wait for another party
 abbrev pub look_kind : Asked → StepKind
@@ -205,27 +190,26 @@ begin_of t c h = passing ((t.asks c h).begins h) (t.start c h)
 -- its answers say. `brings` and `gives` tell the values of calls and of answers. The answers may be of another type
 -- than the table's.
 abbrev pub machine_by : {W V C L A B : Type 0} → Table W V C L A → (C → L → Option Hold → Option (Next L B)) → (W → Option V → C → L → Option Hold → Stepped W V L B) → (B → Said) → (C → Option V) → (B → Option V) → Machine W V C L B
-machine_by t refuse step says brings gives =
-    record {
-      words = t.words;
-      value = t.value;
-      owned = t.owned;
-      begin = begin_of t;
-      refuse = refuse;
-      can = λ w c l h. can_by t.memory (t.word l) (t.act c l h) w;
-      step = step;
-      lock_kind = t.lock_kind;
-      cap = t.cap;
-      group = t.group;
-      first = t.first;
-      numbers = t.memory.numbers;
-      asks = t.asks;
-      says = says;
-      change = λ p w c l h. change_by t.memory (t.word l) (t.act c l h) p w;
-      step_kind = λ c l h. step_kind_by (t.asks c h) (t.act c l h);
-      brings = brings;
-      gives = gives;
-    }
+machine_by t refuse step says brings gives = record {
+  words = t.words;
+  value = t.value;
+  owned = t.owned;
+  begin = begin_of t;
+  refuse = refuse;
+  can = λ w c l h. can_by t.memory (t.word l) (t.act c l h) w;
+  step = step;
+  lock_kind = t.lock_kind;
+  cap = t.cap;
+  group = t.group;
+  first = t.first;
+  numbers = t.memory.numbers;
+  asks = t.asks;
+  says = says;
+  change = λ p w c l h. change_by t.memory (t.word l) (t.act c l h) p w;
+  step_kind = λ c l h. step_kind_by (t.asks c h) (t.act c l h);
+  brings = brings;
+  gives = gives;
+}
 
 abbrev pub machine_of : {W V C L A : Type 0} → Table W V C L A → Machine W V C L A
 machine_of t = machine_by t (λ c l h. refusal_by (t.act c l h)) (λ w v c l h. step_by t.memory (t.word l) (t.act c l h) w) t.says (λ c. None) (λ a. None)
@@ -235,12 +219,7 @@ machine_of t = machine_by t (λ c l h. refusal_by (t.act c l h)) (λ w v c l h. 
 
 -- only a store completes a closure; it stores the value that the call's closure gave
 abbrev pub completes_by : {W L A : Type 0} → Act W L A → Bool
-completes_by (store can f step next) = is_completion (step 0)
-completes_by _ = false
-
-abbrev pub brought : {V : Type 0} → Bool → Option V → Option V
-brought true value = value
-brought false value = None
+completes_by act = elim act [ store can f step next ↦ is_completion (step 0) | _ ↦ false ]
 
 abbrev pub with_value : {V : Type 0} → Answer (Unit {0}) → Option V → Answer V
 with_value (Value u) (Some v) = Value v
@@ -263,11 +242,11 @@ filled value (Answers a after) = Answers (with_value a value) after
 
 abbrev pub step_with : {W V L : Type 0} → Option V → Option V → Bool → Stepped W V L (Answer (Unit {0})) → Stepped W V L (Answer V)
 step_with value brings completing st =
-    let put = brought completing brings in record { words = st.words; placed = put; next = filled (placed put value) st.next }
+    let put = if completing then brings else None in
+    record { words = st.words; placed = put; next = filled (placed put value) st.next }
 
 abbrev pub gives_of : {V : Type 0} → Answer V → Option V
-gives_of (Value v) = Some v
-gives_of _ = None
+gives_of answer = elim answer [ Value v ↦ Some v | _ ↦ None ]
 
 abbrev pub machine_with : {W V C L : Type 0} → Table W V C L (Answer (Unit {0})) → (C → Option V) → Machine W V C L (Answer V)
 machine_with t brings = machine_by t (λ c l h. None) (λ w v c l h. step_with v (brings c) (completes_by (t.act c l h)) (step_by t.memory (t.word l) (t.act c l h) w)) says_of brings gives_of

@@ -1,6 +1,7 @@
 -- What each call of the objects here promises.
-use Rattle.std.specs.Prelude.{ℕ, ◌==◌, ◌&&◌, ◌||◌, Bool, true, false, not, nat_le, Option, Some, None, List, [], ◌∷◌, if◌then◌else◌}
+use Rattle.std.specs.Prelude.{ℕ, ◌==◌, ◌&&◌, ◌||◌, Bool, true, false, not, nat_le, Option, Some, None, is_none, List, [], ◌∷◌, if◌then◌else◌}
 use Rattle.std.specs.List.{list_any}
+use Rattle.std.specs.Option.{option_map_or}
 use Rattle.spin_step.specs.Plain.{Plain, Kind, reading, upgradable, asking, writing, Ask, to_write, to_upgrade, to_upgrade_asked, to_take_ticket, to_enter, to_take_and_enter, to_lock_unregistered, to_lock_starving, to_lock_starving_alone, to_begin, Change, gets, releases, serves, stops_starving, turns, completes, fails, arrives, is_open_to, is_empty, is_first, is_holder, is_nothing, is_complete}
 use Rattle.spin_step.specs.Parties.{is_held}
 use Rattle.spin_step.specs.Barriers.{may_leave, is_leading, filled_by}
@@ -10,52 +11,38 @@ use Rattle.spin_model.specs.Calls.{Said, granted, refused, locked, starved, done
 
 -- What a party holds.
 
--- What a party must hold to ask this. Only an upgradable reader upgrades, and only a starver locks or tries as a
--- starver. To ask anything else a party must hold nothing.
-abbrev pub held_for : Ask → Option Hold
-held_for to_upgrade = Some Upgradable
-held_for to_upgrade_asked = Some Upgradable
-held_for to_lock_starving = Some Starver
-held_for to_lock_starving_alone = Some Starver
-held_for _ = None
-
-abbrev pub is_same_hold : Option Hold → Option Hold → Bool
-is_same_hold None None = true
-is_same_hold (Some Read) (Some Read) = true
-is_same_hold (Some Upgradable) (Some Upgradable) = true
-is_same_hold (Some Write) (Some Write) = true
-is_same_hold (Some (Ticket t)) (Some (Ticket u)) = t == u
-is_same_hold (Some Starver) (Some Starver) = true
-is_same_hold _ _ = false
-
 abbrev pub is_one_of : (Hold → Bool) → Option Hold → Bool
-is_one_of may None = false
-is_one_of may (Some hold) = may hold
+is_one_of may held = option_map_or may held false
 
 abbrev pub is_read : Hold → Bool
-is_read Read = true
-is_read _ = false
+is_read hold = elim hold [ Read ↦ true | _ ↦ false ]
+
+abbrev pub is_upgradable : Hold → Bool
+is_upgradable hold = elim hold [ Upgradable ↦ true | _ ↦ false ]
 
 abbrev pub is_write : Hold → Bool
-is_write Write = true
-is_write _ = false
+is_write hold = elim hold [ Write ↦ true | _ ↦ false ]
 
 abbrev pub is_ticket : Hold → Bool
-is_ticket (Ticket t) = true
-is_ticket _ = false
+is_ticket hold = elim hold [ Ticket t ↦ true | _ ↦ false ]
 
 abbrev pub is_registered : Hold → Bool
-is_registered Starver = true
-is_registered _ = false
+is_registered hold = elim hold [ Starver ↦ true | _ ↦ false ]
 
 abbrev pub is_above_read : Hold → Bool
-is_above_read Upgradable = true
-is_above_read Write = true
-is_above_read _ = false
+is_above_read hold = is_upgradable hold || is_write hold
 
 abbrev pub is_held_some : Hold → Bool
-is_held_some Read = true
-is_held_some hold = is_above_read hold
+is_held_some hold = is_read hold || is_above_read hold
+
+-- A party that holds this may ask this. Only an upgradable reader upgrades, and only a starver locks or tries as a
+-- starver. To ask anything else a party must hold nothing.
+abbrev pub suits : Ask → Option Hold → Bool
+suits to_upgrade = is_one_of is_upgradable
+suits to_upgrade_asked = is_one_of is_upgradable
+suits to_lock_starving = is_one_of is_registered
+suits to_lock_starving_alone = is_one_of is_registered
+suits _ = is_none
 
 -- Plain steps.
 
@@ -74,26 +61,18 @@ turn_to p (Some Upgradable) kind = turns p upgradable kind ∷ []
 turn_to p _ kind = []
 
 abbrev pub is_completion : Change → Bool
-is_completion (completes p) = true
-is_completion _ = false
+is_completion change = elim change [ completes p ↦ true | _ ↦ false ]
 
 abbrev pub is_failure : Change → Bool
-is_failure (fails p) = true
-is_failure _ = false
+is_failure change = elim change [ fails p ↦ true | _ ↦ false ]
 
 abbrev pub is_arrival : Change → Bool
-is_arrival (arrives p) = true
-is_arrival _ = false
+is_arrival change = elim change [ arrives p ↦ true | _ ↦ false ]
 
 -- What holds at a moment of a call.
 
 abbrev pub same : Bool → Bool → Bool
-same true b = b
-same false b = not b
-
--- at this mark there is a value, or the party's own step completes its closure
-abbrev pub finds_value : ℕ → Mark → Bool
-finds_value p m = is_complete m.before.phase || makes p is_completion m
+same a b = elim a [ true ↦ b | false ↦ not b ]
 
 -- at this mark the party arrives; `leading` says whether it fills its group
 abbrev pub arrives_leading : ℕ → Bool → Mark → Bool
@@ -109,54 +88,52 @@ finds_full arrival m = nat_le (filled_by m.before arrival.after.arrivals) m.befo
 abbrev pub made : (ℕ → List Change) → Meaning
 made steps = means (λ p. steps p ∷ []) (λ p span. true)
 
--- the party gets the value, and has made one of these lists of plain steps
+-- The party gets the value, and has made one of these lists of plain steps. At some mark there is a value, or the
+-- party's own step completes its closure.
 abbrev pub gave : (ℕ → List (List Change)) → Meaning
-gave steps = means steps (λ p span. list_any (finds_value p) span)
+gave steps = means steps (λ p span. list_any (λ m. is_complete m.before.phase || makes p is_completion m) span)
 
 -- A call of one step that makes no plain step and has no answers. Other calls are built from it.
 abbrev pub a_call : Asked
-a_call =
-    record {
-      begins = is_same_hold None;
-      waits = false;
-      tries = None;
-      answers = λ said. never;
-      most = done;
-      limit = λ words. within 1;
-      is_open_next = λ first k p s. false;
-      undisturbed_steps = 4;
-      goes_for = λ made. None;
-      may_register = λ made. false;
-      is_weak = false;
-      before_weakly = λ p. [];
-      gets_weakly = λ c. false;
-      needs_no_cause = λ said. false;
-    }
+a_call = record {
+  begins = is_none;
+  waits = false;
+  tries = None;
+  answers = λ said. never;
+  most = done;
+  limit = λ words. within 1;
+  is_open_next = λ first k p s. false;
+  undisturbed_steps = 4;
+  goes_for = λ made. None;
+  may_register = λ made. false;
+  is_weak = false;
+  before_weakly = λ p. [];
+  gets_weakly = λ c. false;
+  needs_no_cause = λ said. false;
+}
 
 -- Calls that wait.
 
 -- The call looks first. It takes steps until it is granted, without a limit. Once its request is open, the call takes
 -- at most two steps if undisturbed. After its plain step the request counts as open.
 abbrev pub waits : Ask → Asked
-waits ask =
-    record a_call {
-      begins = is_same_hold (held_for ask);
-      waits = true;
-      most = granted;
-      answers = λ said. elim said [ granted ↦ got ask | _ ↦ never ];
-      limit = λ words. unlimited;
-      is_open_next = λ first k p s. not first || is_open_to s p ask;
-      undisturbed_steps = 2;
-    }
+waits ask = record a_call {
+  begins = suits ask;
+  waits = true;
+  most = granted;
+  answers = λ said. elim said [ granted ↦ got ask | _ ↦ never ];
+  limit = λ words. unlimited;
+  is_open_next = λ first k p s. not first || is_open_to s p ask;
+  undisturbed_steps = 2;
+}
+
+-- what a call tries to get without a look first: this, if the list of plain steps is empty
+abbrev pub goes_first_for : Ask → List Change → Option Ask
+goes_first_for ask made = elim made [ [] ↦ Some ask | _ ↦ None ]
 
 -- like `waits to_write`, but the call begins with a weak exchange, not with a look
 abbrev pub waits_to_write : Asked
-waits_to_write =
-    record (waits to_write) {
-      goes_for = λ made. elim made [ [] ↦ Some to_write | _ ↦ None ];
-      is_weak = true;
-      gets_weakly = λ c. true;
-    }
+waits_to_write = record (waits to_write) { goes_for = goes_first_for to_write; is_weak = true; gets_weakly = λ c. true }
 
 -- like `waits_to_write`, but the call repeats its exchange without a look in between
 abbrev pub spins_to_write : Asked
@@ -164,67 +141,60 @@ spins_to_write = record waits_to_write { undisturbed_steps = 1 }
 
 -- a starver waits for the lock; the call begins with an exchange that sets the flag, not with a look
 abbrev pub waits_starving : Asked
-waits_starving =
-    record (waits to_lock_starving) {
-      goes_for = λ made. elim made [ [] ↦ Some to_lock_starving | _ ↦ None ];
-      undisturbed_steps = 4;
-    }
+waits_starving = record (waits to_lock_starving) { goes_for = goes_first_for to_lock_starving; undisturbed_steps = 4 }
+
+-- A call that has made no plain step asks the first. After a plain step it asks the second, until it has got it.
+abbrev pub opens_in_turn : Ask → Ask → (ℕ → Plain → Bool) → Bool → ℕ → ℕ → Plain → Bool
+opens_in_turn a b has first k p s = if first then is_open_to s p a else is_open_to s p b || has p s
 
 -- The call waits in a queue. After two steps, and one more for each change by others, it has a ticket, or has found
 -- that none is left. While it has no ticket, its request is open if it could take a ticket and enter at once. Once it
 -- has a ticket, its request is open if it may enter with this ticket.
 abbrev pub waits_to_enter : Asked
-waits_to_enter =
-    record (waits to_enter) {
-      limit = λ words. gets_within to_take_ticket 2;
-      is_open_next = λ first k p s. if first then is_open_to s p to_take_and_enter else is_open_to s p to_enter || is_first p true s.tickets;
-      undisturbed_steps = 4;
-    }
+waits_to_enter = record (waits to_enter) {
+  limit = λ words. gets_within to_take_ticket 2;
+  is_open_next = opens_in_turn to_take_and_enter to_enter (λ p s. is_first p true s.tickets);
+  undisturbed_steps = 4;
+}
 
 -- The call asks to upgrade by its first step, and then upgrades by a weak exchange. Its asking is the only plain step before that exchange.
 abbrev pub waits_to_upgrade : Asked
-waits_to_upgrade =
-    record (waits to_upgrade_asked) {
-      limit = λ words. changes_within 1;
-      is_open_next = λ first k p s. if first then is_open_to s p to_upgrade else is_open_to s p to_upgrade_asked || is_holder p writing s.holders;
-      goes_for = λ made. elim made [ [] ↦ None | c ∷ cs ↦ if is_empty cs then Some to_upgrade_asked else None ];
-      is_weak = true;
-      before_weakly = λ p. turns p upgradable asking ∷ [];
-      gets_weakly = is_for to_upgrade_asked;
-    }
+waits_to_upgrade = record (waits to_upgrade_asked) {
+  limit = λ words. changes_within 1;
+  is_open_next = opens_in_turn to_upgrade to_upgrade_asked (λ p s. is_holder p writing s.holders);
+  goes_for = λ made. elim made [ [] ↦ None | c ∷ cs ↦ goes_first_for to_upgrade_asked cs ];
+  is_weak = true;
+  before_weakly = λ p. turns p upgradable asking ∷ [];
+  gets_weakly = is_for to_upgrade_asked;
+}
 
 -- The call takes steps until it is granted. It asks for the lock as a newcomer; once it is registered, it asks as a
 -- starver. Suppose that more than n looks found the lock held. Then the call registers, or finds the cap reached,
 -- within two steps and one more for each change by others.
 abbrev pub waits_or_starves : ℕ → Asked
-waits_or_starves n =
-    record a_call {
-      waits = true;
-      most = granted;
-      answers = λ said. elim said [
-        | granted ↦ got_or_starved to_lock_unregistered to_lock_starving
-        | _ ↦ never
-      ];
-      limit = λ words. registers_after n 2;
-      is_open_next = λ first k p s. if first then is_open_to s p to_lock_unregistered else is_open_to s p to_lock_starving || is_holder p writing s.holders;
-      goes_for = λ made. elim made [ [] ↦ Some to_lock_unregistered | c ∷ cs ↦ if is_empty cs then Some to_lock_starving else None ];
-      may_register = is_empty;
-      is_weak = true;
-      gets_weakly = is_for to_lock_unregistered;
-    }
+waits_or_starves n = record a_call {
+  waits = true;
+  most = granted;
+  answers = λ said. elim said [ granted ↦ got_or_starved to_lock_unregistered to_lock_starving | _ ↦ never ];
+  limit = λ words. registers_after n 2;
+  is_open_next = opens_in_turn to_lock_unregistered to_lock_starving (λ p s. is_holder p writing s.holders);
+  goes_for = λ made. elim made [ [] ↦ Some to_lock_unregistered | c ∷ cs ↦ goes_first_for to_lock_starving cs ];
+  may_register = is_empty;
+  is_weak = true;
+  gets_weakly = is_for to_lock_unregistered;
+}
 
 -- Tries.
 
 -- a try that takes at most k steps
 abbrev pub tries_in : ℕ → Ask → Asked
-tries_in k ask =
-    record a_call {
-      begins = is_same_hold (held_for ask);
-      tries = Some ask;
-      most = granted;
-      answers = λ said. elim said [ granted ↦ got ask | refused ↦ found (λ p s. not (is_open_to s p ask)) | _ ↦ never ];
-      limit = λ words. within k;
-    }
+tries_in k ask = record a_call {
+  begins = suits ask;
+  tries = Some ask;
+  most = granted;
+  answers = λ said. elim said [ granted ↦ got ask | refused ↦ found (λ p s. not (is_open_to s p ask)) | _ ↦ never ];
+  limit = λ words. within k;
+}
 
 abbrev pub tries : Ask → Asked
 tries ask = tries_in 1 ask
@@ -235,38 +205,35 @@ looks_and_tries ask = record (tries ask) { limit = λ words. within_changes 2 }
 
 -- a try by a weak exchange, which may fail spuriously
 abbrev pub tries_weakly : Ask → Asked
-tries_weakly ask =
-    record (tries ask) {
-      tries = None;
-      is_weak = true;
-      gets_weakly = λ c. true;
-      needs_no_cause = λ said. elim said [ refused ↦ true | _ ↦ false ];
-    }
+tries_weakly ask = record (tries ask) {
+  tries = None;
+  is_weak = true;
+  gets_weakly = λ c. true;
+  needs_no_cause = λ said. elim said [ refused ↦ true | _ ↦ false ];
+}
 
 -- a try that says why it fails
 abbrev pub tries_to_know : Ask → Asked
-tries_to_know ask =
-    record a_call {
-      begins = is_same_hold (held_for ask);
-      most = granted;
-      answers = λ said. elim said [
-        | granted ↦ got ask
-        | locked ↦ found (λ p s. is_held s && is_empty s.starvers)
-        | starved ↦ found (λ p s. is_starved s)
-        | _ ↦ never
-      ];
-    }
+tries_to_know ask = record a_call {
+  begins = suits ask;
+  most = granted;
+  answers = λ said. elim said [
+    | granted ↦ got ask
+    | locked ↦ found (λ p s. is_held s && is_empty s.starvers)
+    | starved ↦ found (λ p s. is_starved s)
+    | _ ↦ never
+  ];
+}
 
 -- Looks.
 
 -- the call answers whether the lock is held; it takes one step for each word
 abbrev pub looks : Asked
-looks =
-    record a_call {
-      most = tells true;
-      answers = λ said. elim said [ tells held ↦ found (λ p s. same held (is_held s)) | _ ↦ never ];
-      limit = λ words. within words;
-    }
+looks = record a_call {
+  most = tells true;
+  answers = λ said. elim said [ tells held ↦ found (λ p s. same held (is_held s)) | _ ↦ never ];
+  limit = λ words. within words;
+}
 
 abbrev pub counts : (Plain → ℕ) → Asked
 counts number = record a_call { most = counted 0; answers = λ said. elim said [ counted n ↦ found (λ p s. number s == n) | _ ↦ never ] }
@@ -295,35 +262,30 @@ gives_back may held = does may (λ p. let_go_of p held)
 
 -- the call gives a value, which its own closure may have made
 abbrev pub initializes : Asked
-initializes =
-    record a_call {
-      waits = true;
-      most = gives_value;
-      answers = λ said. elim said [ gives_value ↦ gave (λ p. (gets p to_begin ∷ completes p ∷ []) ∷ [] ∷ []) | _ ↦ never ];
-      limit = λ words. unlimited;
-      is_open_next = λ first k p s. not first || (is_nothing s.phase || is_complete s.phase);
-    }
+initializes = record a_call {
+  waits = true;
+  most = gives_value;
+  answers = λ said. elim said [ gives_value ↦ gave (λ p. (gets p to_begin ∷ completes p ∷ []) ∷ [] ∷ []) | _ ↦ never ];
+  limit = λ words. unlimited;
+  is_open_next = λ first k p s. not first || (is_nothing s.phase || is_complete s.phase);
+}
 
 -- like `initializes`, for a call whose own closure fails
 abbrev pub fails_to_initialize : Asked
-fails_to_initialize =
-    record initializes {
-      answers = λ said. elim said [
-        | gives_value ↦ gave (λ p. [] ∷ [])
-        | failed ↦ means (λ p. (gets p to_begin ∷ fails p ∷ []) ∷ []) (λ p span. list_any (makes p is_failure) span)
-        | _ ↦ never
-      ];
-    }
+fails_to_initialize = record initializes {
+  answers = λ said. elim said [
+    | gives_value ↦ gave (λ p. [] ∷ [])
+    | failed ↦ means (λ p. (gets p to_begin ∷ fails p ∷ []) ∷ []) (λ p span. list_any (makes p is_failure) span)
+    | _ ↦ never
+  ];
+}
 
+-- like `initializes`, for a call without a closure
 abbrev pub waits_for_value : Asked
-waits_for_value =
-    record a_call {
-      waits = true;
-      most = gives_value;
-      answers = λ said. elim said [ gives_value ↦ gave (λ p. [] ∷ []) | _ ↦ never ];
-      limit = λ words. unlimited;
-      is_open_next = λ first k p s. is_complete s.phase;
-    }
+waits_for_value = record initializes {
+  answers = λ said. elim said [ gives_value ↦ gave (λ p. [] ∷ []) | _ ↦ never ];
+  is_open_next = λ first k p s. is_complete s.phase;
+}
 
 -- the answer is the value, or that there is none; the second is right at a moment when `none` holds of the plain lock
 abbrev pub value_or : (Plain → Bool) → Said → Meaning
@@ -346,15 +308,15 @@ looks_complete = record a_call { most = tells true; answers = λ said. elim said
 
 -- the call arrives by its first step, and waits until its group is full
 abbrev pub meets : Asked
-meets =
-    record a_call {
-      waits = true;
-      most = leads;
-      answers = λ said. elim said [
-        | leads ↦ means (λ p. (arrives p ∷ []) ∷ []) (λ p span. list_any (arrives_leading p true) span)
-        | follows ↦ means (λ p. (arrives p ∷ []) ∷ []) (λ p span. list_any (λ m. arrives_leading p false m && list_any (finds_full m) span) span)
-        | _ ↦ never
-      ];
-      limit = λ words. changes_within 1;
-      is_open_next = λ first k p s. not first && (may_leave s k || is_leading s k);
-    }
+meets = record a_call {
+  waits = true;
+  most = leads;
+  answers = λ said. elim said [
+    | leads ↦ means (λ p. (arrives p ∷ []) ∷ []) (λ p span. list_any (arrives_leading p true) span)
+    | follows ↦ means (λ p. (arrives p ∷ []) ∷ [])
+        (λ p span. list_any (λ m. arrives_leading p false m && list_any (finds_full m) span) span)
+    | _ ↦ never
+  ];
+  limit = λ words. changes_within 1;
+  is_open_next = λ first k p s. not first && (may_leave s k || is_leading s k);
+}

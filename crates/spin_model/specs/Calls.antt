@@ -2,6 +2,7 @@
 -- kind of lock, and may bring further calls.
 use Rattle.std.specs.Prelude.{◌≡◌, ℕ, suc, ◌⊎◌, ◌==◌, ◌&&◌, ◌||◌, Bool, true, false, not, Option, Some, None, List, [], ◌∷◌, length, map}
 use Rattle.std.specs.List.{list_any}
+use Rattle.std.specs.Option.{option_map_or}
 use Rattle.spin_step.specs.Plain.{Plain, upgradable, asking, Ask, to_read, to_read_upgradable, to_write, to_upgrade, to_upgrade_asked, to_take_ticket, to_enter, to_take_and_enter, to_lock_unregistered, to_lock_starving, to_lock_starving_alone, to_starve, to_begin, Change, gets, stops_starving, turns, completes, writing, is_open_to, is_empty, count_kind, reader_count}
 use Rattle.spin_step.specs.Parties.{party_of}
 use Rattle.spin_model.specs.declared.answer.Answer.{Answer}
@@ -113,16 +114,11 @@ same_ask to_begin to_begin = true
 same_ask _ _ = false
 
 abbrev pub is_for : Ask → Change → Bool
-is_for ask (gets p a) = same_ask a ask
-is_for ask _ = false
-
-abbrev pub is_own : ℕ → (Change → Bool) → Option Change → Bool
-is_own p test None = false
-is_own p test (Some c) = (party_of c == p) && test c
+is_for ask c = elim c [ gets p a ↦ same_ask a ask | _ ↦ false ]
 
 -- at this mark the party makes a plain step that passes the test
 abbrev pub makes : ℕ → (Change → Bool) → Mark → Bool
-makes p test m = (m.party == p) && is_own p test m.change
+makes p test m = (m.party == p) && option_map_or (λ c. (party_of c == p) && test c) m.change false
 
 -- at this mark what the party asks is open to it, and its own step gets it
 abbrev pub grants : ℕ → Ask → Mark → Bool
@@ -193,24 +189,22 @@ pub record LockKind : Type 0 where
 -- The usual kind, with these words, plain steps and calls. A call looks between its exchanges, no closure makes the value, and each step is
 -- one operation.
 abbrev pub usual : (Plain → ℕ) → List (Plain → ℕ) → (Change → Bool) → (ℕ → Option Hold → List Asked) → LockKind
-usual word further plain_steps calls =
-    record {
-      word = word;
-      further_words = further;
-      plain_steps = plain_steps;
-      calls = calls;
-      spins_on_exchange = false;
-      makes_value = false;
-      steps_in_sections = false;
-    }
+usual word further plain_steps calls = record {
+  word = word;
+  further_words = further;
+  plain_steps = plain_steps;
+  calls = calls;
+  spins_on_exchange = false;
+  makes_value = false;
+  steps_in_sections = false;
+}
 
 abbrev pub encoded : LockKind → Plain → List ℕ
 encoded kind s = kind.word s ∷ map (λ sum. sum s) kind.further_words
 
 -- the kind makes this plain step; a closure completes only if closures make the value
 abbrev pub is_step_of : LockKind → Change → Bool
-is_step_of kind (completes p) = kind.makes_value
-is_step_of kind c = kind.plain_steps c
+is_step_of kind c = elim c [ completes p ↦ kind.makes_value | other ↦ kind.plain_steps other ]
 
 -- there is no step, or this kind of lock makes it
 abbrev pub BelongsTo : LockKind → Option Change → Type 0

@@ -7,9 +7,7 @@ use Rattle.spin_model.specs.Asks.{gives_back, is_write, looks, tries, tries_weak
 
 -- the plain steps of a flag; each of its holders writes
 abbrev pub flag_plain_steps : Change → Bool
-flag_plain_steps (gets p to_write) = true
-flag_plain_steps (releases p writing) = true
-flag_plain_steps _ = false
+flag_plain_steps c = elim c [ gets p to_write ↦ true | releases p writing ↦ true | _ ↦ false ]
 
 abbrev pub flag_calls : ℕ → Option Hold → List Asked
 flag_calls n h = waits_to_write ∷ tries to_write ∷ tries_weakly to_write ∷ looks ∷ gives_back is_write h ∷ []

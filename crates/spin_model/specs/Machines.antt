@@ -1,6 +1,6 @@
 -- An object as the world sees it: where its calls begin, what their steps do, and what calls and steps are in the plain lock.
-use Rattle.std.specs.Prelude.{ℕ, Bool, true, List, Option, Some}
-use Rattle.spin_step.specs.Plain.{Plain, Phase, nothing, complete, Change, fresh}
+use Rattle.std.specs.Prelude.{ℕ, Bool, List, Option, is_some, ◌&&◌, if◌then◌else◌}
+use Rattle.spin_step.specs.Plain.{Plain, nothing, complete, Change, fresh}
 use Rattle.spin_model.specs.declared.place.Hold.{Hold}
 use Rattle.spin_model.specs.declared.step.Next.{Next}
 use Rattle.spin_model.specs.declared.step.Stepped.{Stepped}
@@ -30,11 +30,8 @@ pub record Machine (W V C L A : Type 0) : Type 0 where
   pub brings : C → Option V  -- the value that the call's own closure gives
   pub gives : A → Option V  -- the value that an answer gives
 
--- where closures make the value, a lock that opens with a value has the phase `complete`
-abbrev pub opening_phase : {V : Type 0} → Bool → Option V → Phase
-opening_phase true (Some v) = complete
-opening_phase _ _ = nothing
-
--- the plain lock before any step
+-- The plain lock before any step. Where closures make the value, a lock that opens with a value has the phase `complete`.
 abbrev pub opening_plain : {W V C L A : Type 0} → Machine W V C L A → Plain
-opening_plain m = record (fresh m.cap m.group m.first) { phase = opening_phase m.lock_kind.makes_value m.value }
+opening_plain m = record (fresh m.cap m.group m.first) {
+  phase = if m.lock_kind.makes_value && is_some m.value then complete else nothing;
+}

@@ -1,5 +1,5 @@
 -- The calls of a `Once`, step by step, and what each step is in the plain lock.
-use Rattle.std.specs.Prelude.{ℕ, Bool, Option, Some, None, ◌==◌}
+use Rattle.std.specs.Prelude.{ℕ, Bool, Option, Some, None, ◌==◌, is_some, if◌then◌else◌}
 use Rattle.spin_step.specs.Plain.{to_begin, gets, completes, fails}
 use Rattle.spin_step.specs.Flags.{begun, completed, failed}
 use Rattle.spin_model.specs.declared.place.Hold.{Hold}
@@ -66,15 +66,12 @@ asks_of Poll = polls
 asks_of Get = looks_for_value
 asks_of IsCompleted = looks_complete
 
-abbrev pub opening_word : {V : Type 0} → Option V → ℕ
-opening_word None = 0
-opening_word (Some v) = 2
-
 abbrev pub OnceMachine : Type 0 → Type 0
 OnceMachine V = Machine ℕ V (OnceCall V) OncePoint (Answer V)
 
 abbrev pub once_table : {V : Type 0} → Option V → Table ℕ V (OnceCall V) OncePoint (Answer (Unit {0}))
-once_table value = usual_table value once (opening_word value) one_number (λ c h. Look) act_of (λ c h. asks_of c)
+once_table value =
+    usual_table value once (if is_some value then 2 else 0) one_number (λ c h. Look) act_of (λ c h. asks_of c)
 
 abbrev pub once_machine : {V : Type 0} → Option V → OnceMachine V
 once_machine value = machine_with (once_table value) brings_of

@@ -6,9 +6,7 @@ use Rattle.spin_model.specs.Calls.{Asked, LockKind, usual}
 use Rattle.spin_model.specs.Asks.{fails_to_initialize, initializes, looks_complete, looks_for_value, polls, waits_for_value}
 
 abbrev pub once_plain_steps : Change → Bool
-once_plain_steps (gets p to_begin) = true
-once_plain_steps (fails p) = true
-once_plain_steps _ = false
+once_plain_steps c = elim c [ gets p to_begin ↦ true | fails p ↦ true | _ ↦ false ]
 
 abbrev pub once_calls : ℕ → Option Hold → List Asked
 once_calls n h = initializes ∷ fails_to_initialize ∷ waits_for_value ∷ polls ∷ looks_for_value ∷ looks_complete ∷ []

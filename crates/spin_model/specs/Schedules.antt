@@ -39,30 +39,23 @@ pub record Happened (W V C L A : Type 0) : Type 0 where
 
 -- a party with this hold may read the value
 abbrev pub may_read : Hold → Bool
-may_read hold.Starver = false
-may_read _ = true
+may_read h = elim h [ hold.Starver ↦ false | _ ↦ true ]
 
 -- a party with this hold may replace the value
 abbrev pub may_write : Hold → Bool
-may_write hold.Write = true
-may_write (hold.Ticket t) = true
-may_write _ = false
+may_write h = elim h [ hold.Write ↦ true | hold.Ticket t ↦ true | _ ↦ false ]
 
 -- a party with this seat leaves the value to the owner
 abbrev pub yields_to_owner : {C L : Type 0} → Seat C L → Bool
-yields_to_owner (Calling c l h) = false
-yields_to_owner (Holding h) = false
-yields_to_owner _ = true
+yields_to_owner seat = elim seat [ Calling c l h ↦ false | Holding h ↦ false | _ ↦ true ]
 
 -- the seat after the owner has used the value
 abbrev pub seen_by_owner : {C L : Type 0} → Seat C L → Seat C L
-seen_by_owner (Leaked h) = Gone h
-seen_by_owner seat = seat
+seen_by_owner seat = elim seat [ Leaked h ↦ Gone h | other ↦ other ]
 
 -- the seat of a party that is in no call
 abbrev pub resting : {C L : Type 0} → Option Hold → Seat C L
-resting None = Idle
-resting (Some h) = Holding h
+resting held = elim held [ None ↦ Idle | Some h ↦ Holding h ]
 
 abbrev pub skipped : {W V C L A : Type 0} → State W V C L → Happened W V C L A
 skipped s = record { outcome = outcome.Skipped; next = s }
@@ -85,8 +78,7 @@ goes_on s p c h (Answers a after) = record { outcome = outcome.Answered a None; 
 
 -- the value after a step: the one that the step stores, or the old one
 abbrev pub placed : {V : Type 0} → Option V → Option V → Option V
-placed None old = old
-placed (Some v) old = Some v
+placed put old = elim put [ None ↦ old | Some v ↦ Some v ]
 
 abbrev pub stepped : {W V C L A : Type 0} → State W V C L → ℕ → C → Option Hold → Stepped W V L A → Happened W V C L A
 stepped s p c h st = goes_on (record s { words = st.words; value = placed st.placed s.value }) p c h st.next
@@ -96,16 +88,13 @@ steps m s p (Calling c l h) = stepped s p c h (m.step s.words s.value c l h)
 steps m s p _ = skipped s
 
 abbrev pub refuses : {W V C L A : Type 0} → State W V C L → ℕ → C → Option Hold → Option (Next L A) → Happened W V C L A
-refuses s p c h None = skipped s
-refuses s p c h (Some next) = goes_on s p c h next
+refuses s p c h next = elim next [ None ↦ skipped s | Some to ↦ goes_on s p c h to ]
 
 abbrev pub weakly : {W V C L A : Type 0} → Machine W V C L A → State W V C L → ℕ → Seat C L → Happened W V C L A
-weakly m s p (Calling c l h) = refuses s p c h (m.refuse c l h)
-weakly m s p _ = skipped s
+weakly m s p seat = elim seat [ Calling c l h ↦ refuses s p c h (m.refuse c l h) | _ ↦ skipped s ]
 
 abbrev pub read_by : {W V C L A : Type 0} → State W V C L → Bool → Happened W V C L A
-read_by s true = record { outcome = outcome.Value s.value; next = s }
-read_by s false = skipped s
+read_by s may = if may then record { outcome = outcome.Value s.value; next = s } else skipped s
 
 abbrev pub reads : {W V C L A : Type 0} → State W V C L → Seat C L → Happened W V C L A
 reads s (Holding h) = read_by s (may_read h)
@@ -113,8 +102,7 @@ reads s (Leaked h) = read_by s (may_read h)
 reads s _ = skipped s
 
 abbrev pub written_by : {W V C L A : Type 0} → State W V C L → V → Bool → Happened W V C L A
-written_by s v true = record { outcome = outcome.Written; next = record s { value = Some v } }
-written_by s v false = skipped s
+written_by s v may = if may then record { outcome = outcome.Written; next = record s { value = Some v } } else skipped s
 
 abbrev pub writes : {W V C L A : Type 0} → State W V C L → V → Seat C L → Happened W V C L A
 writes s v (Holding h) = written_by s v (may_write h)
@@ -134,8 +122,7 @@ abbrev pub let_go : {W V C L : Type 0} → State W V C L → State W V C L
 let_go s = record s { seats = map seen_by_owner s.seats }
 
 abbrev pub owner_gets : {W V C L A : Type 0} → State W V C L → Bool → Happened W V C L A
-owner_gets s true = record { outcome = outcome.Value s.value; next = let_go s }
-owner_gets s false = skipped s
+owner_gets s may = if may then record { outcome = outcome.Value s.value; next = let_go s } else skipped s
 
 -- the owner replaces the value, if there is one
 abbrev pub owner_writes : {W V C L A : Type 0} → State W V C L → V → Option V → Happened W V C L A
@@ -143,8 +130,7 @@ owner_writes s v None = record { outcome = outcome.Value None; next = let_go s }
 owner_writes s v (Some old) = record { outcome = outcome.Written; next = let_go (record s { value = Some v }) }
 
 abbrev pub owner_sets : {W V C L A : Type 0} → State W V C L → V → Bool → Happened W V C L A
-owner_sets s v true = owner_writes s v s.value
-owner_sets s v false = skipped s
+owner_sets s v may = if may then owner_writes s v s.value else skipped s
 
 -- a move of a party with this seat
 abbrev pub moves : {W V C L A : Type 0} → Machine W V C L A → State W V C L → ℕ → Move C V → Seat C L → Happened W V C L A
@@ -159,8 +145,7 @@ moves m s p (OwnerSet v) seat = owner_sets s v (is_owners m s)
 
 -- a move of a party with this seat; if the party does not exist, the move is skipped
 abbrev pub moves_at : {W V C L A : Type 0} → Machine W V C L A → State W V C L → ℕ → Move C V → Option (Seat C L) → Happened W V C L A
-moves_at m s p move None = skipped s
-moves_at m s p move (Some seat) = moves m s p move seat
+moves_at m s p move at = elim at [ None ↦ skipped s | Some seat ↦ moves m s p move seat ]
 
 -- what one entry leads to
 abbrev pub happens : {W V C L A : Type 0} → Machine W V C L A → State W V C L → ℕ → Move C V → Happened W V C L A
@@ -178,13 +163,11 @@ after m s (e ∷ es) = after m (happens m s e.0 e.1).next es
 -- the events of the schedule; the answers do not yet have the places where their calls began
 abbrev pub events_of : {W V C L A : Type 0} → Machine W V C L A → State W V C L → List (ℕ × Move C V) → List (Event W V A)
 events_of m s [] = []
-events_of m s (e ∷ es) =
-    let h = happens m s e.0 e.1 in
+events_of m s (e ∷ es) = let h = happens m s e.0 e.1 in
     record { party = e.0; outcome = h.outcome; words = h.next.words } ∷ events_of m h.next es
 
 abbrev pub is_begun : {V A : Type 0} → Outcome A V → Bool
-is_begun outcome.Begun = true
-is_begun _ = false
+is_begun o = elim o [ outcome.Begun ↦ true | _ ↦ false ]
 
 -- the place of the party's last `Begun` among these events, of which the first has the place k
 abbrev pub last_begin : {W V A : Type 0} → ℕ → ℕ → Option ℕ → List (Event W V A) → Option ℕ
@@ -192,8 +175,7 @@ last_begin p k found [] = found
 last_begin p k found (e ∷ es) = last_begin p (k + 1) (if (e.party == p) && is_begun e.outcome then Some k else found) es
 
 abbrev pub with_begin : {V A : Type 0} → Option ℕ → Outcome A V → Outcome A V
-with_begin began (outcome.Answered a b) = outcome.Answered a began
-with_begin began o = o
+with_begin began o = elim o [ outcome.Answered a b ↦ outcome.Answered a began | other ↦ other ]
 
 -- the events; each answer gets the place where its call began
 abbrev pub with_begins : {W V A : Type 0} → List (Event W V A) → List (Event W V A) → List (Event W V A)
@@ -205,8 +187,7 @@ abbrev pub begin_of : List (Option ℕ) → ℕ → Option ℕ
 begin_of begins p = unwrap_or (slice_get begins p) None
 
 abbrev pub begins_after : {V A : Type 0} → List (Option ℕ) → ℕ → ℕ → Outcome A V → List (Option ℕ)
-begins_after begins p k outcome.Begun = slice_set begins p (Some k)
-begins_after begins p k _ = begins
+begins_after begins p k o = elim o [ outcome.Begun ↦ slice_set begins p (Some k) | _ ↦ begins ]
 
 -- a party's place as a program sees it
 abbrev pub place_of : {C L : Type 0} → Seat C L → Place

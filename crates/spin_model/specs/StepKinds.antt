@@ -8,18 +8,14 @@ pub data StepKind : Type 0 where
   weak : StepKind  -- a weak exchange that fails, whatever the word is; only the move `Weak` makes it
 
 abbrev pub is_again : StepKind → Bool
-is_again again = true
-is_again _ = false
+is_again step_kind = elim step_kind [ again ↦ true | _ ↦ false ]
 
 abbrev pub is_look : StepKind → Bool
-is_look look = true
-is_look _ = false
+is_look step_kind = elim step_kind [ look ↦ true | _ ↦ false ]
 
 abbrev pub is_weak : StepKind → Bool
-is_weak weak = true
-is_weak _ = false
+is_weak step_kind = elim step_kind [ weak ↦ true | _ ↦ false ]
 
 -- the kind of a step that the move `Step` makes; such a step never fails spuriously
 abbrev pub by_step : StepKind → StepKind
-by_step weak = plain
-by_step step_kind = step_kind
+by_step step_kind = elim step_kind [ weak ↦ plain | other ↦ other ]

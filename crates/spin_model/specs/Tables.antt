@@ -9,19 +9,18 @@ use Rattle.spin_model.specs.Acts.{Memory, Act, Table}
 -- on the first word.
 abbrev pub usual_table : {W V C L X : Type 0} → Option V → LockKind → W → Memory W → (C → Option Hold → L) → (C → L → Option Hold → Act W L (Answer X))
     → (C → Option Hold → Asked) → Table W V C L (Answer X)
-usual_table value kind words memory start act asks =
-    record {
-      words = words;
-      value = value;
-      owned = true;
-      lock_kind = kind;
-      cap = 0;
-      group = 0;
-      first = 0;
-      memory = memory;
-      start = start;
-      word = λ l. 0;
-      act = act;
-      asks = asks;
-      says = says_of;
-    }
+usual_table value kind words memory start act asks = record {
+  words = words;
+  value = value;
+  owned = true;
+  lock_kind = kind;
+  cap = 0;
+  group = 0;
+  first = 0;
+  memory = memory;
+  start = start;
+  word = λ l. 0;
+  act = act;
+  asks = asks;
+  says = says_of;
+}

@@ -73,8 +73,7 @@ asks_of IsLocked h = looks
 asks_of Release h = gives_back is_ticket h
 
 abbrev pub ticket_table : {V : Type 0} → V → ℕ → Table TicketWords V TicketCall TicketPoint (Answer V)
-ticket_table v first =
-    let opening : TicketWords = record { next = first; serving = first } in
+ticket_table v first = let opening : TicketWords = record { next = first; serving = first } in
     record (usual_table (Some v) ticket opening ticket_memory starts_at (λ c l h. act_of l h) asks_of) { first = first; word = word_of }
 
 abbrev pub ticket_machine : {V : Type 0} → V → ℕ → Machine TicketWords V TicketCall TicketPoint (Answer V)

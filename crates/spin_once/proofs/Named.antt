@@ -3,6 +3,7 @@
 use Rattle.std.proofs.Common.{◌≡◌, ℕ, zero, suc, Bool, true, false, Option, Some, None, List, [], ◌∷◌, map, replicate, slice_get, slice_set, refl, sym, ap, ◌∙◌}
 use Rattle.std.specs.Option.{option_map}
 use Rattle.std.specs.List.{list_all}
+use Rattle.std.specs.Prelude.{if◌then◌else◌}
 use Rattle.spin_model.specs.declared.answer.Answer.{Answer}
 use Rattle.spin_model.specs.declared.once.OnceCall.TheVariants.{TryCallOnceOk, TryCallOnceErr}
 use Rattle.spin_model.specs.declared.once.OncePoint.{OncePoint}
@@ -14,7 +15,7 @@ use Rattle.spin_model.specs.declared.schedule.Move.TheVariants.{Begin, Step, Wea
 use Rattle.spin_model.specs.declared.step.Next.{Next}
 use Rattle.spin_model.specs.declared.step.Next.TheVariants.{Continue, Answers}
 use Rattle.spin_model.specs.declared.step.Stepped.{Stepped}
-use Rattle.spin_model.specs.Acts.{one_number, step_by, completes_by, brought, filled}
+use Rattle.spin_model.specs.Acts.{one_number, step_by, completes_by, filled}
 use Rattle.spin_model.specs.Machines.{Machine}
 use Rattle.spin_model.specs.Once.{OnceMachine, once_machine, act_of, brings_of}
 use Rattle.spin_model.specs.Schedules.{State, Happened, moves, seated, begun, goes_on, stepped, resting, placed, read_by, written_by, yields_to_owner, seen_by_owner, owner_gets, owner_sets, owner_writes}
@@ -138,7 +139,7 @@ abbrev raw : ℕ → Call → OncePoint → Option Hold → Stepped ℕ (Unit {0
 raw w c l h = step_by one_number 0 (act_of c l h) w
 
 abbrev puts : Call → OncePoint → Option Hold → Option (Unit {0})
-puts c l h = brought (completes_by (act_of c l h)) (brings_of c)
+puts c l h = if completes_by (act_of c l h) then brings_of c else None
 
 module _ (given : Option (Unit {0})) where
   abbrev pub t : OnceMachine (Unit {0})

@@ -1,5 +1,6 @@
 -- Two machines that play a table. In one no closure makes the value; in the other the object's closures make it.
-use Rattle.spin_world_core.proofs.Names.{◌≡◌, ℕ, Bool, true, false, is_some, Option, Some, None, refl, sym, ◌∙◌, subst, arith, true≢false, Plain, Phase, Change, completes, is_complete, apply_some, IsOpenStep, entries, is_held, Answer, Hold, Next, Answers, encoded, says_of, placed, HasPhase, if_completed, is_writer, Memory, Act, store, step_by, change_at, change_by, makes_by, Table, machine_of, completes_by, brought, filled, machine_with}
+use Rattle.spin_world_core.proofs.Names.{◌≡◌, ℕ, Bool, true, false, is_some, Option, Some, None, refl, sym, ◌∙◌, subst, arith, true≢false, Plain, Phase, Change, completes, is_complete, apply_some, IsOpenStep, entries, is_held, Answer, Hold, Next, Answers, encoded, says_of, placed, HasPhase, if_completed, is_writer, Memory, Act, store, step_by, change_at, change_by, makes_by, Table, machine_of, completes_by, filled, machine_with}
+use Rattle.std.specs.Prelude.{if◌then◌else◌}
 use Rattle.spin_model.specs.Asks.{is_completion}
 use Rattle.spin_model.specs.declared.answer.Answer.TheVariants.{Value}
 use Rattle.spin_world_core.proofs.Operating.{change_is, fits_change, stepwise_of, stepwise_with}
@@ -77,7 +78,7 @@ record Puts {V : Type 0} (s : Plain) (v value put : Option V) (step : Option Cha
   brings : (q : ℕ) → step ≡ Some (completes q) → placed put v ≡ value
 
 puts_by : {W V L A : Type 0} (n : ℕ) (act : Act W L A) (s : Plain) (p : ℕ) (v value : Option V) (w : W) → CompletesRight act p value → IsOpenStep s p (change_at n act p w) → is_complete s.phase ≡ is_some v
-    → Puts s v value (brought (completes_by act) value) (change_at n act p w)
+    → Puts s v value (if completes_by act then value else None) (change_at n act p w)
 puts_by n act s p v value w right may e = grind (arith, change_is n act p w, phase-kept s p, uncompleted v)
 
 module _ {W V C L : Type 0} {t : Table W V C L (Answer (Unit {0}))} {n : Notes t} {brings : C → Option V} (pays : PaysWith n brings) where

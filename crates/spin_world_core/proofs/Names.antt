@@ -11,11 +11,11 @@ pub use Rattle.spin_step.proofs.Entries.{entries-other, entries-own}
 pub use Rattle.spin_step.specs.Parties.{Entries, IsExclusive, IsOpenStep, apply_some, entries, entries_after, is_held}
 pub use Rattle.spin_step.specs.Plain.{Ask, Change, Holder, Phase, Plain, apply, completes, gets, is_complete, is_empty, is_open, is_open_to, is_running, nothing, running, to_enter, to_lock_starving, to_read, turns, upgradable, writing}
 pub use Rattle.spin_step.specs.Steps.{bit}
-pub use Rattle.spin_model.specs.Acts.{Act, Memory, Table, attempt, becomes, begin_of, brought, can_by, change_at, change_by, completes_by, either, enter, exchange, filled, guessed, is_section, load, load_for, load_if, look_kind, machine_by, machine_of, machine_with, made_if, makes_by, step_kind_by, number_at, one_number, operation_by, passing, place_of, refusal_by, retried, retry, section, stays, step_by, store, swap, tried, weak_exchange}
+pub use Rattle.spin_model.specs.Acts.{Act, Memory, Table, attempt, becomes, begin_of, can_by, change_at, change_by, completes_by, either, enter, exchange, filled, guessed, is_section, load, load_for, load_if, look_kind, machine_by, machine_of, machine_with, makes_by, step_kind_by, number_at, one_number, operation_by, passing, place_of, refusal_by, retried, retry, section, stays, step_by, store, swap, tried, weak_exchange}
 pub use Rattle.spin_model.specs.Calls.{AnyOf, limit, Asked, BelongsTo, Limit, LockKind, Mark, Said, encoded, first_word, is_step_of, own_steps, registers_after, says_of}
 pub use Rattle.spin_world_core.specs.Joined.{joined}
 pub use Rattle.spin_world_core.specs.Lawful.{Lawful}
-pub use Rattle.spin_model.specs.Machines.{Machine, opening_phase, opening_plain}
+pub use Rattle.spin_model.specs.Machines.{Machine, opening_plain}
 pub use Rattle.spin_model.specs.StepKinds.{StepKind, again, by_step, is_again, is_look, is_weak, look, plain, weak}
 pub use Rattle.spin_model.specs.Operations.{IsOneOperation, Performs, RefusesAsLost, Stepwise, performed}
 pub use Rattle.spin_world_core.specs.Order.{Gets, GetsWhenDue, LooksElse, MayTryOn, TriesOn, Way, by_looks, is_due, is_due_by, past_looks, way_of, goes_of, tries_of}
