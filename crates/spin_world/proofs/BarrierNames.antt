@@ -14,4 +14,5 @@ pub use Rattle.spin_world_core.specs.Runs.{Seen, scene, step_at, opening, own, m
 pub use Rattle.spin_world_core.specs.Undisturbed.{arrived}
 pub use Rattle.spin_world_core.specs.Users.{seen_at, seen_after, passes, steps_made}
 pub use Rattle.spin_world.specs.BarrierTable.{BarrierMachine, leads, barrier_machine, barrier_table}
-pub use Rattle.spin_world.specs.Groups.{is_arrival, Entries, arrivals, InGroups, FollowersLeave}
+pub use Rattle.spin_model.specs.Asks.{is_arrival}
+pub use Rattle.spin_world.specs.Groups.{Entries, arrivals, InGroups, FollowersLeave}

@@ -10,7 +10,7 @@ use Rattle.spin_step.specs.Steps.{bit}
 use Rattle.spin_world_core.proofs.Steps.{Plays}
 use Rattle.spin_world_core.proofs.Stands.{absent}
 use Rattle.spin_world_core.proofs.Rows.{Point, nowhere, looked, onward}
-use Rattle.spin_world_core.proofs.Shapes.{Notes, OwesAll, SoonAll, Pays}
+use Rattle.spin_world_core.proofs.Shapes.{Notes, OwesAll, Pays}
 use Rattle.spin_world_core.proofs.Usual.{no_holders}
 use Rattle.spin_world_core.proofs.Filled.{plays_of}
 use Rattle.std.specs.List.{list_any}
@@ -28,11 +28,9 @@ point_of l (Some h) = nowhere
 abbrev Arrives : ℕ → ℕ → Mark → Type 0
 Arrives p k m = (m.party ≡ p) × (m.change ≡ Some (arrives p)) × (m.after.arrivals ≡ k)
 
--- at some step of the span, the group of the k-th arrival is full
-abbrev IsFull : ℕ → List Mark → Type 0
-IsFull k span = list_any (λ m. nat_le (filled_by m.before k) m.before.arrivals) span ≡ true
-
-follows_right : (p k : ℕ) (all span : List Mark) → AnyOf (λ m. Arrives p k m × (is_leading m.before k ≡ false)) span → IsFull k all
+-- if the party has arrived without leading, and its group is full at some step, the answer `Follower` is right
+follows_right : (p k : ℕ) (all span : List Mark) → AnyOf (λ m. Arrives p k m × (is_leading m.before k ≡ false)) span
+    → list_any (λ m. nat_le (filled_by m.before k) m.before.arrivals) all ≡ true
     → list_any (λ m. arrives_leading p false m && list_any (finds_full m) all) span ≡ true
 follows_right p k all [] made full = absurd made
 follows_right p k all (m ∷ ms) made full = grind (arith, eqb_self p, follows_right p k all ms)
@@ -79,23 +77,19 @@ module _ (n : ℕ) where
       grind (arith, full, at.knows.1, waits, follows_right p (arrived p span) (mark_of p None look s ∷ span) span at.knows.1.made)
   owes p c (Leave g) (Some h) s w span = tt
 
-  soon : SoonAll (barrier_notes n)
-  soon p c l h s w span = grind arith
+  barrier_pays : Pays (barrier_notes n)
+  barrier_pays = record {
+    computes = grind arith;
+    operates = grind arith;
+    shape_first = record { no_holders = refl; group = refl };
+    one_list = λ s of. no_holders s of.no_holders;
+    calls = λ c h. (0, grind arith);
+    begins = grind arith;
+    others = λ p q c l h s step r span ne of may belongs knows.
+        let on = λ (g : ℕ). waits-on g p q s step r span (grind arith) belongs in grind (arith, on);
+    owes = owes;
+    soon = grind arith;
+  }
 
-  pub barrier_pays : Pays (barrier_notes n)
-  barrier_pays =
-      record {
-        computes = grind arith;
-        operates = grind arith;
-        shape_first = record { no_holders = refl; group = refl };
-        one_list = λ s of. no_holders s of.no_holders;
-        calls = λ c h. (0, grind arith);
-        begins = grind arith;
-        others = λ p q c l h s step r span ne of may belongs knows.
-            let on = λ (g : ℕ). waits-on g p q s step r span (grind arith) belongs in grind (arith, on);
-        owes = owes;
-        soon = soon;
-      }
-
-pub barrier_facts : (n : ℕ) → Plays (barrier_machine n) (barrier_notes n)
-barrier_facts n = plays_of (barrier_pays n) refl
+  pub barrier_facts : Plays (barrier_machine n) (barrier_notes n)
+  barrier_facts = plays_of barrier_pays refl

@@ -4,7 +4,8 @@ use Rattle.spin_world.proofs.OnceNames.{◌≡◌, ℕ, true, Option, Some, ◌�
 use Rattle.spin_model.specs.declared.place.Seat.{Seat}
 use Rattle.spin_model.proofs.Lists.{get-set_same}
 use Rattle.spin_world.proofs.OnceOwed.{once_facts}
-use Rattle.spin_world.proofs.Keeping.{OnceState, good, not_at_run, run_here}
+use Rattle.spin_world_core.proofs.Reached.{good}
+use Rattle.spin_world.proofs.Keeping.{OnceState, not_at_run, run_here}
 
 module _ {V : Type 0} (value : Option V) where
   abbrev m : OnceMachine V
@@ -31,9 +32,7 @@ module _ {V : Type 0} (value : Option V) where
         (rw (after-append m (at_first m n) past ((p, Step) ∷ [])) (goes_next (once_after m n past) p c TryBegin h zero at closure (λ e. cc (e))).0) refl
 
     by_look : (l : OncePoint) → IsCalling m n past p c l h → next_point l ≡ TryBegin → (l ≡ Run → ⊥) → RunsClosure m n (past ++ (p, Step) ∷ (p, Step) ∷ []) p
-    by_look l at leads not =
-        let now = once_after m n past in
-        let one = goes_next now p c l h zero at closure not in
+    by_look l at leads not = let now = once_after m n past in let one = goes_next now p c l h zero at closure not in
         let there = one.0 ∙ ap (λ l. Some (Calling c l h)) leads in
         let two = goes_next (happens m now p Step).next p c TryBegin h (one.1 leads) there closure (λ e. cc (e)) in
         run_here value n (past ++ (p, Step) ∷ (p, Step) ∷ []) p c Run h
@@ -44,11 +43,10 @@ module _ {V : Type 0} (value : Option V) where
     runs_soon l at = grind (arith, by_exchange, by_look l at, not_at_run value n past p c l h at 0 refl)
 
   pub a_later_closure_may_run : (n : ℕ) (past : Entries V) → MayRunAgain m n past
-  a_later_closure_may_run n past =
-      record {
-        clears = λ p is. grind (arith, after-append m (at_first m n) past ((p, Step) ∷ []));
-        begins = λ p c l h zero at closure. runs_soon n past p c h zero closure l at;
-      }
+  a_later_closure_may_run n past = record {
+    clears = λ p is. grind (arith, after-append m (at_first m n) past ((p, Step) ∷ []));
+    begins = λ p c l h zero at closure. runs_soon n past p c h zero closure l at;
+  }
 
   -- a closure begins only by the exchange, which follows a look
   looks_at : (seen : Seen ℕ V (OnceCall V) OncePoint) (p : ℕ) (o : Option (Seat (OnceCall V) OncePoint)) → Invariant (once_facts value) seen → slice_get seen.state.seats p ≡ o → step_at m seen.state p Step o ≡ Some (gets p to_begin)
@@ -57,4 +55,4 @@ module _ {V : Type 0} (value : Option V) where
   looks_at seen p _ good there e = absurd (cc (e))
 
   pub looks_first : (n : ℕ) (past : Entries V) → LooksFirst m n past
-  looks_first n past = λ p e. looks_at (seen_at m n past) p (slice_get (seen_at m n past).state.seats p) (good value n past) refl e
+  looks_first n past = λ p e. looks_at (seen_at m n past) p _ (good (once_facts value) n past) refl e

@@ -1,5 +1,5 @@
 -- The shape of a fair lock, how steps keep this shape, and what a party finds in the word.
-use Rattle.spin_world.proofs.FairNames.{◌≡◌, ℕ, ◌%◌, ◌==◌, true, false, not, ◌&&◌, ◌||◌, ◌∷◌, ◌++◌, sym, arith, min, eq-eqb, Plain, holder, writing, is_empty, is_starver, is_holder, fair_word, releases, apply, entries, most_starvers, OneHolds, empty_is, is_empty-none, length-without_holder, is_starver-from_entries, flag_is, starves, holds_and_starves, entries_at, only_left, is_holder-own, []}
+use Rattle.spin_world.proofs.FairNames.{◌≡◌, ℕ, ◌%◌, ◌==◌, true, false, not, ◌&&◌, ◌||◌, ◌∷◌, ◌++◌, sym, arith, min, eq-eqb, Plain, holder, writing, is_empty, is_starver, is_holder, fair_word, entries, most_starvers, OneHolds, empty_is, is_empty-none, length-without_holder, is_starver-from_entries, flag_is, starves, holds_and_starves, entries_at, only_left, is_holder-own, []}
 
 -- the shape of the lock: at most one holder, no queue, and the cap
 pub record IsFair (cap : ℕ) (s : Plain) : Type 0 where
@@ -10,9 +10,6 @@ pub record IsFair (cap : ℕ) (s : Plain) : Type 0 where
 -- if nobody holds, a new holder keeps the shape
 pub comes : (cap p : ℕ) (s : Plain) → IsFair cap s → is_empty s.holders ≡ true → IsFair cap (record s { holders = s.holders ++ holder p writing ∷ [] })
 comes cap p s shape free = grind arith
-
-pub goes_away : (cap p : ℕ) (s : Plain) → IsFair cap s → is_holder p writing s.holders ≡ true → IsFair cap (apply s (releases p writing))
-goes_away cap p s shape found = record { one = omega (arith, shape.one, length-without_holder p writing s.holders found); queue = shape.queue; room = shape.room }
 
 -- a party whose entries are those of a starver is among the starvers
 

@@ -1,8 +1,8 @@
 -- The names that these proofs share, in one place.
-pub use Rattle.std.proofs.Common.{◌≡◌, ℕ, ◌==◌, Bool, true, false, ◌&&◌, ◌||◌, Option, Some, None, List, [], ◌∷◌, length, if◌then◌else◌, refl, ap, sym, ◌∙◌, arith, ◌%◌, ◌≤◌, not, ◌++◌, nat_lt, length-append, ◌+◌, ◌⊎◌, inl, inr, ⊎_elim, ◌<◌, ◌-◌, is_some}
+pub use Rattle.std.proofs.Common.{◌≡◌, ◌↔◌, ℕ, ◌==◌, Bool, true, false, ◌&&◌, ◌||◌, Option, Some, None, List, [], ◌∷◌, length, if◌then◌else◌, refl, ap, sym, ◌∙◌, arith, ◌%◌, ◌≤◌, not, ◌++◌, nat_lt, length-append, ◌+◌, ◌⊎◌, inl, inr, ⊎_elim, ◌<◌, ◌-◌, is_some}
 pub use Rattle.std.proofs.lemmas.Bool.{and_parts, false≢true, eq-eqb, and_from, eqb-true, ne_eqb}
 pub use Rattle.std.proofs.Math.Bool.{or-true}
-pub use Rattle.spin_step.specs.Plain.{Plain, Kind, writing, Holder, to_lock_unregistered, to_lock_starving, to_lock_starving_alone, to_starve, Change, gets, releases, stops_starving, is_empty, is_holder, is_starver, is_only_starver, without_holder, fair_word, holder, apply, is_open, is_open_to}
+pub use Rattle.spin_step.specs.Plain.{Plain, Kind, writing, Holder, to_lock_unregistered, to_lock_starving, to_lock_starving_alone, to_starve, Change, gets, releases, stops_starving, is_empty, is_holder, is_starver, without_holder, fair_word, holder, apply, is_open, is_open_to}
 pub use Rattle.spin_step.specs.Parties.{apply_some, IsOpenStep, Entries, entries, is_held}
 pub use Rattle.spin_step.proofs.Exclusive.{empty_is}
 pub use Rattle.spin_model.specs.Calls.{AnyOf, BelongsTo, Mark, Registers, TriesToStarve, first_word, granted}

@@ -5,7 +5,7 @@ use Rattle.spin_world_core.proofs.Lists.{eqb_self}
 use Rattle.spin_world_core.proofs.Steps.{Plays}
 use Rattle.spin_world_core.proofs.Filled.{plays_of}
 use Rattle.spin_world.proofs.Registering.{MayBeBlind, blind-other, allowed, none_left, few_to_load, few_to_register, Looking, Loading, Registering, none_yet, starving-other, looking-other, loading-other, registering-other, goes_on, missed, looked_free, looked_held, looked_late, loaded, retried, full, registered, looked_starving}
-use Rattle.spin_world.proofs.FairKnowledge.{IsFair, comes, goes_away, is_starving, is_starving_still, set_by_holder, flag_clear, word_starved, not_there}
+use Rattle.spin_world.proofs.FairKnowledge.{IsFair, comes, is_starving, is_starving_still, set_by_holder, flag_clear, word_starved, not_there}
 
 -- the row of a starver that waits for the lock, after these plain steps
 abbrev pub starving_row : (ℕ → List Change) → Row
@@ -79,9 +79,8 @@ module _ {V : Type 0} (v : V) (cap patience : ℕ) where
         grind (arith, word, shape, length-without_starver p s.starvers found, fair_unstarve-gives s p w word found)
 
     unlock_means : entries p s ≡ entries_at p (holds writing) → (is_set w ≡ true) × IsMeant p s (releases p writing) (Some (w - 1))
-    unlock_means mine =
-        let found = is_holder-from_entries p writing s.holders (ap (λ (e : Entries). e.holders) mine) in
-        grind (arith, set_by_holder cap p w s shape word found, fair_unlock-gives s p writing w word found, goes_away cap p s shape found)
+    unlock_means mine = let found = is_holder-from_entries p writing s.holders (ap (λ (e : Entries). e.holders) mine) in
+        grind (arith, set_by_holder cap p w s shape word found, fair_unlock-gives s p writing w word found, shape)
 
     -- if nobody holds or starves, a newcomer finds the word 0
     free_word : (is_empty s.holders && is_empty s.starvers) ≡ true → w ≡ 0
@@ -112,8 +111,7 @@ module _ {V : Type 0} (v : V) (cap patience : ℕ) where
     grind (arith, held p s w, looked_held patience p s span n, looked_late patience p s span n, nothing_left p, loads_in_time p, eqb_self p),
     grind (arith, held p s w, looked_free patience p s span n, nothing_left p, eqb_self p),
   )
-  owes p Lock Load None s w span =
-      let looks = full patience p s span (few_to_load p) plain refl in
+  owes p Lock Load None s w span = let looks = full patience p s span (few_to_load p) plain refl in
       let goes = allowed patience p s span None plain in
       grind (arith, starve_means p s w, loaded patience p s span w, λ (ms : List Mark). registers_in_time p ms w s, looks, goes, nothing_left p)
   owes p Lock (Register n) None s w span = λ at.
@@ -148,25 +146,23 @@ module _ {V : Type 0} (v : V) (cap patience : ℕ) where
 
   others : (p q : ℕ) (c : FairCall) (l : FairPoint) (s : Plain) (step : Option Change) (r : StepKind) (span : List Mark) → (q ≡ p → ⊥) → KnowsAt patience c l p s span → KnowsAt patience c l p (apply_some s step) (mark_of q step r s ∷ span)
   others p q Lock (Register n) s step r span ne knows = registering-other patience p q s step r span ne n knows
-  others p q Lock l s step r span ne knows =
-      let starving = starving-other patience p q s step r span ne in
+  others p q Lock l s step r span ne knows = let starving = starving-other patience p q s step r span ne in
       let blind = blind-other patience p q s step r span ne in
       grind (arith, knows, looking-other patience p q s step r span ne, loading-other patience p q s step r span ne, starving, blind)
   others p q _ _ s step r span ne knows = tt
 
-  pub fair_pays : Pays (fair_notes v cap patience)
-  fair_pays =
-      record {
-        computes = grind arith;
-        operates = grind arith;
-        shape_first = record { one = omega arith; queue = refl; room = refl };
-        one_list = λ s shape. no_queue s shape.queue;
-        calls = λ c h. (patience, grind arith);
-        begins = λ p c h s. grind (arith, none_yet {p = p} {n = patience});
-        others = λ p q c l h s step r span ne shape may belongs knows. others p q c l s step r span ne knows;
-        owes = owes;
-        soon = soon;
-      }
+  fair_pays : Pays (fair_notes v cap patience)
+  fair_pays = record {
+    computes = grind arith;
+    operates = grind arith;
+    shape_first = record { one = omega arith; queue = refl; room = refl };
+    one_list = λ s shape. no_queue s shape.queue;
+    calls = λ c h. (patience, grind arith);
+    begins = λ p c h s. grind (arith, none_yet {p = p} {n = patience});
+    others = λ p q c l h s step r span ne shape may belongs knows. others p q c l s step r span ne knows;
+    owes = owes;
+    soon = soon;
+  }
 
-pub fair_facts : {V : Type 0} (v : V) (cap patience : ℕ) → Plays (fair_machine v cap patience) (fair_notes v cap patience)
-fair_facts v cap patience = plays_of (fair_pays v cap patience) refl
+  pub fair_facts : Plays (fair_machine v cap patience) (fair_notes v cap patience)
+  fair_facts = plays_of fair_pays refl

@@ -1,12 +1,9 @@
 -- Proofs of what users of a fair lock may rely on, from what each event keeps.
-use Rattle.spin_world.proofs.FairNames.{◌≡◌, ℕ, true, false, Option, List, ◌∷◌, arith, Plain, Kind, writing, Holder, Change, is_holder, is_starver, without_holder, fair_word, apply_some, IsOpenStep, empty_is, is_empty-none, BelongsTo, fair, IsFree, []}
+use Rattle.spin_world.proofs.FairNames.{◌≡◌, ◌↔◌, ℕ, true, false, Option, List, ◌∷◌, arith, Plain, Kind, writing, Holder, Change, is_holder, is_starver, without_holder, fair_word, apply_some, IsOpenStep, empty_is, is_empty-none, BelongsTo, fair, IsFree, []}
 
-pub free_when_zero : (w : ℕ) (s : Plain) → w ∷ [] ≡ fair_word s ∷ [] → w ≡ 0 → IsFree s
-free_when_zero w s encodes zero =
-    (empty_is s.holders (is_empty-none s.holders (grind (arith, encodes))), empty_is s.starvers (is_empty-none s.starvers (grind (arith, encodes))))
-
-pub zero_when_free : (w : ℕ) (s : Plain) → w ∷ [] ≡ fair_word s ∷ [] → IsFree s → w ≡ 0
-zero_when_free w s encodes free = grind (arith, encodes, free)
+pub zero_when_free : (w : ℕ) (s : Plain) → w ∷ [] ≡ fair_word s ∷ [] → (w ≡ 0) ↔ IsFree s
+zero_when_free w s encodes =
+    grind (arith, encodes, empty_is s.holders, empty_is s.starvers, is_empty-none s.holders, is_empty-none s.starvers)
 
 -- a party that holds after another party's release held before this release
 held_before : (p q : ℕ) (k : Kind) (hs : List Holder) → is_holder p writing (without_holder q k hs) ≡ true → is_holder p writing hs ≡ true

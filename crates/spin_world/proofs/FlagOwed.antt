@@ -7,7 +7,7 @@ use Rattle.spin_model.specs.Acts.{begin_of}
 use Rattle.spin_model.specs.Flag.{flag_table, flag_machine}
 use Rattle.spin_world_core.proofs.Steps.{Plays}
 use Rattle.spin_world_core.proofs.Rows.{starts}
-use Rattle.spin_world_core.proofs.Shapes.{Notes, OwesAll, SoonAll, Pays}
+use Rattle.spin_world_core.proofs.Shapes.{Notes, OwesAll, Pays}
 use Rattle.spin_world_core.proofs.Usual.{no_queue}
 use Rattle.spin_world_core.proofs.Filled.{plays_of}
 use Rattle.spin_model.specs.declared.flag.FlagCall.TheVariants.{Release}
@@ -22,23 +22,19 @@ module _ {V : Type 0} (v : V) where
   owes p Release l h s w span = grind (arith, flag_unlock-gives s p writing w, is_holder-from_entries p writing s.holders, length-held p writing s.holders)
   owes p c l h s w span = grind (arith, flag_lock-grants s p w)
 
-  soon : SoonAll (flag_notes v)
-  soon p c l h s w span = grind (arith, flag_lock-grants s p w)
+  flag_pays : Pays (flag_notes v)
+  flag_pays = record {
+    computes = grind arith;
+    operates = grind arith;
+    -- an exchange that fails finds the flag set, and leaves it set
+    shape_first = refl;
+    one_list = no_queue;
+    calls = λ c h. (0, grind arith);
+    begins = grind arith;
+    others = λ p q c l h s step r span ne shape may belongs knows. tt;
+    owes = owes;
+    soon = λ p c l h s w span. grind (arith, flag_lock-grants s p w);
+  }
 
-  pub flag_pays : Pays (flag_notes v)
-  flag_pays =
-      record {
-        computes = grind arith;
-        operates = grind arith;
-        -- an exchange that fails finds the flag set, and leaves it set
-        shape_first = refl;
-        one_list = no_queue;
-        calls = λ c h. (0, grind arith);
-        begins = grind arith;
-        others = λ p q c l h s step r span ne shape may belongs knows. tt;
-        owes = owes;
-        soon = soon;
-      }
-
-pub flag_facts : {V : Type 0} (v : V) → Plays (flag_machine v) (flag_notes v)
-flag_facts v = plays_of (flag_pays v) refl
+  pub flag_facts : Plays (flag_machine v) (flag_notes v)
+  flag_facts = plays_of flag_pays refl

@@ -4,11 +4,11 @@ use Rattle.spin_world.specs.Fair.{FairMachine}
 use Rattle.spin_world_core.specs.Users.{seen_at}
 use Rattle.spin_world_core.specs.Runs.{state_at}
 use Rattle.spin_world_core.specs.Runs.{Schedule}
-use Rattle.spin_world.proofs.FairNames.{◌≡◌, ℕ, ◌+◌, ◌%◌, ◌==◌, ◌⊎◌, Bool, true, not, ◌&&◌, Option, Some, refl, ap, sym, ◌∙◌, arith, inl, inr, ⊎_elim, eq-eqb, and_from, is_empty, fair_word, Entries, Hold, Continue, entries_at, row_of, FairCall, FairPoint, SetFlag, Await, Unregister, asks_of, fair_machine, IsGrantedNext, SetsAClearFlag, GoesForAClearFlag}
+use Rattle.spin_world.proofs.FairNames.{◌≡◌, ℕ, ◌+◌, ◌%◌, ◌==◌, ◌⊎◌, Bool, true, not, ◌&&◌, Option, Some, refl, ap, sym, ◌∙◌, arith, inl, inr, ⊎_elim, eq-eqb, is_empty, fair_word, Entries, Hold, Continue, FairCall, FairPoint, SetFlag, Await, Unregister, asks_of, fair_machine, IsGrantedNext, SetsAClearFlag, GoesForAClearFlag}
 use Rattle.spin_model.specs.declared.place.Seat.TheVariants.{Calling}
 use Rattle.spin_model.specs.declared.schedule.Move.TheVariants.{Step}
 use Rattle.spin_model.specs.Schedules.{moves_at}
-use Rattle.spin_world_core.proofs.Reached.{numbers_are, passes_some, StandsSo, calls_so}
+use Rattle.spin_world_core.proofs.Reached.{numbers_are, StandsSo, calls_so}
 use Rattle.spin_world.proofs.FairKnowledge.{flag_clear}
 use Rattle.spin_world.proofs.FairOwed.{fair_notes, fair_facts}
 
@@ -41,21 +41,18 @@ module _ {V : Type 0} (v : V) (cap patience : ℕ) where
   GoesFor w c l h =
       ((value : Option V) → (m.step w value c l h).words ≡ w + 1) ⊎ ((to : FairPoint) × ((value : Option V) → (m.step w value c l h).next ≡ Continue to) × SetsAClearFlag m c to h)
 
-  abbrev WaitsAt : ℕ → FairCall → FairPoint → Option Hold → Type 0
-  WaitsAt p c l h =
-      let row = row_of (fair_notes v cap patience) c l h in
-      (passes_some (λ row. starves_alone (entries_at p row.stand)) row && (asks_of patience c h).waits) ≡ true
-
-  goes_for : (p w : ℕ) → w % 2 ≡ 0 → (c : FairCall) (l : FairPoint) (h : Option Hold) → WaitsAt p c l h → GoesFor w c l h
+  goes_for : (p w : ℕ) → w % 2 ≡ 0 → (c : FairCall) (l : FairPoint) (h : Option Hold)
+      → StandsSo (fair_notes v cap patience) starves_alone p c l h → (asks_of patience c h).waits ≡ true
+      → GoesFor w c l h
   goes_for p w clear c SetFlag = grind arith
-  goes_for p w clear c Await = λ h both. inr (SetFlag, (λ value. rw (ap (λ n. n == 1) clear) refl), sets c h)
-  goes_for p w clear c l = λ h both. grind (arith, both)
+  goes_for p w clear c Await = λ h alone waits. inr (SetFlag, (λ value. rw (ap (λ n. n == 1) clear) refl), sets c h)
+  goes_for p w clear c l = λ h alone waits. grind (arith, alone, waits)
 
   pub goes_for_flag : (n : ℕ) (past : Schedule FairCall V) → GoesForAClearFlag m n past
-  goes_for_flag n past p c l h there waits is free =
-      let now = state_at m n past in
+  goes_for_flag n past p c l h there waits is free = let now = state_at m n past in
       let alone = calls_so (fair_facts v cap patience) n past starves_alone p there (ap starves_alone is) in
       let plain = (seen_at m n past).plain in
       let word : now.words ≡ fair_word plain = cc (numbers_are (fair_facts v cap patience) n past) in
       let clear = flag_clear now.words plain (sym word) (ap is_empty free) in
-      ⊎_elim (λ set. inl (set now.value)) (λ goes. inr (goes.0, goes.1 now.value, goes.2)) (goes_for p now.words clear c l h (and_from _ _ alone waits))
+      let goes = goes_for p now.words clear c l h alone waits in
+      ⊎_elim (λ set. inl (set now.value)) (λ goes. inr (goes.0, goes.1 now.value, goes.2)) goes

@@ -24,8 +24,7 @@ module _ (n : ℕ) where
   counted : (seen : Seen BarrierWords ℕ BarrierCall BarrierPoint) (es : Entries) → Invariant f seen
       → (seen_after m seen es).plain.arrivals ≡ seen.plain.arrivals + steps_made is_arrival m seen es
   counted seen [] good = omega arith
-  counted seen (e ∷ es) good =
-      let here = kept f seen e.0 e.1 good in
+  counted seen (e ∷ es) good = let here = kept f seen e.0 e.1 good in
       omega (arith, one_more seen.plain (scene m seen e.0 e.1).change here.keeps.belongs, counted (scene m seen e.0 e.1).after es here.good)
 
   -- The party has any seat o. `last` is the place that the next arrival gets in its group, or 0 if this arrival fills
@@ -35,9 +34,7 @@ module _ (n : ℕ) where
   leads_at s p last o leading = grind arith
 
   pub in_groups : (parties : ℕ) (past : Entries) → InGroups m n parties past
-  in_groups parties past =
-      let here = good f parties past in
-      let seen = seen_at m parties past in
+  in_groups parties past = let here = good f parties past in let seen = seen_at m parties past in
       let state = state-seen_at m parties past in
       let is = is_barrier n seen.plain seen.state.words here.encodes here.shape in
       let many : seen.plain.arrivals ≡ arrivals m parties past = omega (arith, counted (opening m parties) past (good_first f parties)) in
@@ -55,13 +52,11 @@ module _ (n : ℕ) where
   leaves_at : (seen : Seen BarrierWords ℕ BarrierCall BarrierPoint) (p : ℕ) (c : BarrierCall) (l : BarrierPoint) (h : Option Hold)
       → Invariant f seen → slice_get seen.state.seats p ≡ Some (Calling c l h) → own p (seen.span p) ≡ arrives p ∷ []
       → ((happens m seen.state p Step).outcome ≡ Answered Follower None) ↔ (may_leave seen.plain (arrived p (seen.span p)) ≡ true)
-  leaves_at seen p c l h good there has =
-      let is = is_barrier n seen.plain seen.state.words good.encodes good.shape in
+  leaves_at seen p c l h good there has = let is = is_barrier n seen.plain seen.state.words good.encodes good.shape in
       let knows = (in_call f p good there).knows in
       let tells = λ (g : ℕ). barrier_may_leave-tells seen.plain (arrived p (seen.span p)) n seen.state.words.count seen.state.words.generation g is in
       grind (arith, there, knows, tells)
 
   pub followers_leave : (parties : ℕ) (past : Entries) → FollowersLeave m parties past
-  followers_leave parties past = λ p c l h there has.
-      let state = state-seen_at m parties past in
+  followers_leave parties past = λ p c l h there has. let state = state-seen_at m parties past in
       rw (← outcome-seen_at m parties past p Step) (leaves_at (seen_at m parties past) p c l h (good f parties past) (rw (← state) at there) has)

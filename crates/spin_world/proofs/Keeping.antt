@@ -2,19 +2,15 @@
 use Rattle.spin_world_core.proofs.Every.{outcome-seen_at}
 use Rattle.spin_world_core.specs.Users.{IsCalling}
 use Rattle.spin_world_core.proofs.Every.{state-seen_at}
-use Rattle.spin_world.proofs.OnceNames.{Plays, ◌≡◌, ℕ, ◌==◌, true, false, is_some, Option, Some, None, ◌∷◌, ◌++◌, refl, arith, ap, ◌∙◌, and_parts, running, once_word, Value, Hold, Step, State, after, at_first, Seen, scene, OnceCall, Get, OncePoint, Run, runs, asks_of, OnceMachine, once_machine, Entries, once_after, seen_at, keeps_value, is_shared, ValueStays, RunsClosure, OneRuns, wants_value, AnswersAtOnce, GetAgrees, after-append, InCall, Invariant, []}
+use Rattle.spin_world.proofs.OnceNames.{Plays, ◌≡◌, ℕ, ◌==◌, true, false, is_some, Option, Some, None, ◌∷◌, ◌++◌, refl, arith, ap, ◌∙◌, and_parts, running, once_word, Value, Hold, Step, State, after, at_first, Seen, scene, OnceCall, Get, OncePoint, Run, runs, asks_of, OnceMachine, once_machine, Entries, once_after, seen_at, keeps_value, is_shared, ValueStays, RunsClosure, OneRuns, wants_value, AnswersAtOnce, GetAgrees, after-append, Invariant, []}
 use Rattle.spin_model.specs.declared.schedule.Outcome.TheVariants as outcome
 use Rattle.spin_world_core.specs.Users.{outcome_after}
 use Rattle.spin_world_core.proofs.Every.{kept}
-use Rattle.spin_world_core.proofs.Reached as reached
-use Rattle.spin_world_core.proofs.Reached.{numbers_are, calls}
+use Rattle.spin_world_core.proofs.Reached.{good, numbers_are, calls}
 use Rattle.spin_world.proofs.OnceOwed.{once_notes, once_facts}
 
 abbrev pub OnceState : Type 0 → Type 0
 OnceState V = State ℕ V (OnceCall V) OncePoint
-
-abbrev OnceSeen : Type 0 → Type 0
-OnceSeen V = Seen ℕ V (OnceCall V) OncePoint
 
 module _ {V : Type 0} (value : Option V) where
   abbrev m : OnceMachine V
@@ -23,24 +19,18 @@ module _ {V : Type 0} (value : Option V) where
   abbrev f : Plays m (once_notes value)
   f = once_facts value
 
-  pub good : (n : ℕ) (past : Entries V) → Invariant f (seen_at m n past)
-  good n past = reached.good f n past
-
-  stays_on : (seen : OnceSeen V) (es : Entries V) (v : V) → Invariant f seen → is_shared es ≡ true → seen.state.value ≡ Some v
-      → (after m seen.state es).value ≡ Some v
+  stays_on : (seen : Seen ℕ V (OnceCall V) OncePoint) (es : Entries V) (v : V) → Invariant f seen → is_shared es ≡ true
+      → seen.state.value ≡ Some v → (after m seen.state es).value ≡ Some v
   stays_on seen [] v good shared is = is
-  stays_on seen (e ∷ es) v good shared is =
-      let parts = and_parts (keeps_value e.1) (is_shared es) shared in
+  stays_on seen (e ∷ es) v good shared is = let parts = and_parts (keeps_value e.1) (is_shared es) shared in
       stays_on (scene m seen e.0 e.1).after es v (kept f seen e.0 e.1 good).good parts.1 (grind (arith, parts.0, is))
 
   pub a_value_stays : (n : ℕ) (past further : Entries V) → ValueStays m n past further
-  a_value_stays n past further =
-      let seen = seen_at m n past in
-      let state = state-seen_at m n past in
-      record {
-        complete = (good n past).phase ∙ ap (λ (s : OnceState V). is_some s.value) state;
-        stays = λ v is shared.
-            rw (after-append m (at_first m n) past further, ← state) (stays_on seen further v (good n past) shared (rw (← state) at is));
+  a_value_stays n past further = let seen = seen_at m n past in let state = state-seen_at m n past in
+      let good = good f n past in record {
+        complete = good.phase ∙ ap (λ (s : OnceState V). is_some s.value) state;
+        stays = λ v is shared. rw (after-append m (at_first m n) past further, ← state)
+            (stays_on seen further v good shared (rw (← state) at is));
       }
 
   word_at : (n : ℕ) (past : Entries V) → (once_after m n past).words ≡ once_word (seen_at m n past).plain
@@ -49,26 +39,23 @@ module _ {V : Type 0} (value : Option V) where
   -- a party at the point `Run` runs its closure, and no other party runs one
 
   module _ (n : ℕ) (past : Entries V) (p : ℕ) (c : OnceCall V) (l : OncePoint) (h : Option Hold) (there : IsCalling m n past p c l h) where
-    in_call_at : InCall (once_notes value) p c l h (seen_at m n past).plain (seen_at m n past).state.words ((seen_at m n past).span p)
-    in_call_at = calls f n past p there
-
     -- if the word is not 1, no closure runs
     pub not_at_run : (w : ℕ) → (w == 1) ≡ false → (once_after m n past).words ≡ w → l ≡ Run → ⊥
-    not_at_run w other is e = grind (arith, in_call_at.knows, word_at n past)
+    not_at_run w other is e = grind (arith, (calls f n past p there).knows, word_at n past)
 
     pub run_here : l ≡ Run → RunsClosure m n past p
-    run_here e = record { call = c; point = l; held = h; calls = there; begun = grind (arith, in_call_at.knows) }
+    run_here e = let knows = (calls f n past p there).knows in
+        record { call = c; point = l; held = h; calls = there; begun = grind (arith, knows) }
 
   phase_of : (n : ℕ) (past : Entries V) (p : ℕ) → RunsClosure m n past p → (seen_at m n past).plain.phase ≡ running p
-  phase_of n past p runs = grind (arith, runs.begun, (in_call_at n past p runs.call runs.point runs.held runs.calls).knows)
+  phase_of n past p runs = grind (arith, runs.begun, (calls f n past p runs.calls).knows)
 
   pub one_closure_runs_at_a_time : (n : ℕ) (past : Entries V) → OneRuns m n past
-  one_closure_runs_at_a_time n past =
-      record {
-        alone = λ p q by_p by_q. cc (phase_of n past p by_p, phase_of n past q by_q);
-        before = λ p runs. let phase = phase_of n past p runs in grind (arith, (a_value_stays n past []).complete);
-        ends = λ p runs. grind (arith, runs.calls, runs.begun, (in_call_at n past p runs.call runs.point runs.held runs.calls).knows);
-      }
+  one_closure_runs_at_a_time n past = record {
+    alone = λ p q by_p by_q. cc (phase_of n past p by_p, phase_of n past q by_q);
+    before = λ p runs. let phase = phase_of n past p runs in grind (arith, (a_value_stays n past []).complete);
+    ends = λ p runs. grind (arith, runs.calls, runs.begun, (calls f n past p runs.calls).knows);
+  }
 
   -- If there is a value
 
@@ -86,11 +73,10 @@ module _ {V : Type 0} (value : Option V) where
   a_value_is_answered_at_once n past = record { value = value_told n past; none = grind arith }
 
   pub a_later_get_agrees : (n : ℕ) (past further : Entries V) → GetAgrees m n past further
-  a_later_get_agrees n past further = λ p q v l h is shared at.
-      let seen = seen_at m n past in
+  a_later_get_agrees n past further = λ p q v l h is shared at. let seen = seen_at m n past in
       let state = state-seen_at m n past in
       let all = past ++ (p, Step) ∷ further in
-      let good = good n past in
+      let good = good f n past in
       let told : (scene m seen p Step).after.state.value ≡ Some v = grind (arith, outcome-seen_at m n past p Step ∙ is) in
       let now : (once_after m n all).value ≡ Some v =
       rw (after-append m (at_first m n) past ((p, Step) ∷ further), ← state)

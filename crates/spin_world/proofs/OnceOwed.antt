@@ -34,28 +34,27 @@ abbrev pub once_notes : {V : Type 0} (value : Option V) → Notes (once_table va
 once_notes value = record { Shape = λ s. IsFree s; point = point_of; Knows = λ c l h p s span. RunsAt l p s span }
 
 module _ {V : Type 0} (value : Option V) where
-  pub once_pays : PaysWith (once_notes value) brings_of
-  once_pays =
-      record {
-        pays = record {
-          computes = grind arith;
-          operates = grind arith;
-          shape_first = (refl, refl);
-          one_list = λ s free. no_holders s free.0;
-          calls = λ c h. (0, grind arith);
-          begins = grind arith;
-          others = λ p q c l h s step r span ne free may belongs knows. grind (arith, runs-others s p q step ne may);
-          owes = grind arith;
-          soon = grind arith;
-        };
-        makes = refl;
-        strong = grind arith;
-        says = λ a. refl;
-        none_writes = grind arith;
-        none_holds = grind arith;
-        completes_right = grind arith;
-        tells = grind arith;
-      }
+  once_pays : PaysWith (once_notes value) brings_of
+  once_pays = record {
+    pays = record {
+      computes = grind arith;
+      operates = grind arith;
+      shape_first = (refl, refl);
+      one_list = λ s free. no_holders s free.0;
+      calls = λ c h. (0, grind arith);
+      begins = grind arith;
+      others = λ p q c l h s step r span ne free may belongs knows. grind (arith, runs-others s p q step ne may);
+      owes = grind arith;
+      soon = grind arith;
+    };
+    makes = refl;
+    strong = grind arith;
+    says = λ a. refl;
+    none_writes = grind arith;
+    none_holds = grind arith;
+    completes_right = grind arith;
+    tells = grind arith;
+  }
 
-pub once_facts : {V : Type 0} (value : Option V) → Plays (once_machine value) (once_notes value)
-once_facts value = plays_with (once_pays value)
+  pub once_facts : Plays (once_machine value) (once_notes value)
+  once_facts = plays_with once_pays

@@ -24,21 +24,17 @@ module _ {V : Type 0} (v : V) (first : ℕ) where
   served : (seen : Seen TicketWords V TicketCall TicketPoint) (es : Schedule TicketCall V) → Invariant f seen
       → serving_word (seen_after m seen es).plain ≡ serving_word seen.plain + tickets_gone m seen es
   served seen [] good = omega arith
-  served seen (e ∷ es) good =
-      let here = kept f seen e.0 e.1 good in
+  served seen (e ∷ es) good = let here = kept f seen e.0 e.1 good in
       omega (arith, moves_some seen.plain e.0 (scene m seen e.0 e.1).change good.shape.numbered here.keeps.opens, served (scene m seen e.0 e.1).after es here.good)
 
   pub in_order : (n : ℕ) (past : Schedule TicketCall V) → InOrder (state_at m n past).words (seen_at m n past).plain
-  in_order n past =
-      let numbers = numbers_are f n past in
-      let g = good f n past in
+  in_order n past = let numbers = numbers_are f n past in let g = good f n past in
       record { next = cc (numbers); serving = cc (numbers); numbered = g.shape.numbered; one_entered = g.exclusive.one_entered }
 
   -- a party that holds has the served ticket
   holds_served : (n p t : ℕ) (past : Schedule TicketCall V) → slice_get (state_at m n past).seats p ≡ Some (Holding (hold.Ticket t))
       → serving_word (seen_at m n past).plain ≡ t
-  holds_served n p t past there =
-      let order = in_order n past in
+  holds_served n p t past there = let order = in_order n past in
       let has = ap (λ (e : Entries). e.tickets) (stands f n past p there) in
       (entered_is_served (seen_at m n past).plain p t order.numbered order.one_entered has).1
 
@@ -49,11 +45,8 @@ module _ {V : Type 0} (v : V) (first : ℕ) where
       rw (seen_after-append m (opening m n) past further) (omega (arith, (in_order n past).serving, served (seen_at m n past) further (good f n past)))
 
   pub in_turn : (n : ℕ) (past further : Schedule TicketCall V) → InTurn m n past further
-  in_turn n past further =
-      let all = past ++ further in
-      record {
-        enters = λ p t c l h there waits.
-            let knows = (calls f n all p there).knows in
-            grind (arith, there, waits, knows, (in_order n all).serving, served_later n past further);
-        holds = λ p t there. omega (arith, served_later n past further, holds_served n p t all there);
-      }
+  in_turn n past further = let all = past ++ further in let later = served_later n past further in record {
+    enters = λ p t c l h there waits.
+        grind (arith, there, waits, (calls f n all p there).knows, (in_order n all).serving, later);
+    holds = λ p t there. omega (arith, later, holds_served n p t all there);
+  }

@@ -106,8 +106,7 @@ module _ {V : Type 0} (v : V) (cap : ℕ) where
 
     release_means : (k : Kind) → rw_word s ≡ w → IsExclusive s → Within cap s → entries p s ≡ entries_at p (holds k)
         → (tells k w ≡ true) × IsMeant p s (releases p k) (Some (released k w))
-    release_means k word exclusive shape mine =
-        let found = holder_by p k s mine in
+    release_means k word exclusive shape mine = let found = holder_by p k s mine in
         grind (arith, finds p s w word exclusive shape k found, rw_release-gives s p k w word found, shape, length-without_holder p k s.holders found)
 
   owes : OwesAll (rw_notes v cap)
@@ -130,19 +129,18 @@ module _ {V : Type 0} (v : V) (cap : ℕ) where
       grind (arith, writes_nothing p s, only_asking-word s p w, only_upgradable-word s p w, one_of_each s, holder_by p upgradable s, holder_by p asking s)
   soon p _ _ _ s w span = tt
 
-  pub rw_pays : Pays (rw_notes v cap)
-  rw_pays =
-      record {
-        computes = grind arith;
-        operates = operates_one (rw_table v cap) refl;
-        shape_first = record { no_queue = refl; room = refl; few = omega arith };
-        one_list = λ s shape. no_queue s shape.no_queue;
-        calls = λ c h. (0, grind arith);
-        begins = grind arith;
-        others = λ p q c l h s step r span ne shape may belongs knows. tt;
-        owes = owes;
-        soon = soon;
-      }
+  rw_pays : Pays (rw_notes v cap)
+  rw_pays = record {
+    computes = grind arith;
+    operates = operates_one (rw_table v cap) refl;
+    shape_first = record { no_queue = refl; room = refl; few = omega arith };
+    one_list = λ s shape. no_queue s shape.no_queue;
+    calls = λ c h. (0, grind arith);
+    begins = grind arith;
+    others = λ p q c l h s step r span ne shape may belongs knows. tt;
+    owes = owes;
+    soon = soon;
+  }
 
-pub rw_facts : {V : Type 0} (v : V) (cap : ℕ) → Plays (rw_machine v cap) (rw_notes v cap)
-rw_facts v cap = plays_of (rw_pays v cap) refl
+  pub rw_facts : Plays (rw_machine v cap) (rw_notes v cap)
+  rw_facts = plays_of rw_pays refl

@@ -3,7 +3,7 @@ use Rattle.spin_world.specs.Rw.{RwMachine}
 use Rattle.spin_world_core.specs.Runs.{state_at}
 use Rattle.spin_world_core.specs.Users.{seen_at}
 use Rattle.spin_world_core.specs.Runs.{Schedule}
-use Rattle.spin_world.proofs.RwNames.{◌≡◌, ℕ, ◌+◌, ◌==◌, ◌↔◌, Bool, true, false, Option, Some, None, List, ◌∷◌, ◌++◌, slice_get, ap, sym, ◌∙◌, arith, Plain, Kind, reading, asking, Change, is_holder, is_only, count_kind, rw_word, weight, apply_some, IsOpenStep, entries, IsExclusive, bit, empty_is, is_holder-own, reader_goes, one_of_each, only_asking-word, empty-word, word_of, Hold, RwCall, RwPoint, Mark, Stand, holds, holds_and_starves, entries_at, row_of, []}
+use Rattle.spin_world.proofs.RwNames.{◌≡◌, ℕ, ◌+◌, ◌==◌, ◌↔◌, true, Option, Some, None, List, ◌∷◌, ◌++◌, slice_get, ap, sym, ◌∙◌, arith, Plain, Kind, reading, asking, Change, is_holder, is_only, count_kind, rw_word, weight, apply_some, IsOpenStep, entries, IsExclusive, bit, empty_is, is_holder-own, reader_goes, one_of_each, only_asking-word, empty-word, word_of, Hold, RwCall, RwPoint, Mark, []}
 use Rattle.spin_step_more.proofs.Upgrading.{readers_only_go, alone_when_gone}
 use Rattle.spin_model.specs.declared.answer.Answer.TheVariants.{Granted, Done}
 use Rattle.spin_model.specs.declared.place.Seat.TheVariants.{Calling, Holding}
@@ -12,12 +12,12 @@ use Rattle.spin_model.specs.declared.schedule.Outcome.TheVariants.{Answered}
 use Rattle.spin_model.specs.Schedules.{State, moves_at, at_first}
 use Rattle.spin_world_core.proofs.Shapes.{Knows}
 use Rattle.spin_world_core.proofs.Steps.{Plays}
-use Rattle.spin_world_core.specs.Runs.{Seen, scene, opening, entries_of, is_reader}
+use Rattle.spin_world_core.specs.Runs.{Seen, scene, opening, entries_of}
 use Rattle.spin_world_core.specs.Users.{seen_after, passes, ReadsAgreeAcross}
 use Rattle.spin_step_more.specs.RwCalls.{rw_machine}
-use Rattle.spin_world.specs.Standing.{StandTogether, KeepsWritersOut, less, Downgrades, readers_gone, StaysAsking, Opens, converts}
+use Rattle.spin_world.specs.Standing.{StandTogether, KeepsWritersOut, less, Downgrades, readers_gone, StaysAsking, AllGone, Opens, converts}
 use Rattle.spin_world.proofs.RwOwed.{holder_by, rw_notes, rw_facts}
-use Rattle.spin_world_core.proofs.Reached.{good, numbers_are, stands, calls, passes_some, passes_all, row_passes}
+use Rattle.spin_world_core.proofs.Reached.{good, numbers_are, stands, calls, calls_so, StandsSo}
 use Rattle.spin_model.proofs.Lists.{get-set_same}
 use Rattle.spin_world_core.proofs.Preserved.{Invariant}
 use Rattle.spin_world_core.proofs.Every.{kept}
@@ -34,24 +34,13 @@ goes_some s p q step alone found may stays = grind (arith, readers_only_go s p, 
 keeps_writers_out : (p : ℕ) (k : Kind) (s : Plain) → is_holder p k s.holders ≡ true → KeepsWritersOut p s
 keeps_writers_out p k s found = λ q ne. grind (arith, found, ne)
 
--- a party with this `Stand` may be a holder that asks to upgrade
-abbrev may_ask : Stand → Bool
-may_ask (holds asking) = true
-may_ask (holds_and_starves k) = true
-may_ask _ = false
-
-asks_by : (p : ℕ) (s : Plain) (stand : Stand) → is_holder p asking s.holders ≡ true → entries p s ≡ entries_at p stand → may_ask stand ≡ true
-asks_by p s stand asks is = grind (arith, is_holder-own p asking s.holders)
-
 module _ {V : Type 0} (v : V) (cap : ℕ) where
   -- the next step of a call answers `Granted` exactly if the word is that of one reader that asks to upgrade
   abbrev Upgrades : State ℕ V RwCall RwPoint → ℕ → RwCall → RwPoint → Option Hold → Type 0
   Upgrades s p c l h = ((moves_at (rw_machine v cap) s p Step (Some (Calling c l h))).outcome ≡ Answered Granted None) ↔ ((s.words == weight asking) ≡ true)
 
-  abbrev AsksAt : RwCall → RwPoint → Option Hold → Type 0
-  AsksAt c l h = passes_some (λ row. may_ask row.stand) (row_of (rw_notes v cap) c l h) ≡ true
-
-  upgraded : (s : State ℕ V RwCall RwPoint) (p : ℕ) (c : RwCall) (l : RwPoint) (h : Option Hold) → AsksAt c l h → Upgrades s p c l h
+  upgraded : (s : State ℕ V RwCall RwPoint) (p : ℕ) (c : RwCall) (l : RwPoint) (h : Option Hold)
+      → StandsSo (rw_notes v cap) (λ e. is_holder p asking e.holders) p c l h → Upgrades s p c l h
   upgraded s p c l h asks = grind (arith, asks)
 
   -- Over a whole schedule
@@ -67,8 +56,7 @@ module _ {V : Type 0} (v : V) (cap : ℕ) where
 
   pub stand_together : (n : ℕ) (past : Schedule RwCall V)
       → StandTogether cap (state_at m n past).words (seen_at m n past).plain
-  stand_together n past =
-      let here = good f n past in
+  stand_together n past = let here = good f n past in
       record { word = words_are n past; writer = here.exclusive.writer; one_upgradable = here.exclusive.one_upgradable; within = omega (arith, here.shape.few, here.shape.room) }
 
   pub zero_when_free : (n : ℕ) (past : Schedule RwCall V)
@@ -85,17 +73,13 @@ module _ {V : Type 0} (v : V) (cap : ℕ) where
       → (count_kind reading (seen_after m seen es).plain.holders + readers_gone m seen es ≡ count_kind reading seen.plain.holders)
       × (is_holder p asking (seen_after m seen es).plain.holders ≡ true)
   gone_through p seen [] here stays = (omega arith, stays)
-  gone_through p seen (e ∷ es) here stays =
-      let sc = scene m seen e.0 e.1 in
-      let is = kept f seen e.0 e.1 here in
+  gone_through p seen (e ∷ es) here stays = let sc = scene m seen e.0 e.1 in let is = kept f seen e.0 e.1 here in
       let rest = gone_through p sc.after es is.good stays.1 in
       let one = goes_some seen.plain p e.0 sc.change here.exclusive stays.0 is.keeps.opens (stays_now p sc.after es stays.1) in
       (omega (arith, rest.0, one), rest.1)
 
   pub opens_by_releases : (n : ℕ) (past further : Schedule RwCall V) → Opens m n past further
-  opens_by_releases n past further p stays =
-      let all = past ++ further in
-      let before = seen_at m n past in
+  opens_by_releases n past further p stays = let all = past ++ further in let before = seen_at m n past in
       let later = seen_at m n all in
       let gone = gone_through p before further (good f n past) stays in
       let joined = seen_after-append m (opening m n) past further in
@@ -103,18 +87,15 @@ module _ {V : Type 0} (v : V) (cap : ℕ) where
       let found : is_holder p asking later.plain.holders ≡ true = rw joined gone.1 in
       let here = good f n all in
       let alone = alone_when_gone later.plain p here.exclusive found in
-      let left : (is_only p asking later.plain.holders ≡ true) ↔ (readers_gone m before further ≡ count_kind reading before.plain.holders) =
-      (λ only. let none = alone.0 only in omega (arith, readers, none), λ all_gone. alone.1 (omega (arith, readers, all_gone))) in
+      let left : (is_only p asking later.plain.holders ≡ true) ↔ AllGone m n past further =
+      grind (arith, readers, alone) in
       let now = state_at m n all in
       let told : is_only p asking later.plain.holders ≡ (now.words == weight asking) = only_asking-word later.plain p now.words (one_of_each later.plain here.exclusive) found (sym (words_are n all)) in
       record {
         readers = readers;
         opens = left;
-        granted = λ c l h there.
-            let knows = (calls f n all p there).knows in
-            let asks = row_passes (rw_notes v cap) c l h p _ _ (λ row. may_ask row.stand)
-            (λ row is made. asks_by p later.plain row.stand found is) _ knows in
-            let step = upgraded now p c l h asks in
+        granted = λ c l h there. let asks = sym (is_holder-own p asking later.plain.holders) ∙ found in
+            let step = upgraded now p c l h (calls_so f n all (λ e. is_holder p asking e.holders) p there asks) in
             let at = ap (λ o. (moves_at m now p Step o).outcome) there in
             (λ e. left.0 (told ∙ step.0 (sym at ∙ e)), λ e. at ∙ step.1 (sym told ∙ left.1 e));
       }
@@ -135,9 +116,7 @@ module _ {V : Type 0} (v : V) (cap : ℕ) where
   holds_after p held c s is mine = grind (arith, λ (k : Kind). holder_by p k s, λ (k : Kind). keeps_writers_out p k s)
 
   pub downgrades : (n : ℕ) (past : Schedule RwCall V) → Downgrades m n past
-  downgrades n past p c l h held is there =
-      let all = past ++ (p, Step) ∷ [] in
-      let before = seen_at m n past in
+  downgrades n past p c l h held is there = let all = past ++ (p, Step) ∷ [] in let before = seen_at m n past in
       let later = seen_at m n all in
       let now = state_at m n past in
       let step = downgraded now p c l h held is there in
@@ -152,9 +131,6 @@ module _ {V : Type 0} (v : V) (cap : ℕ) where
       )
 
   -- Reads across conversions
-
-  abbrev reads_at : ℕ → RwCall → RwPoint → Hold → Bool
-  reads_at p c l h = passes_all (λ row. is_reader (entries_at p row.stand)) (row_of (rw_notes v cap) c l (Some h))
 
   pub looks_agree : (n : ℕ) (past : Schedule RwCall V) → ReadsAgreeAcross converts m n past
   looks_agree n past = reads_agree_across f converts (grind arith) n past

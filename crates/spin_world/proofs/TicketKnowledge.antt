@@ -10,13 +10,9 @@ pub record Queue (s : Plain) : Type 0 where
   pub numbered : Numbered s
   pub in_range : is_empty s.tickets ≡ false → s.next ≤ ticket_limit
 
--- before some step of the span, some party had a ticket
-abbrev pub Stood : List Mark → Type 0
-Stood span = AnyOf (λ m. is_empty m.before.tickets ≡ false) span
-
 -- some party had a ticket before some step of the span, or k is the number served now
 abbrev pub Stays : ℕ → Plain → List Mark → Type 0
-Stays k s span = Stood span ⊎ (serving_word s ≡ k)
+Stays k s span = AnyOf (λ m. is_empty m.before.tickets ≡ false) span ⊎ (serving_word s ≡ k)
 
 -- `Stays`, and the served number is not below k
 abbrev pub Rises : ℕ → Plain → List Mark → Type 0
@@ -32,6 +28,6 @@ try_refused p n s span stays up =
 -- the answer of a load of the next number has a moment, if the party found k served before
 pub look_right : (b : Bool) (p k : ℕ) (s : Plain) (span : List Mark) → Queue s → Rises k s span → (s.next == k) ≡ b
     → list_any (λ m. same (not b) (is_held m.before)) (mark_of p None plain s ∷ span) ≡ true
-look_right true p k s span queue found is = grind (arith, nobody_stands s.next s.tickets, queue)
-look_right false p k s span queue found is =
-    grind (arith, somebody_stands s.next s.tickets, any_passes (λ m. is_empty m.before.tickets ≡ false) (λ m. same true (is_held m.before)) span)
+look_right b p k s span queue found is =
+    let any = any_passes (λ m. is_empty m.before.tickets ≡ false) (λ m. same true (is_held m.before)) span in
+    grind (arith, queue, nobody_stands s.next s.tickets, somebody_stands s.next s.tickets, any)

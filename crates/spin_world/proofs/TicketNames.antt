@@ -19,7 +19,7 @@ pub use Rattle.spin_model.specs.declared.ticket.TicketPoint.TheVariants.{LoadNex
 pub use Rattle.spin_model.specs.Acts.{passing}
 pub use Rattle.spin_world_core.proofs.Steps.{Plays}
 pub use Rattle.spin_world_core.proofs.Stands.{queues, entries_at}
-pub use Rattle.spin_world_core.proofs.Shapes.{Notes, Means, OwesAll, SoonAll, Pays}
+pub use Rattle.spin_world_core.proofs.Shapes.{Notes, Means, OwesAll, Pays}
 pub use Rattle.spin_world_core.proofs.Usual.{two, no_holders}
 pub use Rattle.spin_model.specs.declared.place.Seat.TheVariants.{Calling, Holding}
 pub use Rattle.spin_model.specs.declared.schedule.Move.{Move}

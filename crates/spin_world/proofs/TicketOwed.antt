@@ -1,5 +1,5 @@
 -- What has to be shown of the ticket lock's table.
-use Rattle.spin_world.proofs.TicketNames.{serving-advances, ◌≡◌, ℕ, ◌+◌, ◌==◌, true, false, filter, Option, Some, None, List, ◌∷◌, refl, ap, sym, ◌∙◌, arith, Plain, is_first, effect, to_take_ticket, to_enter, to_take_and_enter, Change, gets, serves, next_word, serving_word, Entries, entries, take, enters_in_turn, numbered-given, numbered-serves, serving-taken, serving-entered, entered_is_served, stands, Hold, TicketWords, TicketCall, Lock, TryLock, IsLocked, Release, TicketPoint, LoadNext, Take, Await, TryLoadNext, TryLoadServing, TryTake, LookServing, LookNext, Serve, own_count, passing, is_left, ticket_table, ticket_machine, Plays, queues, entries_at, any_map, Point, nowhere, looked, onward, Notes, Means, OwesAll, SoonAll, Pays, no_holders, [], Queued, queued}
+use Rattle.spin_world.proofs.TicketNames.{serving-advances, ◌≡◌, ℕ, ◌+◌, ◌==◌, true, false, filter, Option, Some, None, List, ◌∷◌, refl, ap, sym, ◌∙◌, arith, Plain, is_first, effect, to_take_ticket, to_enter, to_take_and_enter, Change, gets, serves, next_word, serving_word, Entries, entries, take, enters_in_turn, numbered-given, numbered-serves, serving-taken, serving-entered, entered_is_served, stands, Hold, TicketWords, TicketCall, Lock, TryLock, IsLocked, Release, TicketPoint, LoadNext, Take, Await, TryLoadNext, TryLoadServing, TryTake, LookServing, LookNext, Serve, own_count, passing, is_left, ticket_table, ticket_machine, Plays, queues, entries_at, any_map, Point, nowhere, looked, onward, Notes, Means, OwesAll, Pays, no_holders, [], Queued, queued}
 use Rattle.spin_step.specs.Parties.{first_alone_entered}
 use Rattle.spin_step.proofs.TicketSteps.{ticket_take-grants_alone, ticket_serve-gives}
 use Rattle.spin_model.specs.declared.place.Hold.TheVariants as hold
@@ -48,14 +48,12 @@ module _ {V : Type 0} (v : V) (first : ℕ) where
     take_means = grind (arith, queue, serving-taken s p false queue.numbered, numbered-given s p (effect to_take_ticket) queue.numbered)
 
     enter_means : (t : ℕ) → entries p s ≡ entries_at p (queues t false) → IsMeant p s (gets p to_enter) (λ k. w) (passing (w.serving == t) w.serving)
-    enter_means t mine =
-        let turn = enters_in_turn s p w.serving t queue.numbered serving_is in
+    enter_means t mine = let turn = enters_in_turn s p w.serving t queue.numbered serving_is in
         grind (arith, turn, serving-entered s, numbered-given s p (effect to_enter) queue.numbered, queue, stands p t false s.tickets)
 
     serve_means : (t u : ℕ) → t ≡ u → first_alone_entered s.tickets ≡ true → entries p s ≡ entries_at p (queues u true)
         → (is_left t ≡ true) × IsMeant p s (serves p) (λ k. record w { serving = k }) (Some (t + 1))
-    serve_means t u same one mine =
-        let tickets = ap (λ (e : Entries). e.tickets) mine in
+    serve_means t u same one mine = let tickets = ap (λ (e : Entries). e.tickets) mine in
         let here = entered_is_served s p u queue.numbered one tickets in
         let gives = ticket_serve-gives s p t queue.numbered.0 (here.1 ∙ sym same) here.0 in
         grind (arith, here, gives, queue, numbered-serves s p queue.numbered, stands p u true s.tickets tickets)
@@ -68,26 +66,21 @@ module _ {V : Type 0} (v : V) (first : ℕ) where
   owes p IsLocked (LookNext k) None s w span = grind (arith, look_right (w.next == k) p k s span)
   owes p c l h s w span = grind (arith, take_means p s w, enter_means p s w, serve_means p s w, eqb_self p)
 
-  -- If nobody disturbs the call, the party takes the next ticket, at once or after a look. It enters if its number is
-  -- served.
+  ticket_pays : Pays (ticket_notes v first)
+  ticket_pays = record {
+    computes = grind arith;
+    operates = grind arith;
+    shape_first = record { no_holders = refl; numbered = (omega arith, tt); in_range = λ some. absurd (cc (some)) };
+    one_list = λ s queue. no_holders s queue.no_holders;
+    calls = λ c h. (0, grind arith);
+    begins = λ p c h s. grind (arith, eqb_self);
+    others = λ p q c l h s step r span ne queue may belongs knows.
+        grind (arith, λ (c : Change). serving-advances s c queue.numbered, ne_eqb q p ne);
+    owes = owes;
+    -- If nobody disturbs the call, the party takes the next ticket, at once or after a look. It enters if its number
+    -- is served.
+    soon = λ p c l h s w span. grind (arith, enters_in_turn s p w.serving, λ (t : ℕ). not_entered p t s.tickets);
+  }
 
-  soon : SoonAll (ticket_notes v first)
-  soon p c l h s w span = grind (arith, enters_in_turn s p w.serving, λ (t : ℕ). not_entered p t s.tickets)
-
-  pub ticket_pays : Pays (ticket_notes v first)
-  ticket_pays =
-      record {
-        computes = grind arith;
-        operates = grind arith;
-        shape_first = record { no_holders = refl; numbered = (omega arith, tt); in_range = λ some. absurd (cc (some)) };
-        one_list = λ s queue. no_holders s queue.no_holders;
-        calls = λ c h. (0, grind arith);
-        begins = λ p c h s. grind (arith, eqb_self);
-        others = λ p q c l h s step r span ne queue may belongs knows.
-            grind (arith, λ (c : Change). serving-advances s c queue.numbered, ne_eqb q p ne);
-        owes = owes;
-        soon = soon;
-      }
-
-pub ticket_facts : {V : Type 0} (v : V) (first : ℕ) → Plays (ticket_machine v first) (ticket_notes v first)
-ticket_facts v first = plays_of (ticket_pays v first) refl
+  pub ticket_facts : Plays (ticket_machine v first) (ticket_notes v first)
+  ticket_facts = plays_of ticket_pays refl

@@ -1,12 +1,11 @@
 -- A try does not end by its first load. It does not end by its second load if the number that it found is served then,
 -- and is below the limit of the numbers.
 use Rattle.spin_world_core.specs.Runs.{state_at}
-use Rattle.spin_world_core.specs.Users.{seen_at}
 use Rattle.spin_world_core.specs.Runs.{Schedule}
 use Rattle.spin_world.proofs.TicketNames.{◌≡◌, ℕ, ◌<◌, ◌≤◌, Option, Some, List, ◌∷◌, arith, Plain, ticket_limit, to_take_and_enter, serving_word, Hold, Calling, Step, GoingOn, TicketCall, TicketPoint, TicketWords, State, moves_at, own_count, asks_of, ticket_machine, FoundNext, TriesByTwoLoads, []}
 use Rattle.spin_model.specs.Calls.{Mark}
 use Rattle.spin_world_core.proofs.Shapes.{Knows}
-use Rattle.spin_world_core.proofs.Reached.{numbers_are, calls}
+use Rattle.spin_world_core.proofs.Reached.{seen, numbers_are, calls}
 use Rattle.spin_world.proofs.TicketOwed.{ticket_notes, ticket_facts}
 use Rattle.spin_world_core.specs.Order.{tries_of}
 
@@ -32,8 +31,7 @@ module _ {V : Type 0} (v : V) (first : ℕ) where
 
   pub by_two_loads : (n : ℕ) (past : Schedule TicketCall V) → TriesByTwoLoads (ticket_machine v first) n past
   by_two_loads n past p c l h there asks =
-      let m = ticket_machine v first in
-      let seen = seen_at m n past in
-      let knows = (calls (ticket_facts v first) n past p there).knows in
-      let numbers = numbers_are (ticket_facts v first) n past in
-      let goes = comes (state_at m n past) p c l h seen.plain (seen.span p) knows (cc (numbers)) asks in grind (arith, there, goes)
+      let f = ticket_facts v first in let now = state_at (ticket_machine v first) n past in
+      let seen = seen f n past in let knows = (calls f n past p there).knows in
+      let goes = comes now p c l h seen.plain (seen.span p) knows (cc (numbers_are f n past)) asks in
+      grind (arith, there, goes)

@@ -36,8 +36,7 @@ abbrev pub barrier_memory : Memory BarrierWords
 barrier_memory = two_numbers (λ w. w.count) (λ w. w.generation) (λ k w. record w { count = k }) (λ k w. record w { generation = k })
 
 abbrev pub word_of : BarrierPoint → ℕ
-word_of Arrive = 0
-word_of (Leave g) = 1
+word_of l = elim l [ Arrive ↦ 0 | Leave g ↦ 1 ]
 
 -- what the call does at each point; no arrival is refused
 abbrev pub act_of : ℕ → BarrierPoint → Option Hold → Act BarrierWords BarrierPoint (Answer ℕ)
@@ -48,8 +47,7 @@ abbrev pub BarrierMachine : Type 0
 BarrierMachine = Machine BarrierWords ℕ BarrierCall BarrierPoint (Answer ℕ)
 
 abbrev pub barrier_table : ℕ → Table BarrierWords ℕ BarrierCall BarrierPoint (Answer ℕ)
-barrier_table n =
-    let opening : BarrierWords = record { count = 0; generation = 0 } in
+barrier_table n = let opening : BarrierWords = record { count = 0; generation = 0 } in
     record (usual_table None barrier opening barrier_memory (λ c h. Arrive) (λ c l h. act_of n l h) (λ c h. meets)) {
       owned = false;
       group = n;

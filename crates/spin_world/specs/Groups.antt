@@ -3,9 +3,10 @@
 use Rattle.spin_world_core.specs.Users.{IsCalling}
 use Rattle.spin_world_core.specs.Runs.{state_at}
 use Rattle.spin_world_core.specs.Users.{seen_at}
-use Rattle.std.specs.Prelude.{◌≡◌, ℕ, ◌+◌, ◌/◌, ◌%◌, ◌^◌, ◌↔◌, Bool, true, false, Option, None, List, [], ◌∷◌, max}
-use Rattle.spin_step.specs.Plain.{Change, arrives}
+use Rattle.std.specs.Prelude.{◌≡◌, ℕ, ◌+◌, ◌/◌, ◌%◌, ◌^◌, ◌↔◌, Bool, true, Option, None, List, [], ◌∷◌, max}
+use Rattle.spin_step.specs.Plain.{arrives}
 use Rattle.spin_step.specs.Barriers.{may_leave}
+use Rattle.spin_model.specs.Asks.{is_arrival}
 use Rattle.spin_model.specs.declared.answer.Answer.TheVariants.{Leader, Follower}
 use Rattle.spin_model.specs.declared.place.Hold.{Hold}
 use Rattle.spin_model.specs.declared.schedule.Move.{Move}
@@ -17,10 +18,6 @@ use Rattle.spin_world_core.specs.Runs.{scene, opening, own}
 use Rattle.spin_world_core.specs.Undisturbed.{arrived}
 use Rattle.spin_world_core.specs.Users.{outcome_after, passes, steps_made}
 use Rattle.spin_world.specs.BarrierTable.{BarrierMachine}
-
-abbrev pub is_arrival : Change → Bool
-is_arrival (arrives p) = true
-is_arrival _ = false
 
 abbrev pub Entries : Type 0
 Entries = List (ℕ × Move BarrierCall ℕ)
@@ -43,7 +40,6 @@ pub record InGroups (m : BarrierMachine) (n parties : ℕ) (past : Entries) : Ty
 
 -- The next step of a party that has arrived answers `Follower` exactly if the party's group is full, as far as its generation tells.
 abbrev pub FollowersLeave : BarrierMachine → ℕ → Entries → Type 0
-FollowersLeave m parties past =
-    let seen = seen_at m parties past in
+FollowersLeave m parties past = let seen = seen_at m parties past in
     (p : ℕ) (c : BarrierCall) (l : BarrierPoint) (h : Option Hold) → IsCalling m parties past p c l h → own p (seen.span p) ≡ arrives p ∷ []
     → (outcome_after m parties past p Step ≡ Answered Follower None) ↔ (may_leave seen.plain (arrived p (seen.span p)) ≡ true)

@@ -3,7 +3,7 @@ use Rattle.spin_world_core.specs.Runs.{Schedule}
 use Rattle.spin_world_core.specs.Runs.{state_at}
 use Rattle.spin_world_core.specs.Users.{IsCalling}
 use Rattle.spin_world_core.specs.Users.{seen_at}
-use Rattle.std.specs.Prelude.{◌≡◌, ℕ, ◌⊎◌, Bool, true, false, ◌&&◌, Option, Some, None, is_some, List, [], ◌∷◌, ◌++◌, ◌==◌, if◌then◌else◌, slice_get, not, ◌||◌}
+use Rattle.std.specs.Prelude.{◌≡◌, ℕ, ◌⊎◌, Bool, true, false, Option, Some, None, is_some, List, [], ◌∷◌, ◌++◌, ◌==◌, if◌then◌else◌, slice_get, not, ◌||◌}
 use Rattle.spin_step.specs.Plain.{to_begin, gets, is_complete, Change, is_empty}
 use Rattle.spin_model.specs.declared.answer.Answer.{Answer}
 use Rattle.spin_model.specs.declared.answer.Answer.TheVariants.{Value, NoValue, Failed}
@@ -22,7 +22,7 @@ use Rattle.spin_world_core.specs.Runs.{scene, own}
 use Rattle.spin_world_core.specs.Users.{outcome_after}
 use Rattle.spin_model.specs.Once.{OnceMachine}
 use Rattle.spin_model.specs.declared.once.OnceCall.TheVariants.{Poll}
-use Rattle.std.specs.List.{list_any}
+use Rattle.std.specs.List.{list_all, list_any}
 
 abbrev pub Entries : Type 0 → Type 0
 Entries V = Schedule (OnceCall V) V
@@ -33,13 +33,11 @@ once_after m n past = state_at m n past
 
 -- by this move the owner does not replace the value
 abbrev pub keeps_value : {C V : Type 0} → Move C V → Bool
-keeps_value (OwnerSet v) = false
-keeps_value _ = true
+keeps_value move = elim move [ OwnerSet v ↦ false | _ ↦ true ]
 
 -- by no move of these entries does the owner replace the value
 abbrev pub is_shared : {C V : Type 0} → Schedule C V → Bool
-is_shared [] = true
-is_shared (e ∷ es) = keeps_value e.1 && is_shared es
+is_shared es = list_all (λ e. keeps_value e.1) es
 
 -- There is a value exactly if the phase is complete. The value stays the same until the owner replaces it.
 pub record ValueStays {V : Type 0} (m : OnceMachine V) (n : ℕ) (past further : Entries V) : Type 0 where
@@ -56,8 +54,7 @@ pub record RunsClosure {V : Type 0} (m : OnceMachine V) (n : ℕ) (past : Entrie
 
 -- the answer of a call whose closure ends; the closure made this value, or failed
 abbrev pub answer_of : {V : Type 0} → Option V → Answer V
-answer_of (Some v) = Value v
-answer_of None = Failed
+answer_of made = elim made [ Some v ↦ Value v | None ↦ Failed ]
 
 -- At most one party runs a closure, and none does once there is a value. The next step of a party that runs its closure ends the closure.
 pub record OneRuns {V : Type 0} (m : OnceMachine V) (n : ℕ) (past : Entries V) : Type 0 where
@@ -70,8 +67,7 @@ abbrev pub wants_value : Asked → Bool
 wants_value what = not (is_empty (own_steps (what.answers gives_value) 0))
 
 abbrev pub is_begun : List Change → Bool
-is_begun [] = false
-is_begun (c ∷ cs) = is_for to_begin c
+is_begun changes = elim changes [ [] ↦ false | c ∷ cs ↦ is_for to_begin c ]
 
 -- the call may run a closure
 abbrev pub has_closure : Asked → Bool

@@ -46,8 +46,7 @@ pub record DowngradesAtOnce {V : Type 0} (m : RwMachine V) (n : ℕ) (past : Sch
   pub later : KeepsWritersOut p (seen_at m n (past ++ (p, Step) ∷ [])).plain
 
 abbrev pub Downgrades : {V : Type 0} → RwMachine V → ℕ → Schedule RwCall V → Type 0
-Downgrades m n past =
-    (p : ℕ) (c : RwCall) (l : RwPoint) (h : Option Hold) (held : Hold) → less c ≡ Some held
+Downgrades m n past = (p : ℕ) (c : RwCall) (l : RwPoint) (h : Option Hold) (held : Hold) → less c ≡ Some held
     → IsCalling m n past p c l h → DowngradesAtOnce m n past p held
 
 -- how many readers release in the events of these entries
@@ -68,11 +67,9 @@ AllGone m n past further =
 -- upgrade is open exactly if all readers that held after `past` have released.
 pub record OpensByReleases {V : Type 0} (m : RwMachine V) (n : ℕ) (past further : Schedule RwCall V) (p : ℕ) : Type 0 where
   -- the number of readers never grows, and each release reduces it by one
-  pub readers :
-      count_kind reading (seen_at m n (past ++ further)).plain.holders + readers_gone m (seen_at m n past) further
-      ≡ count_kind reading (seen_at m n past).plain.holders
-  pub opens :
-      (is_open_to (seen_at m n (past ++ further)).plain p to_upgrade_asked ≡ true) ↔ AllGone m n past further
+  pub readers : count_kind reading (seen_at m n (past ++ further)).plain.holders
+      + readers_gone m (seen_at m n past) further ≡ count_kind reading (seen_at m n past).plain.holders
+  pub opens : (is_open_to (seen_at m n (past ++ further)).plain p to_upgrade_asked ≡ true) ↔ AllGone m n past further
   -- exactly if all those readers have released, the next step of the party's upgrade answers `Granted`
   pub granted : (c : RwCall) (l : RwPoint) (h : Option Hold) → IsCalling m n (past ++ further) p c l h
       → (outcome_after m n (past ++ further) p Step ≡ Answered Granted None) ↔ AllGone m n past further

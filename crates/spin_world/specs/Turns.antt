@@ -25,8 +25,7 @@ use Rattle.spin_world_core.specs.Order.{tries_of}
 
 -- by this plain step the first ticket leaves the queue
 abbrev pub serves_one : Change → Bool
-serves_one (serves p) = true
-serves_one _ = false
+serves_one change = elim change [ serves p ↦ true | _ ↦ false ]
 
 -- how many tickets leave the queue in the events of these entries
 abbrev pub tickets_gone : {W V C L A : Type 0} → Machine W V C L A → Seen W V C L → Schedule C V → ℕ
@@ -63,8 +62,7 @@ FoundNext p k span = AnyOf (λ m. (m.party ≡ p) × (next_word m.before ≡ k))
 -- A try does not end at its first step. It does not end at its second step if the next number that it found is served
 -- now, and is below the limit of the numbers.
 abbrev pub TriesByTwoLoads : {V : Type 0} → TicketMachine V → ℕ → Schedule TicketCall V → Type 0
-TriesByTwoLoads m n past =
-    let seen = seen_at m n past in
+TriesByTwoLoads m n past = let seen = seen_at m n past in
     (p : ℕ) (c : TicketCall) (l : TicketPoint) (h : Option Hold) → IsCalling m n past p c l h → tries_of (m.asks c h) ≡ Some to_take_and_enter
     → (own_count p (seen.span p) ≡ 0 → outcome_after m n past p Step ≡ GoingOn)
     × (own_count p (seen.span p) ≡ 1 → FoundNext p (serving_word seen.plain) (seen.span p) → serving_word seen.plain < ticket_limit → outcome_after m n past p Step ≡ GoingOn)
