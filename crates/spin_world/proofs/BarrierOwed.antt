@@ -77,8 +77,8 @@ module _ (n : ℕ) where
       grind (arith, full, at.knows.1, waits, follows_right p (arrived p span) (mark_of p None look s ∷ span) span at.knows.1.made)
   owes p c (Leave g) (Some h) s w span = tt
 
-  barrier_pays : Pays (barrier_notes n)
-  barrier_pays = record {
+  pub barrier_facts : Plays (barrier_machine n) (barrier_notes n)
+  barrier_facts = plays_of (record {
     computes = grind arith;
     operates = grind arith;
     shape_first = record { no_holders = refl; group = refl };
@@ -89,7 +89,4 @@ module _ (n : ℕ) where
         let on = λ (g : ℕ). waits-on g p q s step r span (grind arith) belongs in grind (arith, on);
     owes = owes;
     soon = grind arith;
-  }
-
-  pub barrier_facts : Plays (barrier_machine n) (barrier_notes n)
-  barrier_facts = plays_of barrier_pays refl
+  }) refl

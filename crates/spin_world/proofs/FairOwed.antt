@@ -4,7 +4,7 @@ use Rattle.spin_model.specs.Operations.{sets_lowest_bit}
 use Rattle.spin_world_core.proofs.Lists.{eqb_self}
 use Rattle.spin_world_core.proofs.Steps.{Plays}
 use Rattle.spin_world_core.proofs.Filled.{plays_of}
-use Rattle.spin_world.proofs.Registering.{MayBeBlind, blind-other, allowed, none_left, few_to_load, few_to_register, Looking, Loading, Registering, none_yet, starving-other, looking-other, loading-other, registering-other, goes_on, missed, looked_free, looked_held, looked_late, loaded, retried, full, registered, looked_starving}
+use Rattle.spin_world.proofs.Registering.{MayBeBlind, none_left, few_to_load, few_to_register, Looking, Loading, Registering, none_yet, starving-other, looking-other, loading-other, registering-other, goes_on, missed, looked_free, looked_held, looked_late, loaded, retried, full, registered, looked_starving}
 use Rattle.spin_world.proofs.FairKnowledge.{IsFair, comes, is_starving, is_starving_still, set_by_holder, flag_clear, word_starved, not_there}
 
 -- the row of a starver that waits for the lock, after these plain steps
@@ -112,8 +112,8 @@ module _ {V : Type 0} (v : V) (cap patience : ℕ) where
     grind (arith, held p s w, looked_free patience p s span n, nothing_left p, eqb_self p),
   )
   owes p Lock Load None s w span = let looks = full patience p s span (few_to_load p) plain refl in
-      let goes = allowed patience p s span None plain in
-      grind (arith, starve_means p s w, loaded patience p s span w, λ (ms : List Mark). registers_in_time p ms w s, looks, goes, nothing_left p)
+      let in_time = λ (ms : List Mark). registers_in_time p ms w s in
+      grind (arith, starve_means p s w, loaded patience p s span w, in_time, looks, nothing_left p)
   owes p Lock (Register n) None s w span = λ at.
       let looks = full patience p s span (few_to_register p s n) again refl refl in (
         starve_means p s w (cc (at.encodes)) at.shape,
@@ -147,12 +147,12 @@ module _ {V : Type 0} (v : V) (cap patience : ℕ) where
   others : (p q : ℕ) (c : FairCall) (l : FairPoint) (s : Plain) (step : Option Change) (r : StepKind) (span : List Mark) → (q ≡ p → ⊥) → KnowsAt patience c l p s span → KnowsAt patience c l p (apply_some s step) (mark_of q step r s ∷ span)
   others p q Lock (Register n) s step r span ne knows = registering-other patience p q s step r span ne n knows
   others p q Lock l s step r span ne knows = let starving = starving-other patience p q s step r span ne in
-      let blind = blind-other patience p q s step r span ne in
-      grind (arith, knows, looking-other patience p q s step r span ne, loading-other patience p q s step r span ne, starving, blind)
+      let loading = loading-other patience p q s step r span ne in
+      grind (arith, knows, looking-other patience p q s step r span ne, loading, starving)
   others p q _ _ s step r span ne knows = tt
 
-  fair_pays : Pays (fair_notes v cap patience)
-  fair_pays = record {
+  pub fair_facts : Plays (fair_machine v cap patience) (fair_notes v cap patience)
+  fair_facts = plays_of (record {
     computes = grind arith;
     operates = grind arith;
     shape_first = record { one = omega arith; queue = refl; room = refl };
@@ -162,7 +162,4 @@ module _ {V : Type 0} (v : V) (cap patience : ℕ) where
     others = λ p q c l h s step r span ne shape may belongs knows. others p q c l s step r span ne knows;
     owes = owes;
     soon = soon;
-  }
-
-  pub fair_facts : Plays (fair_machine v cap patience) (fair_notes v cap patience)
-  fair_facts = plays_of fair_pays refl
+  }) refl

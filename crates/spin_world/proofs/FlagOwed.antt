@@ -22,8 +22,8 @@ module _ {V : Type 0} (v : V) where
   owes p Release l h s w span = grind (arith, flag_unlock-gives s p writing w, is_holder-from_entries p writing s.holders, length-held p writing s.holders)
   owes p c l h s w span = grind (arith, flag_lock-grants s p w)
 
-  flag_pays : Pays (flag_notes v)
-  flag_pays = record {
+  pub flag_facts : Plays (flag_machine v) (flag_notes v)
+  flag_facts = plays_of (record {
     computes = grind arith;
     operates = grind arith;
     -- an exchange that fails finds the flag set, and leaves it set
@@ -34,7 +34,4 @@ module _ {V : Type 0} (v : V) where
     others = λ p q c l h s step r span ne shape may belongs knows. tt;
     owes = owes;
     soon = λ p c l h s w span. grind (arith, flag_lock-grants s p w);
-  }
-
-  pub flag_facts : Plays (flag_machine v) (flag_notes v)
-  flag_facts = plays_of flag_pays refl
+  }) refl

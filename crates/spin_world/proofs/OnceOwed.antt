@@ -34,8 +34,8 @@ abbrev pub once_notes : {V : Type 0} (value : Option V) → Notes (once_table va
 once_notes value = record { Shape = λ s. IsFree s; point = point_of; Knows = λ c l h p s span. RunsAt l p s span }
 
 module _ {V : Type 0} (value : Option V) where
-  once_pays : PaysWith (once_notes value) brings_of
-  once_pays = record {
+  pub once_facts : Plays (once_machine value) (once_notes value)
+  once_facts = plays_with (record {
     pays = record {
       computes = grind arith;
       operates = grind arith;
@@ -54,7 +54,4 @@ module _ {V : Type 0} (value : Option V) where
     none_holds = grind arith;
     completes_right = grind arith;
     tells = grind arith;
-  }
-
-  pub once_facts : Plays (once_machine value) (once_notes value)
-  once_facts = plays_with once_pays
+  })

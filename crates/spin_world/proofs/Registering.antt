@@ -67,9 +67,6 @@ none_yet {p} {n} = grind (arith, no_split)
 
 -- a step of another party
 module _ (patience p q : ℕ) (s : Plain) (step : Option Change) (r : StepKind) (span : List Mark) (ne : q ≡ p → ⊥) where
-  pub blind-other : MayBeBlind patience p span → MayBeBlind patience p (mark_of q step r s ∷ span)
-  blind-other old = grind arith
-
   pub starving-other : RegistersInTime none_left p patience span → RegistersInTime none_left p patience (mark_of q step r s ∷ span)
   starving-other old = later (grind (arith, ne_eqb q p ne)) old
 
@@ -93,9 +90,6 @@ module _ (patience p : ℕ) (s : Plain) (span : List Mark) where
   -- the step is not blind, or is blind when it may be
   abbrev pub IsAllowed : Option Change → StepKind → Type 0
   IsAllowed step r = (not (is_blind (mark_of p step r s)) || may_be_blind p patience span) ≡ true
-
-  pub allowed : (step : Option Change) (r : StepKind) → MayBeBlind patience p span → IsAllowed step r
-  allowed step r may = grind arith
 
   pub goes_on : (step : Option Change) (r : StepKind) → is_quiet step r ≡ true → IsAllowed step r
       → RegistersInTime none_left p patience span → RegistersInTime none_left p patience (mark_of p step r s ∷ span)

@@ -129,8 +129,8 @@ module _ {V : Type 0} (v : V) (cap : ℕ) where
       grind (arith, writes_nothing p s, only_asking-word s p w, only_upgradable-word s p w, one_of_each s, holder_by p upgradable s, holder_by p asking s)
   soon p _ _ _ s w span = tt
 
-  rw_pays : Pays (rw_notes v cap)
-  rw_pays = record {
+  pub rw_facts : Plays (rw_machine v cap) (rw_notes v cap)
+  rw_facts = plays_of (record {
     computes = grind arith;
     operates = operates_one (rw_table v cap) refl;
     shape_first = record { no_queue = refl; room = refl; few = omega arith };
@@ -140,7 +140,4 @@ module _ {V : Type 0} (v : V) (cap : ℕ) where
     others = λ p q c l h s step r span ne shape may belongs knows. tt;
     owes = owes;
     soon = soon;
-  }
-
-  pub rw_facts : Plays (rw_machine v cap) (rw_notes v cap)
-  rw_facts = plays_of rw_pays refl
+  }) refl

@@ -35,8 +35,7 @@ ticket_notes v first = record { Shape = λ s. Queue s; point = point_of; Knows =
 
 -- a party that waits with a ticket has not entered yet
 not_entered : (p t : ℕ) (ts : List Queued) → filter (λ t. t.party == p) ts ≡ queued p t false ∷ [] → is_first p true ts ≡ false
-not_entered p t [] mine = refl
-not_entered p t (k ∷ ts) mine = grind arith
+not_entered p t ts mine = grind arith
 
 module _ {V : Type 0} (v : V) (first : ℕ) where
   abbrev IsMeant : ℕ → Plain → Change → (ℕ → TicketWords) → Option ℕ → Type 0
@@ -66,8 +65,8 @@ module _ {V : Type 0} (v : V) (first : ℕ) where
   owes p IsLocked (LookNext k) None s w span = grind (arith, look_right (w.next == k) p k s span)
   owes p c l h s w span = grind (arith, take_means p s w, enter_means p s w, serve_means p s w, eqb_self p)
 
-  ticket_pays : Pays (ticket_notes v first)
-  ticket_pays = record {
+  pub ticket_facts : Plays (ticket_machine v first) (ticket_notes v first)
+  ticket_facts = plays_of (record {
     computes = grind arith;
     operates = grind arith;
     shape_first = record { no_holders = refl; numbered = (omega arith, tt); in_range = λ some. absurd (cc (some)) };
@@ -80,7 +79,4 @@ module _ {V : Type 0} (v : V) (first : ℕ) where
     -- If nobody disturbs the call, the party takes the next ticket, at once or after a look. It enters if its number
     -- is served.
     soon = λ p c l h s w span. grind (arith, enters_in_turn s p w.serving, λ (t : ℕ). not_entered p t s.tickets);
-  }
-
-  pub ticket_facts : Plays (ticket_machine v first) (ticket_notes v first)
-  ticket_facts = plays_of ticket_pays refl
+  }) refl
