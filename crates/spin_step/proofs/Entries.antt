@@ -27,13 +27,10 @@ others-without_starver : (p q : ℕ) (rs : List ℕ) → (p ≡ q → ⊥) → f
 others-without_starver p q [] ne = refl
 others-without_starver p q (r ∷ rs) ne = grind (arith, others-without_starver p q rs)
 
-others-given : (s : Plain) (p : ℕ) (e : Effect) (q : ℕ) → (p ≡ q → ⊥) → Lets s p e → entries q (given s p e) ≡ entries q s
-others-given s p e q ne let_in = grind (arith, filter-more, others-with_kind)
-
 -- an open step of another party does not change the entries of q
 pub entries-others : (s : Plain) (c : Change) (q : ℕ) → (party_of c ≡ q → ⊥) → is_open s c ≡ true → entries q (apply s c) ≡ entries q s
-entries-others s (gets p ask) q ne may = others-given s p (effect ask) q ne (lets s p ask may)
-entries-others s c q ne may = grind (arith, others-without_holder, others-with_kind, others-without_starver)
+entries-others s c q ne may =
+    grind (arith, filter-more, others-without_holder, others-with_kind, others-without_starver)
 
 pub entries-other : (s : Plain) (p q : ℕ) (step : Option Change) → (p ≡ q → ⊥) → IsOpenStep s p step → entries q (apply_some s step) ≡ entries q s
 entries-other s p q None ne may = refl
@@ -53,12 +50,8 @@ own-without_starver : (p : ℕ) (rs : List ℕ) → filter (λ r. r == p) (witho
 own-without_starver p [] = refl
 own-without_starver p (r ∷ rs) = grind (arith, own-without_starver p rs)
 
-own-given : (s : Plain) (p : ℕ) (ask : Ask) → Lets s p (effect ask) → entries p (apply s (gets p ask)) ≡ entries_after s (Some (gets p ask)) (entries p s)
-own-given s p ask let_in = grind (arith, filter-more, own-with_kind)
-
 entries-owns : (s : Plain) (c : Change) → is_open s c ≡ true → entries (party_of c) (apply s c) ≡ entries_after s (Some c) (entries (party_of c) s)
-entries-owns s (gets p ask) may = own-given s p ask (lets s p ask may)
-entries-owns s c may = grind (arith, own-without_holder, own-with_kind, own-without_starver)
+entries-owns s c may = grind (arith, filter-more, own-without_holder, own-with_kind, own-without_starver)
 
 -- an open step of the party p, or none, changes its entries as if it were alone
 pub entries-own : (s : Plain) (p : ℕ) (step : Option Change) → IsOpenStep s p step → entries p (apply_some s step) ≡ entries_after s step (entries p s)

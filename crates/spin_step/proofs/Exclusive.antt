@@ -32,11 +32,7 @@ room_to_come k s may = grind arith
 -- the first has entered.
 pub exclusive-like : (s t : Plain) → ((f : Kind → ℕ) → sum_kinds f t.holders ≡ sum_kinds f s.holders) → first_alone_entered t.tickets ≡ true
     → IsExclusive s → IsExclusive t
-exclusive-like s t same e x = record {
-  writer = λ some. omega (arith, same (λ k. 1), length_by, x.writer (omega (arith, same (one_of writing), some)));
-  one_upgradable = omega (arith, same upgrader, x.one_upgradable);
-  one_entered = e;
-}
+exclusive-like s t same e x = grind (arith, x, same (λ k. 1), same (one_of writing), same upgrader, length_by)
 
 -- a lock without holders and tickets is exclusive
 pub exclusive-free : (s : Plain) → s.holders ≡ [] → s.tickets ≡ [] → IsExclusive s
@@ -48,25 +44,20 @@ alone s hs x one = record { writer = λ some. one; one_upgradable = omega (arith
 
 -- a lock stays exclusive if a party comes that every holder admits
 come : (s : Plain) (k : Kind) (p : ℕ) → IsExclusive s → count_against k s.holders ≡ 0 → IsExclusive (record s { holders = s.holders ++ holder p k ∷ [] })
-come s k p x none = let hs = s.holders in let others = by_kinds (against k) hs in record {
-  writer = grind (arith, others, all_kinds hs, sum-more (one_of writing) hs p k, length-append hs (holder p k ∷ []));
-  one_upgradable = grind (arith, others, by_kinds upgrader hs, sum-more upgrader hs p k);
-  one_entered = x.one_entered;
-}
+come s k p x none =
+    let hs = s.holders in let others = by_kinds (against k) hs in let more = λ (f : Kind → ℕ). sum-more f hs p k in
+    grind (arith, x, others, all_kinds hs, by_kinds upgrader hs, more (one_of writing), more upgrader, length-append)
 
 released : (s : Plain) (p : ℕ) (k : Kind) → IsExclusive s → is_holder p k s.holders ≡ true → IsExclusive (apply s (releases p k))
-released s p k x found = let hs = s.holders in let fewer = length-without_holder p k hs found in record {
-  writer = grind (arith, x.writer, sum-less (one_of writing) p k hs found, fewer, all_kinds (without_holder p k hs));
-  one_upgradable = grind (arith, sum-less upgrader p k hs found);
-  one_entered = x.one_entered;
-}
+released s p k x found =
+    let hs = s.holders in let fewer = λ (f : Kind → ℕ). sum-less f p k hs found in
+    grind (arith, x, fewer (one_of writing), fewer upgrader, length-without_holder, all_kinds (without_holder p k hs))
 
 turned : (s : Plain) (p : ℕ) (j k : Kind) → IsExclusive s → is_holder p j s.holders ≡ true → may_turn j k ≡ true → IsExclusive (apply s (turns p j k))
-turned s p j k x found may = let hs = s.holders in let writes = sum-less (one_of writing) p j hs found in record {
-  writer = grind (arith, x.writer, sum-turned (one_of writing) p j k hs found, writes, length-with_kind p j k hs);
-  one_upgradable = grind (arith, x.writer, writes, by_kinds upgrader hs, all_kinds hs, sum-turned upgrader p j k hs);
-  one_entered = x.one_entered;
-}
+turned s p j k x found may =
+    let hs = s.holders in let writes = sum-less (one_of writing) p j hs found in
+    let after = λ (f : Kind → ℕ). sum-turned f p j k hs found in let all = all_kinds hs in
+    grind (arith, x, after (one_of writing), after upgrader, writes, length-with_kind, by_kinds upgrader hs, all)
 
 none_entered-more : (ts : List Ticket) (p n : ℕ) → none_entered ts ≡ true → none_entered (ts ++ ticket p n false ∷ []) ≡ true
 none_entered-more [] p n e = refl

@@ -10,12 +10,6 @@ use Rattle.spin_step.proofs.Holders.{length-without_holder}
 use Rattle.spin_step.proofs.Starvers.{length-without_starver}
 use Rattle.spin_step.proofs.Tickets.{numbered-given, numbered-serves}
 
-numbered-kept : (s : Plain) (c : Change) → Numbered s → Numbered (apply s c)
-numbered-kept s c numbered = grind (arith, numbered-given, numbered-serves)
-
-within-kept : (s : Plain) (c : Change) → s.next ≤ ticket_limit → is_open s c ≡ true → (apply s c).next ≤ ticket_limit
-within-kept s c within may = grind arith
-
 -- there are not more holders, or starvers, than the cap allows
 abbrev Fits : Plain → Type 0
 Fits s = (length s.holders ≤ max 1 s.cap) × (length s.starvers ≤ s.cap)
@@ -29,7 +23,7 @@ cap-kept s step = grind arith
 
 pub in_order-kept : (s : Plain) (p : ℕ) (step : Option Change) → IsInOrder s → IsOpenStep s p step → IsInOrder (apply_some s step)
 in_order-kept s p step x may =
-    grind (arith, x, exclusive-kept s p step x.exclusive may, numbered-kept s, within-kept s, fits-kept s)
+    grind (arith, x, exclusive-kept s p step x.exclusive may, numbered-given s, numbered-serves s, fits-kept s)
 
 pub in_order-fresh : (cap group first : ℕ) → first ≤ ticket_limit → IsInOrder (fresh cap group first)
 in_order-fresh cap group first within = grind (arith, exclusive-free (fresh cap group first))

@@ -51,11 +51,6 @@ numbered-more k (t ∷ ts) p n b numbers e = (numbers.0, numbered-more (suc k) t
 pub serving-taken : (s : Plain) (p : ℕ) (b : Bool) → Numbered s → (s.next + 1) - length (s.tickets ++ ticket p s.next b ∷ []) ≡ serving_word s
 serving-taken s p b numbered = omega (arith, length-append s.tickets (ticket p s.next b ∷ []), numbered.0)
 
--- a party that takes the next number stands at the end of the queue
-numbered-taken : (s : Plain) (p : ℕ) (b : Bool) → Numbered s → Numbered (record s { tickets = s.tickets ++ ticket p s.next b ∷ []; next = s.next + 1 })
-numbered-taken s p b numbered =
-    grind (arith, length-append, serving-taken s p b numbered, numbered-more (serving_word s) s.tickets p s.next b)
-
 pub serving-entered : (s : Plain) → s.next - length (with_first_entered s.tickets) ≡ serving_word s
 serving-entered s = grind arith
 
@@ -64,7 +59,8 @@ pub serving-gone : (n : ℕ) (ts : List Ticket) → length ts ≤ n → is_empty
 serving-gone n ts within some = grind arith
 
 pub numbered-given : (s : Plain) (p : ℕ) (e : Effect) → Numbered s → Numbered (given s p e)
-numbered-given s p e numbered = grind (arith, numbered-taken s p)
+numbered-given s p e numbered =
+    grind (arith, length-append, serving-taken s p, numbered-more (serving_word s) s.tickets p s.next)
 
 pub numbered-serves : (s : Plain) (p : ℕ) → Numbered s → Numbered (apply s (serves p))
 numbered-serves s p numbered = grind arith

@@ -30,16 +30,7 @@ pub record Arrival (s : Plain) (n : ℕ) (a : (ℕ × ℕ) × Bool) (generation 
 
 pub barrier_arrive-words : (s : Plain) (n count generation : ℕ) → IsBarrier s n count generation → Arrival s n (arrived n count generation) generation
 barrier_arrive-words s n count generation is = let g : ℕ = max s.group 1 in
-    let below = mod-lt s.arrivals (some-group s) in
-    let one = within s.arrivals g in let last = fills s.arrivals g in record {
-      words = record {
-        group = is.group;
-        counts = grind (arith, is.group, is.counts, one, last);
-        generations = grind (arith, is.group, is.counts, is.generations, one, last);
-      };
-      leads = grind (arith, is.group, is.counts, one, last);
-      stays = grind (arith, is.group, is.counts, is.generations, one, last);
-    }
+    grind (arith, is, mod-lt s.arrivals (some-group s), within s.arrivals g, fills s.arrivals g)
 
 quotients-grow : (j k g : ℕ) → 0 < g → j ≤ k → j / g ≤ k / g
 quotients-grow j k g some le = le-div (j / g) k g some (omega (arith, div-mul-le_self j g, le))

@@ -25,8 +25,7 @@ counts s word one is =
 
 -- the word tells whether the lock has room for a reader: it shows whether a holder lets none in, and how many read
 pub read-word : (s : Plain) (word cap : ℕ) → OneOfEach s → s.cap ≡ min cap reader_limit → rw_word s ≡ word → may_come reading s ≡ has_room reading word cap
-read-word s word cap one room is =
-    let c = counts s word one is in let others = by_kinds (against reading) s.holders in grind arith
+read-word s word cap one room is = grind (arith, counts s word one is, by_kinds (against reading) s.holders)
 
 pub upgradable_read-word : (s : Plain) (word cap : ℕ) → OneOfEach s → s.cap ≡ min cap reader_limit → rw_word s ≡ word → may_come upgradable s ≡ has_room upgradable word cap
 upgradable_read-word s word cap one room is =
@@ -71,10 +70,9 @@ writer-word s p alone found =
 
 -- so the word shows each holder
 pub tells-holder : (s : Plain) (p : ℕ) (k : Kind) → IsExclusive s → length s.holders ≤ reader_limit → is_holder p k s.holders ≡ true → tells k (rw_word s) ≡ true
-tells-holder s p reading alone few found = grind (arith, reader-word s p found)
-tells-holder s p upgradable alone few found = grind (arith, upgradable-word s p alone few found)
-tells-holder s p asking alone few found = grind (arith, beside_asking s p alone found, by_kinds weight s.holders)
-tells-holder s p writing alone few found = grind (arith, writer-word s p alone found)
+tells-holder s p k alone few found =
+    let asks = beside_asking s p alone in let weighs = by_kinds weight s.holders in
+    grind (arith, reader-word s p, upgradable-word s p alone few, asks, weighs, writer-word s p alone)
 
 -- If all holders read:
 

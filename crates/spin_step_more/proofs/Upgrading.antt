@@ -11,13 +11,10 @@ use Rattle.spin_step.proofs.Holders.{length-without_holder}
 use Rattle.spin_step.proofs.Sums.{against, one_of, by_kinds, all_kinds, sum-less, length-with_kind}
 use Rattle.spin_step_more.proofs.Readers.{beside_asking, only-length}
 
--- no other party may come to hold
-nobody_comes : (s : Plain) (p q : ℕ) (k : Kind) → IsExclusive s → is_holder p asking s.holders ≡ true → Lets s q (comes k) → ⊥
-nobody_comes s p q k alone found let_in = grind (arith, beside_asking s p alone found, all_kinds s.holders, by_kinds (against k) s.holders)
-
 -- if the asking reader still asks afterwards, a party that gets something does not change the number of readers
 readers_stay : (s : Plain) (p q : ℕ) (e : Effect) → IsExclusive s → is_holder p asking s.holders ≡ true → Lets s q e → is_holder p asking (given s q e).holders ≡ true → count_kind reading (given s q e).holders ≡ count_kind reading s.holders
-readers_stay s p q (comes k) alone found let_in stays = absurd (nobody_comes s p q k alone found let_in)
+readers_stay s p q (comes k) alone found let_in stays =
+    grind (arith, beside_asking s p alone found, all_kinds s.holders, by_kinds (against k) s.holders)
 readers_stay s p q (becomes j k) alone found let_in stays = let after = with_kind q j k s.holders in
     let fewer = sum-less (one_of asking) p asking after stays in
     grind (arith, all_kinds s.holders, beside_asking s p alone found, length-with_kind q j k s.holders, all_kinds after)
