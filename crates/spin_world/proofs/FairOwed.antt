@@ -68,7 +68,7 @@ module _ {V : Type 0} (v : V) (cap patience : ℕ) where
     starve_means = grind (arith, fair_starve-grants s p w cap shape.one shape.room word, shape)
 
     lock_fair_means : entries p s ≡ entries_at p starves → IsMeant p s (gets p to_lock_starving_alone) (lock_fair w)
-    lock_fair_means mine = grind (arith, fair_lock_fair-grants s p w shape.one (is_starving p s mine) word, comes cap p s shape)
+    lock_fair_means mine = grind (arith, fair_lock_fair-grants s p w, is_starving p s mine, comes cap p s shape)
 
     lock_starved_means : entries p s ≡ entries_at p starves → IsMeant p s (gets p to_lock_starving) (tried sets_lowest_bit w)
     lock_starved_means mine = grind (arith, fair_lock_starved-grants s p w shape.one (is_starving p s mine) word, comes cap p s shape)
@@ -79,15 +79,8 @@ module _ {V : Type 0} (v : V) (cap patience : ℕ) where
         grind (arith, word, shape, length-without_starver p s.starvers found, fair_unstarve-gives s p w word found)
 
     unlock_means : entries p s ≡ entries_at p (holds writing) → (is_set w ≡ true) × IsMeant p s (releases p writing) (Some (w - 1))
-    unlock_means mine = let found = is_holder-from_entries p writing s.holders (ap (λ (e : Entries). e.holders) mine) in
-        grind (arith, set_by_holder cap p w s shape word found, fair_unlock-gives s p writing w word found, shape)
-
-    -- if nobody holds or starves, a newcomer finds the word 0
-    free_word : (is_empty s.holders && is_empty s.starvers) ≡ true → w ≡ 0
-    free_word free = grind (arith, word, empty_is s.holders, empty_is s.starvers)
-
-    clear_word : (is_starver p s.starvers && is_empty s.holders) ≡ true → w % 2 ≡ 0
-    clear_word free = grind (arith, flag_clear, and_parts)
+    unlock_means mine =
+        grind (arith, is_holder-from_entries p, set_by_holder cap p w s shape, fair_unlock-gives s p writing w, shape)
 
   -- a call that may starve has steps left in which it registers in time
   abbrev InTime : ℕ → List Mark → Type 0
@@ -140,8 +133,8 @@ module _ {V : Type 0} (v : V) (cap patience : ℕ) where
   -- If nobody disturbs the call, its exchange acquires a free lock, at once or after a look. A party that has begun to
   -- register then registers, gets the lock, and stops starving.
   soon : SoonAll (fair_notes v cap patience)
-  soon p Lock l h s w span = grind (arith, free_word p s w, clear_word p s w, not_there p s)
-  soon p StarverLock l h s w span = grind (arith, clear_word p s w)
+  soon p Lock l h s w span = grind (arith, empty_is s.holders, empty_is s.starvers, flag_clear w s, not_there p s)
+  soon p StarverLock l h s w span = grind (arith, flag_clear w s)
   soon p _ _ _ s w span = tt
 
   others : (p q : ℕ) (c : FairCall) (l : FairPoint) (s : Plain) (step : Option Change) (r : StepKind) (span : List Mark) → (q ≡ p → ⊥) → KnowsAt patience c l p s span → KnowsAt patience c l p (apply_some s step) (mark_of q step r s ∷ span)

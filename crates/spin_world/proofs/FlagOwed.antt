@@ -18,10 +18,6 @@ abbrev pub flag_notes : {V : Type 0} (v : V) → Notes (flag_table v)
 flag_notes v = record { Shape = λ s. s.tickets ≡ []; point = λ c l h. starts (begin_of (flag_table v) c h); Knows = λ c l h p s span. Unit {0} }
 
 module _ {V : Type 0} (v : V) where
-  owes : OwesAll (flag_notes v)
-  owes p Release l h s w span = grind (arith, flag_unlock-gives s p writing w, is_holder-from_entries p writing s.holders, length-held p writing s.holders)
-  owes p c l h s w span = grind (arith, flag_lock-grants s p w)
-
   pub flag_facts : Plays (flag_machine v) (flag_notes v)
   flag_facts = plays_of (record {
     computes = grind arith;
@@ -32,6 +28,8 @@ module _ {V : Type 0} (v : V) where
     calls = λ c h. (0, grind arith);
     begins = grind arith;
     others = λ p q c l h s step r span ne shape may belongs knows. tt;
-    owes = owes;
+    owes = λ p c l h s w span.
+        let found = is_holder-from_entries p writing s.holders in
+        grind (arith, flag_lock-grants s p w, flag_unlock-gives s p writing w, found, length-held p writing s.holders);
     soon = λ p c l h s w span. grind (arith, flag_lock-grants s p w);
   }) refl

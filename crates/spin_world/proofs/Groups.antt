@@ -38,13 +38,11 @@ module _ (n : ℕ) where
       let state = state-seen_at m parties past in
       let is = is_barrier n seen.plain seen.state.words here.encodes here.shape in
       let many : seen.plain.arrivals ≡ arrivals m parties past = omega (arith, counted (opening m parties) past (good_first f parties)) in
-      let group : max seen.plain.group 1 ≡ max n 1 = ap (λ k. max k 1) is.group in
-      let words : (state_at m parties past).words ≡ seen.state.words = grind arith in
       let leading : leads n seen.state.words ≡ (((arrivals m parties past + 1) % max n 1) == 0) =
-      grind (arith, (barrier_arrive-words seen.plain n seen.state.words.count seen.state.words.generation is).leads, group, many) in
+      grind (arith, (barrier_arrive-words seen.plain n _ _ is).leads, is.group, many) in
       record {
-        count = grind (arith, words, is.counts, group, many);
-        generation = grind (arith, words, is.generations, group, many);
+        count = grind (arith, state, is.counts, is.group, many);
+        generation = grind (arith, state, is.generations, is.group, many);
         leads = λ p. rw (← outcome-seen_at m parties past p Step) (leads_at seen.state p ((arrivals m parties past + 1) % max n 1) _ leading);
       }
 
@@ -53,9 +51,8 @@ module _ (n : ℕ) where
       → Invariant f seen → slice_get seen.state.seats p ≡ Some (Calling c l h) → own p (seen.span p) ≡ arrives p ∷ []
       → ((happens m seen.state p Step).outcome ≡ Answered Follower None) ↔ (may_leave seen.plain (arrived p (seen.span p)) ≡ true)
   leaves_at seen p c l h good there has = let is = is_barrier n seen.plain seen.state.words good.encodes good.shape in
-      let knows = (in_call f p good there).knows in
-      let tells = λ (g : ℕ). barrier_may_leave-tells seen.plain (arrived p (seen.span p)) n seen.state.words.count seen.state.words.generation g is in
-      grind (arith, there, knows, tells)
+      let tells = λ (g : ℕ). barrier_may_leave-tells seen.plain (arrived p (seen.span p)) n _ _ g is in
+      grind (arith, there, (in_call f p good there).knows, tells)
 
   pub followers_leave : (parties : ℕ) (past : Entries) → FollowersLeave m parties past
   followers_leave parties past = λ p c l h there has. let state = state-seen_at m parties past in

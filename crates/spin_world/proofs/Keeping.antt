@@ -57,17 +57,14 @@ module _ {V : Type 0} (value : Option V) where
     ends = λ p runs. grind (arith, runs.calls, runs.begun, (calls f n past p runs.calls).knows);
   }
 
-  -- If there is a value
-
-  -- if there is a value, the word is 2
-  made_at : (n : ℕ) (past : Entries V) (v : V) → (once_after m n past).value ≡ Some v → (once_after m n past).words ≡ 2
-  made_at n past v is = grind (arith, word_at n past, (a_value_stays n past []).complete)
+  -- If there is a value, the word is 2
 
   value_told : (n : ℕ) (past : Entries V) (p : ℕ) (v : V) (c : OnceCall V) (l : OncePoint) (h : Option Hold)
       → (once_after m n past).value ≡ Some v → IsCalling m n past p c l h
       → wants_value (asks_of c) ≡ true → outcome_after m n past p Step ≡ outcome.Answered (Value v) None
   value_told n past p v c l h is there wants =
-      grind (arith, there, is, made_at n past v is, not_at_run n past p c l h there 2 refl)
+      let complete = (a_value_stays n past []).complete in
+      grind (arith, there, is, word_at n past, complete, not_at_run n past p c l h there 2 refl)
 
   pub a_value_is_answered_at_once : (n : ℕ) (past : Entries V) → AnswersAtOnce m n past
   a_value_is_answered_at_once n past = record { value = value_told n past; none = grind arith }

@@ -28,8 +28,7 @@ module _ {V : Type 0} (v : V) (first : ℕ) where
       omega (arith, moves_some seen.plain e.0 (scene m seen e.0 e.1).change good.shape.numbered here.keeps.opens, served (scene m seen e.0 e.1).after es here.good)
 
   pub in_order : (n : ℕ) (past : Schedule TicketCall V) → InOrder (state_at m n past).words (seen_at m n past).plain
-  in_order n past = let numbers = numbers_are f n past in let g = good f n past in
-      record { next = cc (numbers); serving = cc (numbers); numbered = g.shape.numbered; one_entered = g.exclusive.one_entered }
+  in_order n past = grind (arith, numbers_are f n past, good f n past)
 
   -- a party that holds has the served ticket
   holds_served : (n p t : ℕ) (past : Schedule TicketCall V) → slice_get (state_at m n past).seats p ≡ Some (Holding (hold.Ticket t))

@@ -48,37 +48,26 @@ module _ {V : Type 0} (v : V) (cap : ℕ) where
   abbrev IsMeant : ℕ → Plain → Change → Option ℕ → Type 0
   IsMeant p s c o = Means (rw_notes v cap) p s c (λ k. k) o
 
-  -- The shape after a step
-
-  one_more : (s : Plain) (p : ℕ) (k : Kind) → Within cap s → may_come k s ≡ true → Within cap (record s { holders = s.holders ++ holder p k ∷ [] })
-  one_more s p k shape may = grind (arith, shape, room_to_come k s may, length-append s.holders (holder p k ∷ []))
-
-  alone : (s : Plain) (h : Holder) → Within cap s → is_empty s.holders ≡ true → Within cap (record s { holders = s.holders ++ h ∷ [] })
-  alone s h shape may = grind (arith, shape, empty_is s.holders may, length-append s.holders (h ∷ []))
-
-  turned : (s : Plain) (p : ℕ) (k l : Kind) → Within cap s → Within cap (record s { holders = with_kind p k l s.holders })
-  turned s p k l shape = grind (arith, shape, length-with_kind p k l s.holders)
-
   -- What the step functions mean in a state of this shape
 
   module _ (p : ℕ) (s : Plain) (w : ℕ) (word : rw_word s ≡ w) (exclusive : IsExclusive s) (shape : Within cap s) where
     read_means : IsMeant p s (gets p to_read) (read cap w)
-    read_means = grind (arith, rw_read-grants s p w cap (one_of_each s exclusive) shape.room word, one_more s p reading shape)
+    read_means = grind (arith, rw_read-grants s p w cap (one_of_each s exclusive), shape, room_to_come, length-append)
 
     upgradable_means : IsMeant p s (gets p to_read_upgradable) (read_upgradable cap w)
     upgradable_means =
-        grind (arith, rw_upgradable-grants s p w cap (one_of_each s exclusive) shape.room word, one_more s p upgradable shape)
+        grind (arith, rw_upgradable-grants s p w cap (one_of_each s exclusive), shape, room_to_come, length-append)
 
     write_means : IsMeant p s (gets p to_write) (write w)
-    write_means = grind (arith, rw_write-grants s p w word, alone s (holder p writing) shape)
+    write_means = grind (arith, rw_write-grants s p w word, shape, empty_is s.holders, length-append)
 
     upgrade_means : entries p s ≡ entries_at p (holds upgradable) → IsMeant p s (gets p to_upgrade) (upgrade w)
     upgrade_means mine =
-        grind (arith, rw_upgrade-grants s p w (one_of_each s exclusive) (holder_by p upgradable s mine) word, turned s p upgradable writing shape)
+        grind (arith, rw_upgrade-grants s p w (one_of_each s exclusive), holder_by p, shape, length-with_kind)
 
     upgrade_asked_means : entries p s ≡ entries_at p (holds asking) → IsMeant p s (gets p to_upgrade_asked) (upgrade_asked w)
     upgrade_asked_means mine =
-        grind (arith, rw_upgrade_asked-grants s p w (one_of_each s exclusive) (holder_by p asking s mine) word, turned s p asking writing shape)
+        grind (arith, rw_upgrade_asked-grants s p w (one_of_each s exclusive), holder_by p, shape, length-with_kind)
 
     -- What a holder finds in the word
 
@@ -102,12 +91,12 @@ module _ {V : Type 0} (v : V) (cap : ℕ) where
     turn_means : (j k : Kind) → rw_word s ≡ w → IsExclusive s → Within cap s → entries p s ≡ entries_at p (holds j) → may_turn j k ≡ true
         → weight j ≤ weight k → (tells j w ≡ true) × IsMeant p s (turns p j k) (Some (turned_to j k w))
     turn_means j k word exclusive shape mine down more =
-        let found = holder_by p j s mine in grind (arith, finds p s w word exclusive shape j found, rw_turn-gives s p j k w more word, turned s p j k shape)
+        grind (arith, holder_by p, finds p s w, rw_turn-gives s p j k w, shape, length-with_kind)
 
     release_means : (k : Kind) → rw_word s ≡ w → IsExclusive s → Within cap s → entries p s ≡ entries_at p (holds k)
         → (tells k w ≡ true) × IsMeant p s (releases p k) (Some (released k w))
-    release_means k word exclusive shape mine = let found = holder_by p k s mine in
-        grind (arith, finds p s w word exclusive shape k found, rw_release-gives s p k w word found, shape, length-without_holder p k s.holders found)
+    release_means k word exclusive shape mine =
+        grind (arith, holder_by p, finds p s w, rw_release-gives s p k w, shape, length-without_holder)
 
   owes : OwesAll (rw_notes v cap)
   owes p ReaderCount l h s w span = grind (arith, readers-word s w, one_of_each s)

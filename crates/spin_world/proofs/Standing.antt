@@ -56,8 +56,7 @@ module _ {V : Type 0} (v : V) (cap : ℕ) where
 
   pub stand_together : (n : ℕ) (past : Schedule RwCall V)
       → StandTogether cap (state_at m n past).words (seen_at m n past).plain
-  stand_together n past = let here = good f n past in
-      record { word = words_are n past; writer = here.exclusive.writer; one_upgradable = here.exclusive.one_upgradable; within = omega (arith, here.shape.few, here.shape.room) }
+  stand_together n past = grind (arith, good f n past, words_are n past)
 
   pub zero_when_free : (n : ℕ) (past : Schedule RwCall V)
       → ((state_at m n past).words ≡ 0) ↔ ((seen_at m n past).plain.holders ≡ [])

@@ -52,10 +52,8 @@ module _ {V : Type 0} (v : V) (first : ℕ) where
 
     serve_means : (t u : ℕ) → t ≡ u → first_alone_entered s.tickets ≡ true → entries p s ≡ entries_at p (queues u true)
         → (is_left t ≡ true) × IsMeant p s (serves p) (λ k. record w { serving = k }) (Some (t + 1))
-    serve_means t u same one mine = let tickets = ap (λ (e : Entries). e.tickets) mine in
-        let here = entered_is_served s p u queue.numbered one tickets in
-        let gives = ticket_serve-gives s p t queue.numbered.0 (here.1 ∙ sym same) here.0 in
-        grind (arith, here, gives, queue, numbered-serves s p queue.numbered, stands p u true s.tickets tickets)
+    serve_means t u same one mine = let here = entered_is_served s p u queue.numbered one in
+        grind (arith, here, ticket_serve-gives s p t, queue, numbered-serves s p, stands p u true s.tickets)
 
   owes : OwesAll (ticket_notes v first)
   owes p TryLock (TryLoadServing n) None s w span =
