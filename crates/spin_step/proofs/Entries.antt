@@ -2,9 +2,8 @@
 use Rattle.std.proofs.Common.{◌≡◌, ℕ, ◌==◌, Bool, true, cond, Option, Some, None, List, [], ◌∷◌, ◌++◌, filter, arith, refl, sym, ◌∙◌, subst, eq-eqb}
 use Rattle.std.proofs.lemmas.List.{append-nil}
 use Rattle.std.proofs.lemmas.List.Elements.{filter-append}
-use Rattle.spin_step.specs.Plain.{Plain, Ask, Kind, Holder, Effect, effect, given, Change, gets, apply, is_open, without_holder, with_kind, without_starver}
+use Rattle.spin_step.specs.Plain.{Plain, Kind, Holder, Change, apply, is_open, without_holder, with_kind, without_starver}
 use Rattle.spin_step.specs.Parties.{party_of, apply_some, IsOpenStep, entries, entries_after}
-use Rattle.spin_step.proofs.Exclusive.{Lets, lets}
 
 -- one more element at the end of a list
 filter-more : {X : Type 0} (test : X → Bool) (xs : List X) (x : X) → filter test (xs ++ x ∷ []) ≡ cond (test x) (filter test xs ++ x ∷ []) (filter test xs)

@@ -2,7 +2,6 @@
 use Rattle.std.proofs.Common.{◌≡◌, ℕ, ◌≤◌, true, length, max, Option, arith, length-append}
 use Rattle.spin_step.specs.Plain.{Plain, Change, apply, is_open, ticket_limit, fresh}
 use Rattle.spin_step.specs.Parties.{apply_some, IsOpenStep}
-use Rattle.spin_step.specs.Tickets.{Numbered}
 use Rattle.spin_step.specs.Orders.{IsInOrder}
 use Rattle.spin_step.proofs.Exclusive.{exclusive-free, exclusive-kept, room_to_come}
 use Rattle.spin_step.proofs.Sums.{length-with_kind}

@@ -10,7 +10,7 @@ use Rattle.spin_step.specs.Steps.{bit}
 use Rattle.spin_world_core.proofs.Steps.{Plays}
 use Rattle.spin_world_core.proofs.Stands.{absent}
 use Rattle.spin_world_core.proofs.Rows.{Point, nowhere, looked, onward}
-use Rattle.spin_world_core.proofs.Shapes.{Notes, OwesAll, Pays}
+use Rattle.spin_world_core.proofs.Shapes.{Notes, OwesAll}
 use Rattle.spin_world_core.proofs.Usual.{no_holders}
 use Rattle.spin_world_core.proofs.Filled.{plays_of}
 use Rattle.std.specs.List.{list_any}

@@ -1,5 +1,5 @@
 -- The shape of a fair lock, how steps keep this shape, and what a party finds in the word.
-use Rattle.spin_world.proofs.FairNames.{◌≡◌, ℕ, ◌%◌, ◌==◌, true, false, not, ◌&&◌, ◌||◌, ◌∷◌, ◌++◌, sym, arith, min, eq-eqb, Plain, holder, writing, is_empty, is_starver, is_holder, fair_word, entries, most_starvers, OneHolds, empty_is, is_empty-none, length-without_holder, is_starver-from_entries, flag_is, starves, holds_and_starves, entries_at, only_left, is_holder-own, []}
+use Rattle.spin_world.proofs.FairNames.{◌≡◌, ℕ, ◌%◌, ◌==◌, true, false, not, ◌&&◌, ◌||◌, ◌∷◌, ◌++◌, arith, min, eq-eqb, Plain, holder, writing, is_empty, is_starver, is_holder, fair_word, entries, most_starvers, OneHolds, empty_is, is_empty-none, starves, entries_at, only_left, is_holder-own, []}
 
 -- the shape of the lock: at most one holder, no queue, and the cap
 pub record IsFair (cap : ℕ) (s : Plain) : Type 0 where
@@ -11,22 +11,9 @@ pub record IsFair (cap : ℕ) (s : Plain) : Type 0 where
 pub comes : (cap p : ℕ) (s : Plain) → IsFair cap s → is_empty s.holders ≡ true → IsFair cap (record s { holders = s.holders ++ holder p writing ∷ [] })
 comes cap p s shape free = grind arith
 
--- a party whose entries are those of a starver is among the starvers
-
-pub is_starving : (p : ℕ) (s : Plain) → entries p s ≡ entries_at p starves → is_starver p s.starvers ≡ true
-is_starving p s mine = grind (arith, is_starver-from_entries)
-
-pub is_starving_still : (p : ℕ) (s : Plain) → entries p s ≡ entries_at p (holds_and_starves writing) → is_starver p s.starvers ≡ true
-is_starving_still p s mine = grind (arith, is_starver-from_entries)
-
 -- a starver with no other entries does not hold, so what its call asks next is to get the lock
 pub not_there : (p : ℕ) (s : Plain) → entries p s ≡ entries_at p starves → ((is_starver p s.starvers && is_empty s.holders) || is_holder p writing s.holders) ≡ true → (is_starver p s.starvers && is_empty s.holders) ≡ true
 not_there p s mine free = grind (arith, only_left, is_holder-own)
-
--- the holder finds the flag set
-pub set_by_holder : (cap p w : ℕ) (s : Plain) → IsFair cap s → fair_word s ≡ w → is_holder p writing s.holders ≡ true → (w % 2 == 1) ≡ true
-set_by_holder cap p w s shape is found =
-    let one : w % 2 ≡ 1 = omega (arith, sym (flag_is s w shape.one is).0, shape.one, length-without_holder p writing s.holders found) in eq-eqb (w % 2) 1 one
 
 -- if nobody holds, a starver finds the flag clear
 pub flag_clear : (w : ℕ) (s : Plain) → fair_word s ≡ w → is_empty s.holders ≡ true → w % 2 ≡ 0

@@ -1,11 +1,11 @@
 -- What has to be shown of the fair lock's table.
-use Rattle.spin_world.proofs.FairNames.{◌≡◌, ℕ, ◌<◌, ◌+◌, ◌-◌, ◌%◌, true, ◌&&◌, nat_lt, Option, Some, None, List, ◌∷◌, refl, ap, arith, and_parts, eqb-true, Plain, writing, to_lock_unregistered, to_lock_starving, to_lock_starving_alone, to_starve, Change, gets, releases, stops_starving, is_empty, is_starver, fair_word, apply_some, Entries, entries, is_held, empty_is, is_holder-from_entries, length-without_starver, is_set, lock, starve, lock_fair, fair_lock-grants, fair_starve-grants, fair_lock_fair-grants, fair_lock_starved-grants, fair_unstarve-gives, fair_unlock-gives, Hold, Write, Starver, FairCall, Lock, TryLock, TryLockStarver, IsLocked, Starve, StarverTryLockFair, StarverTryLock, StarverLock, StarverDrop, Release, FairPoint, First, Attempt, Look, Load, Register, SetFlag, Await, Unregister, StepKind, plain, again, weak, Mark, granted, fair, mark_of, own_count, changes, RegistersInTime, tried, fair_table, fair_machine, holds, starves, holds_and_starves, entries_at, Row, Point, nowhere, looked, onward, Notes, Means, OwesAll, SoonAll, Pays, no_queue, []}
+use Rattle.spin_world.proofs.FairNames.{◌≡◌, ℕ, ◌<◌, ◌+◌, ◌-◌, ◌%◌, true, nat_lt, Option, Some, None, List, ◌∷◌, refl, arith, eqb-true, Plain, writing, to_lock_unregistered, to_lock_starving, to_lock_starving_alone, to_starve, Change, gets, releases, stops_starving, is_starver, fair_word, apply_some, entries, is_held, empty_is, is_holder-from_entries, is_starver-from_entries, eq-eqb, length-without_holder, length-without_starver, is_set, lock, starve, lock_fair, fair_lock-grants, fair_starve-grants, fair_lock_fair-grants, fair_lock_starved-grants, fair_unstarve-gives, fair_unlock-gives, Hold, Write, Starver, FairCall, Lock, TryLock, TryLockStarver, IsLocked, Starve, StarverTryLockFair, StarverTryLock, StarverLock, StarverDrop, Release, FairPoint, First, Attempt, Look, Load, Register, SetFlag, Await, Unregister, StepKind, plain, again, weak, Mark, granted, fair, mark_of, own_count, changes, RegistersInTime, tried, fair_table, fair_machine, holds, starves, holds_and_starves, entries_at, Row, Point, nowhere, looked, onward, Notes, Means, OwesAll, SoonAll, no_queue, []}
 use Rattle.spin_model.specs.Operations.{sets_lowest_bit}
 use Rattle.spin_world_core.proofs.Lists.{eqb_self}
 use Rattle.spin_world_core.proofs.Steps.{Plays}
 use Rattle.spin_world_core.proofs.Filled.{plays_of}
 use Rattle.spin_world.proofs.Registering.{MayBeBlind, none_left, few_to_load, few_to_register, Looking, Loading, Registering, none_yet, starving-other, looking-other, loading-other, registering-other, goes_on, missed, looked_free, looked_held, looked_late, loaded, retried, full, registered, looked_starving}
-use Rattle.spin_world.proofs.FairKnowledge.{IsFair, comes, is_starving, is_starving_still, set_by_holder, flag_clear, word_starved, not_there}
+use Rattle.spin_world.proofs.FairKnowledge.{IsFair, comes, flag_clear, word_starved, not_there}
 
 -- the row of a starver that waits for the lock, after these plain steps
 abbrev pub starving_row : (ℕ → List Change) → Row
@@ -68,10 +68,10 @@ module _ {V : Type 0} (v : V) (cap patience : ℕ) where
     starve_means = grind (arith, fair_starve-grants s p w cap shape.one shape.room word, shape)
 
     lock_fair_means : entries p s ≡ entries_at p starves → IsMeant p s (gets p to_lock_starving_alone) (lock_fair w)
-    lock_fair_means mine = grind (arith, fair_lock_fair-grants s p w, is_starving p s mine, comes cap p s shape)
+    lock_fair_means mine = grind (arith, fair_lock_fair-grants s p w, is_starver-from_entries p, comes cap p s)
 
     lock_starved_means : entries p s ≡ entries_at p starves → IsMeant p s (gets p to_lock_starving) (tried sets_lowest_bit w)
-    lock_starved_means mine = grind (arith, fair_lock_starved-grants s p w shape.one (is_starving p s mine) word, comes cap p s shape)
+    lock_starved_means mine = grind (arith, fair_lock_starved-grants s p w, is_starver-from_entries p, comes cap p s)
 
     -- a starver stops starving, with the lock or without
     unstarve_means : is_starver p s.starvers ≡ true → (nat_lt 1 w ≡ true) × IsMeant p s (stops_starving p) (Some (w - 2))
@@ -80,7 +80,8 @@ module _ {V : Type 0} (v : V) (cap patience : ℕ) where
 
     unlock_means : entries p s ≡ entries_at p (holds writing) → (is_set w ≡ true) × IsMeant p s (releases p writing) (Some (w - 1))
     unlock_means mine =
-        grind (arith, is_holder-from_entries p, set_by_holder cap p w s shape, fair_unlock-gives s p writing w, shape)
+        let fewer = length-without_holder p writing s.holders in
+        grind (arith, is_holder-from_entries p, eq-eqb (w % 2) 1, fair_unlock-gives s p writing w, fewer, shape)
 
   -- a call that may starve has steps left in which it registers in time
   abbrev InTime : ℕ → List Mark → Type 0
@@ -119,16 +120,16 @@ module _ {V : Type 0} (v : V) (cap patience : ℕ) where
       grind (arith, lock_starved_means p s w, won, goes_on patience p s span None plain refl, nothing_left p)
   owes p Lock Await None s w span =
       grind (arith, held p s w, looked_starving patience p s span, nothing_left p, eqb_self p)
-  owes p Lock Unregister None s w span =
-      grind (arith, unstarve_means p s w, is_starving_still p s, goes_on patience p s span (Some (stops_starving p)) plain refl refl)
+  owes p Lock Unregister None s w span = let left = goes_on patience p s span (Some (stops_starving p)) plain refl in
+      grind (arith, unstarve_means p s w, is_starver-from_entries p, left)
   owes p Lock _ _ s w span = tt
   owes p TryLock l h s w span = grind (arith, lock_means p s w)
   owes p TryLockStarver l h s w span = grind (arith, lock_means p s w, eqb-true w 1, word_starved w s)
   owes p IsLocked l h s w span = grind (arith, held p s w)
   owes p Starve l h s w span = grind (arith, starve_means p s w)
   owes p Release l h s w span = grind (arith, unlock_means p s w)
-  owes p _ l h s w span =
-      grind (arith, lock_fair_means p s w, lock_starved_means p s w, held p s w, unstarve_means p s w, is_starving p s, is_starving_still p s)
+  owes p _ l h s w span = let starves = is_starver-from_entries p in
+      grind (arith, lock_fair_means p s w, lock_starved_means p s w, held p s w, unstarve_means p s w, starves)
 
   -- If nobody disturbs the call, its exchange acquires a free lock, at once or after a look. A party that has begun to
   -- register then registers, gets the lock, and stops starving.

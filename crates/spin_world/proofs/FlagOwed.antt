@@ -7,10 +7,9 @@ use Rattle.spin_model.specs.Acts.{begin_of}
 use Rattle.spin_model.specs.Flag.{flag_table, flag_machine}
 use Rattle.spin_world_core.proofs.Steps.{Plays}
 use Rattle.spin_world_core.proofs.Rows.{starts}
-use Rattle.spin_world_core.proofs.Shapes.{Notes, OwesAll, Pays}
+use Rattle.spin_world_core.proofs.Shapes.{Notes}
 use Rattle.spin_world_core.proofs.Usual.{no_queue}
 use Rattle.spin_world_core.proofs.Filled.{plays_of}
-use Rattle.spin_model.specs.declared.flag.FlagCall.TheVariants.{Release}
 
 -- At each point the row is that of the beginning, since the call has made no plain step. Only `Lock` makes more than one
 -- step, and it has no limit.

@@ -1,8 +1,7 @@
 -- Proofs of what users of a barrier may rely on.
 use Rattle.spin_world_core.proofs.Every.{outcome-seen_at}
-use Rattle.spin_world_core.specs.Runs.{state_at}
 use Rattle.spin_world_core.proofs.Every.{state-seen_at}
-use Rattle.spin_world.proofs.BarrierNames.{◌≡◌, ℕ, ◌+◌, ◌%◌, ◌==◌, ◌↔◌, true, Option, Some, None, ◌∷◌, slice_get, ap, arith, max, arrives, may_leave, barrier_arrive-words, barrier_may_leave-tells, Leader, Follower, Hold, BarrierWords, BarrierCall, BarrierPoint, Seen, scene, step_at, opening, own, arrived, seen_after, passes, steps_made, BarrierMachine, leads, barrier_machine, is_arrival, Entries, seen_at, arrivals, InGroups, FollowersLeave, []}
+use Rattle.spin_world.proofs.BarrierNames.{◌≡◌, ℕ, ◌+◌, ◌%◌, ◌==◌, ◌↔◌, true, Option, Some, None, ◌∷◌, slice_get, arith, max, arrives, may_leave, barrier_arrive-words, barrier_may_leave-tells, Leader, Follower, Hold, BarrierWords, BarrierCall, BarrierPoint, Seen, scene, step_at, opening, own, arrived, seen_after, passes, steps_made, BarrierMachine, leads, barrier_machine, is_arrival, Entries, seen_at, arrivals, InGroups, FollowersLeave, []}
 use Rattle.spin_model.specs.declared.place.Seat.{Seat}
 use Rattle.spin_model.specs.declared.place.Seat.TheVariants.{Calling}
 use Rattle.spin_model.specs.declared.schedule.Move.TheVariants.{Step}

@@ -1,7 +1,7 @@
 -- What has to be shown of the table of a `Once`.
-use Rattle.spin_world.proofs.OnceNames.{◌≡◌, ℕ, true, Option, Some, None, List, ◌∷◌, refl, arith, Plain, running, to_begin, Change, gets, completes, fails, runs-others, Hold, OnceCall, CallOnce, TryCallOnceOk, TryCallOnceErr, InitFromRef, Wait, Poll, Get, IsCompleted, OncePoint, Look, TryBegin, Run, Mark, Said, gives_value, failed, brings_of, once_table, once_machine, has_just_looked, Plays, Point, nowhere, looked, onward, Notes, no_holders, []}
+use Rattle.spin_world.proofs.OnceNames.{◌≡◌, ℕ, true, Option, Some, None, List, ◌∷◌, refl, arith, Plain, running, to_begin, Change, gets, completes, fails, runs-others, Hold, OnceCall, CallOnce, TryCallOnceOk, TryCallOnceErr, InitFromRef, Wait, Poll, Get, IsCompleted, OncePoint, Look, TryBegin, Run, Mark, Said, gives_value, failed, once_table, once_machine, has_just_looked, Plays, Point, nowhere, looked, onward, Notes, no_holders, []}
 use Rattle.spin_world_core.proofs.Stands.{absent}
-use Rattle.spin_world_core.proofs.Filled.{PaysWith, plays_with}
+use Rattle.spin_world_core.proofs.Filled.{plays_with}
 
 -- a call with a closure has made no plain step until it runs the closure; then only the end of the closure is left
 abbrev pub run_point : (ℕ → Change) → Said → OncePoint → Option Hold → Point

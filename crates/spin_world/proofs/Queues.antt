@@ -3,7 +3,7 @@ use Rattle.spin_world.specs.Ticket.{TicketMachine}
 use Rattle.spin_world_core.specs.Runs.{state_at}
 use Rattle.spin_world_core.specs.Users.{seen_at}
 use Rattle.spin_world_core.specs.Runs.{Schedule}
-use Rattle.spin_world.proofs.TicketNames.{◌≡◌, ℕ, ◌+◌, Option, Some, ◌∷◌, ◌++◌, slice_get, ap, arith, Plain, Change, serving_word, apply_some, IsOpenStep, Entries, bit, Numbered, serving-moves, entered_is_served, Holding, TicketCall, TicketPoint, TicketWords, Seen, scene, opening, ticket_machine, seen_after, Plays, passes, serves_one, tickets_gone, InOrder, InTurn, []}
+use Rattle.spin_world.proofs.TicketNames.{◌≡◌, ℕ, ◌+◌, Option, Some, ◌∷◌, ◌++◌, slice_get, arith, Plain, Change, serving_word, apply_some, IsOpenStep, bit, Numbered, serving-moves, entered_is_served, Holding, TicketCall, TicketPoint, TicketWords, Seen, scene, opening, ticket_machine, seen_after, Plays, passes, serves_one, tickets_gone, InOrder, InTurn, []}
 use Rattle.spin_model.specs.declared.place.Hold.TheVariants as hold
 use Rattle.spin_world.proofs.TicketOwed.{ticket_notes, ticket_facts}
 use Rattle.spin_world_core.proofs.Preserved.{Invariant}
@@ -33,9 +33,8 @@ module _ {V : Type 0} (v : V) (first : ℕ) where
   -- a party that holds has the served ticket
   holds_served : (n p t : ℕ) (past : Schedule TicketCall V) → slice_get (state_at m n past).seats p ≡ Some (Holding (hold.Ticket t))
       → serving_word (seen_at m n past).plain ≡ t
-  holds_served n p t past there = let order = in_order n past in
-      let has = ap (λ (e : Entries). e.tickets) (stands f n past p there) in
-      (entered_is_served (seen_at m n past).plain p t order.numbered order.one_entered has).1
+  holds_served n p t past there =
+      grind (arith, in_order n past, stands f n past p there, entered_is_served (seen_at m n past).plain p t)
 
   -- the served number after `further` is the one before, plus the number of tickets that have left
   served_later : (n : ℕ) (past further : Schedule TicketCall V) → serving_word (seen_at m n (past ++ further)).plain

@@ -1,5 +1,5 @@
 -- What has to be shown of the table of the read-write lock.
-use Rattle.spin_world.proofs.RwNames.{◌≡◌, ℕ, ◌+◌, ◌/◌, ◌≤◌, true, false, Option, Some, None, ◌∷◌, ◌++◌, length, nat_lt, refl, ap, sym, ◌∙◌, arith, eq-eqb, length-append, Plain, Kind, reading, upgradable, asking, writing, weight, Holder, holder, to_read, to_read_upgradable, to_write, to_upgrade, to_upgrade_asked, Change, gets, releases, turns, may_come, is_empty, is_holder, may_turn, with_kind, rw_word, entries, IsExclusive, reader_limit, tells, read, read_upgradable, write, upgrade, upgrade_asked, released, is_holder-from_entries, is_holder-own, length-without_holder, empty_is, room_to_come, one_of_each, read-word, upgradable_read-word, upgradable-word, tells-holder, readers-word, writers-word, only_upgradable-word, only_asking-word, empty-word, Hold, RwCall, TryRead, Read, TryUpgradeableRead, UpgradeableRead, Write, ReaderCount, WriterCount, Upgrade, Downgrade, DowngradeToUpgradeable, Release, RwPoint, First, Exchange, Asking, holds, entries_at, Notes, Means, OwesAll, SoonAll, Pays, no_queue, [], turned_to}
+use Rattle.spin_world.proofs.RwNames.{◌≡◌, ℕ, ◌≤◌, true, Option, Some, None, ◌∷◌, length, refl, ap, sym, ◌∙◌, arith, eq-eqb, length-append, Plain, Kind, upgradable, asking, writing, weight, to_read, to_read_upgradable, to_write, to_upgrade, to_upgrade_asked, Change, gets, releases, turns, is_holder, may_turn, rw_word, entries, IsExclusive, reader_limit, tells, read, read_upgradable, write, upgrade, upgrade_asked, released, is_holder-from_entries, is_holder-own, length-without_holder, empty_is, room_to_come, one_of_each, read-word, upgradable_read-word, upgradable-word, tells-holder, readers-word, writers-word, only_upgradable-word, only_asking-word, empty-word, Hold, RwCall, TryRead, Read, TryUpgradeableRead, UpgradeableRead, Write, ReaderCount, WriterCount, Upgrade, Downgrade, DowngradeToUpgradeable, Release, RwPoint, First, Exchange, Asking, holds, entries_at, Notes, Means, OwesAll, SoonAll, no_queue, [], turned_to}
 use Rattle.std.specs.Prelude.{min, max}
 use Rattle.spin_step.proofs.Sums.{length-with_kind}
 use Rattle.spin_step_more.proofs.ReaderSteps.{rw_read-grants, rw_upgradable-grants, rw_write-grants, rw_upgrade-grants, rw_upgrade_asked-grants, rw_release-gives, rw_turn-gives}
@@ -40,10 +40,6 @@ rw_notes v cap = record { Shape = λ s. Within cap s; point = point_of; Knows = 
 pub holder_by : (p : ℕ) (k : Kind) (s : Plain) → entries p s ≡ entries_at p (holds k) → is_holder p k s.holders ≡ true
 holder_by p k s mine = grind (arith, is_holder-from_entries)
 
--- a party that asks to upgrade and has nothing else does not write
-writes_nothing : (p : ℕ) (s : Plain) → entries p s ≡ entries_at p (holds asking) → is_holder p writing s.holders ≡ false
-writes_nothing p s mine = grind (arith, is_holder-own p writing s.holders)
-
 module _ {V : Type 0} (v : V) (cap : ℕ) where
   abbrev IsMeant : ℕ → Plain → Change → Option ℕ → Type 0
   IsMeant p s c o = Means (rw_notes v cap) p s c (λ k. k) o
@@ -74,17 +70,6 @@ module _ {V : Type 0} (v : V) (cap : ℕ) where
     finds : (k : Kind) → is_holder p k s.holders ≡ true → tells k w ≡ true
     finds k found = ap (tells k) (sym word) ∙ tells-holder s p k exclusive (omega (arith, shape.few, shape.room)) found
 
-    finds_room : is_holder p upgradable s.holders ≡ true → nat_lt (w / weight reading) reader_limit ≡ true
-    finds_room found = grind (arith, word, upgradable-word s p exclusive (omega (arith, shape.few, shape.room)) found)
-
-    -- what a party that the lock admits finds in the word
-
-    reads : may_come reading s ≡ true → read cap w ≡ Some (w + weight reading)
-    reads may = rw (sym (read-word s w cap (one_of_each s exclusive) shape.room word) ∙ may) refl
-
-    reads_upgradable : may_come upgradable s ≡ true → read_upgradable cap w ≡ Some (w + weight upgradable)
-    reads_upgradable may = rw (sym (upgradable_read-word s w cap (one_of_each s exclusive) shape.room word) ∙ may) refl
-
   -- What a conversion and a release mean
 
   module _ (p : ℕ) (s : Plain) (w : ℕ) where
@@ -101,21 +86,20 @@ module _ {V : Type 0} (v : V) (cap : ℕ) where
   owes : OwesAll (rw_notes v cap)
   owes p ReaderCount l h s w span = grind (arith, readers-word s w, one_of_each s)
   owes p WriterCount l h s w span = grind (arith, writers-word s w, one_of_each s)
-  owes p Upgrade l h s w span = grind (arith, turn_means p s w upgradable asking, upgrade_asked_means p s w)
-  owes p Downgrade First (Some hold.Upgradable) s w span = grind (arith, turn_means p s w upgradable reading, finds_room p s w, holder_by p upgradable s)
-  owes p Downgrade l h s w span = grind (arith, turn_means p s w writing reading)
-  owes p DowngradeToUpgradeable l h s w span = grind (arith, turn_means p s w writing upgradable)
-  owes p Release l h s w span = grind (arith, release_means p s w reading, release_means p s w upgradable, release_means p s w writing)
+  owes p Upgrade l h s w span = grind (arith, turn_means p s w, upgrade_asked_means p s w)
+  owes p Downgrade l h s w span = grind (arith, turn_means p s w, upgradable-word s p, holder_by p)
+  owes p DowngradeToUpgradeable l h s w span = grind (arith, turn_means p s w)
+  owes p Release l h s w span = grind (arith, release_means p s w)
   owes p _ l h s w span = grind (arith, read_means p s w, upgradable_means p s w, write_means p s w, upgrade_means p s w)
 
   -- if nobody disturbs the call, its exchange succeeds on a word that admits the party, at once or after a look
 
   soon : SoonAll (rw_notes v cap)
-  soon p Read l h s w span = grind (arith, reads p s w, eq-eqb w w)
-  soon p UpgradeableRead l h s w span = grind (arith, reads_upgradable p s w, eq-eqb w w)
+  soon p Read l h s w span = grind (arith, read-word s w cap, one_of_each s, eq-eqb w w)
+  soon p UpgradeableRead l h s w span = grind (arith, upgradable_read-word s w cap, one_of_each s, eq-eqb w w)
   soon p Write l h s w span = grind (arith, empty-word s.holders w)
-  soon p Upgrade l h s w span =
-      grind (arith, writes_nothing p s, only_asking-word s p w, only_upgradable-word s p w, one_of_each s, holder_by p upgradable s, holder_by p asking s)
+  soon p Upgrade l h s w span = let own = is_holder-own p writing s.holders in
+      grind (arith, own, only_asking-word s p w, only_upgradable-word s p w, one_of_each s, holder_by p)
   soon p _ _ _ s w span = tt
 
   pub rw_facts : Plays (rw_machine v cap) (rw_notes v cap)

@@ -30,10 +30,6 @@ goes_some : (s : Plain) (p q : ℕ) (step : Option Change) → IsExclusive s →
     → count_kind reading (apply_some s step).holders + bit (passes reader_goes step) ≡ count_kind reading s.holders
 goes_some s p q step alone found may stays = grind (arith, readers_only_go s p, alone)
 
--- while a party holds, no other party may become the writer
-keeps_writers_out : (p : ℕ) (k : Kind) (s : Plain) → is_holder p k s.holders ≡ true → KeepsWritersOut p s
-keeps_writers_out p k s found = λ q ne. grind (arith, found, ne)
-
 module _ {V : Type 0} (v : V) (cap : ℕ) where
   -- the next step of a call answers `Granted` exactly if the word is that of one reader that asks to upgrade
   abbrev Upgrades : State ℕ V RwCall RwPoint → ℕ → RwCall → RwPoint → Option Hold → Type 0
@@ -108,11 +104,11 @@ module _ {V : Type 0} (v : V) (cap : ℕ) where
 
   -- a party in a call that downgrades is a holder
   holds_there : (p : ℕ) (c : RwCall) (l : RwPoint) (h : Option Hold) (held : Hold) (s : Plain) (span : List Mark) → less c ≡ Some held → Knows (rw_notes v cap) c l h p s span → KeepsWritersOut p s
-  holds_there p c l h held s span is knows = grind (arith, knows, λ (k : Kind). holder_by p k s, λ (k : Kind). keeps_writers_out p k s)
+  holds_there p c l h held s span is knows = grind (arith, knows, λ (k : Kind). holder_by p k s)
 
   -- after the downgrade the party is still a holder
   holds_after : (p : ℕ) (held : Hold) (c : RwCall) (s : Plain) → less c ≡ Some held → entries p s ≡ entries_of p held → KeepsWritersOut p s
-  holds_after p held c s is mine = grind (arith, λ (k : Kind). holder_by p k s, λ (k : Kind). keeps_writers_out p k s)
+  holds_after p held c s is mine = grind (arith, λ (k : Kind). holder_by p k s)
 
   pub downgrades : (n : ℕ) (past : Schedule RwCall V) → Downgrades m n past
   downgrades n past p c l h held is there = let all = past ++ (p, Step) ∷ [] in let before = seen_at m n past in
