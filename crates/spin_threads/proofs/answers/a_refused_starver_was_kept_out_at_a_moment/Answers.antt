@@ -8,7 +8,7 @@ use Rattle.spin_step_more.specs.declared.fair_calls.FairCall.{FairCall}
 use Rattle.spin_step_more.specs.declared.fair_calls.FairPoint.{FairPoint}
 use Rattle.spin_world_core.specs.Runs.{Seen}
 use Rattle.spin_world_core.proofs.Shapes.{InCall}
-use Rattle.spin_world.proofs.FairKnowledge.{is_starving, is_starving_still}
+use Rattle.spin_step.proofs.Starvers.{is_starver-from_entries}
 use Rattle.spin_fair.specs.Fair.{patience}
 use Rattle.spin_step_more.specs.Starvers.{most_starvers}
 use Rattle.spin_world.proofs.FairOwed.{fair_notes, fair_facts}
@@ -18,7 +18,7 @@ use Rattle.spin_threads.proofs.answers.a_refused_starver_was_kept_out_at_a_momen
 -- a party that makes this try is registered as a starver
 starving : {T : Type 0} (opening : T) (c : FairCall) (p : ℕ) (l : FairPoint) (h : Option Hold) (seen : Seen ℕ T FairCall FairPoint) → (c ≡ StarverTryLock) ⊎ (c ≡ StarverTryLockFair)
     → InCall (fair_notes opening most_starvers patience) p c l h seen.plain seen.state.words (seen.span p) → is_starver p seen.plain.starvers ≡ true
-starving opening c p l h seen is call = grind (arith, is, call.knows, is_starving p seen.plain, is_starving_still p seen.plain)
+starving opening c p l h seen is call = grind (arith, is, call.knows, is_starver-from_entries p seen.plain.starvers)
 
 held : (s : Plain) (p : ℕ) → is_starver p s.starvers ≡ true → not (is_open_to s p to_lock_starving) ≡ true → is_held s ≡ true
 held s p found closed = grind (arith, found, closed)
