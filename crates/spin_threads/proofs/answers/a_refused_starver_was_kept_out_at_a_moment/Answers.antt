@@ -8,7 +8,7 @@ use Rattle.spin_step_more.specs.declared.fair_calls.FairCall.{FairCall}
 use Rattle.spin_step_more.specs.declared.fair_calls.FairPoint.{FairPoint}
 use Rattle.spin_world_core.specs.Runs.{Seen}
 use Rattle.spin_world_core.proofs.Shapes.{InCall}
-use Rattle.spin_step.proofs.Starvers.{is_starver-from_entries}
+use Rattle.spin_step.proofs.Starvers.{is_starver-from_entries, length-without_starver}
 use Rattle.spin_fair.specs.Fair.{patience}
 use Rattle.spin_step_more.specs.Starvers.{most_starvers}
 use Rattle.spin_world.proofs.FairOwed.{fair_notes, fair_facts}
@@ -24,7 +24,7 @@ held : (s : Plain) (p : ℕ) → is_starver p s.starvers ≡ true → not (is_op
 held s p found closed = grind (arith, found, closed)
 
 not_alone : (s : Plain) (p : ℕ) → is_starver p s.starvers ≡ true → not (is_open_to s p to_lock_starving_alone) ≡ true → (is_held s ≡ true) ⊎ (1 < length s.starvers)
-not_alone s p found closed = grind (arith, found, closed)
+not_alone s p found closed = grind (arith, found, closed, length-without_starver p s.starvers)
 
 pub returns-clause-try_lock : goal.returns-clause-try_lock
 returns-clause-try_lock g c = λ opening.
