@@ -24,8 +24,7 @@ began_from start None = None
 began_from start (Some place) = if nat_lt place start then None else Some (place - start)
 
 abbrev pub outcome_from : {V A : Type 0} → ℕ → Outcome A V → Outcome A V
-outcome_from start (outcome.Answered a b) = outcome.Answered a (began_from start b)
-outcome_from start o = o
+outcome_from start o = elim o [ outcome.Answered a b ↦ outcome.Answered a (began_from start b) | other ↦ other ]
 
 abbrev pub event_from : {W V A : Type 0} → ℕ → Event W V A → Event W V A
 event_from start e = record e { outcome = outcome_from start e.outcome }

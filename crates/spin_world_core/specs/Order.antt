@@ -29,26 +29,19 @@ pub data Way : Type 0 where
   by_looks : Way  -- it tries by each step that is due, and looks by each other step
   past_looks : Way  -- it tries by each step that is due; by another step it may register as a starver
 
-abbrev pub way_by : Bool → Bool → Way
-way_by true may_register = always
-way_by false true = past_looks
-way_by false false = by_looks
-
 abbrev pub way_of : LockKind → Asked → List Change → Way
-way_of kind what made = way_by kind.spins_on_exchange (what.may_register made)
+way_of kind what made =
+    if kind.spins_on_exchange then always else if what.may_register made then past_looks else by_looks
 
 abbrev pub is_due_by : Way → ℕ → List Mark → Bool
-is_due_by always p span = true
-is_due_by way p span = is_due p span
+is_due_by way p span = elim way [ always ↦ true | _ ↦ is_due p span ]
 
 abbrev pub LooksElse : Way → ℕ → List Mark → StepKind → Type 0
-LooksElse by_looks p span r = is_due p span ≡ false → is_look r ≡ true
-LooksElse way p span r = Unit {0}
+LooksElse way p span r = elim way [ by_looks ↦ is_due p span ≡ false → is_look r ≡ true | _ ↦ Unit {0} ]
 
 -- by a step that is due, the call gets what it asks if that is open; the call's other steps are as its `Way` says
 abbrev pub Gets : LockKind → ℕ → Asked → List Mark → Plain → Option Change → StepKind → Type 0
-Gets kind p what span s step r =
-    (ask : Ask) → goes_of what (own p span) ≡ Some ask
+Gets kind p what span s step r = (ask : Ask) → goes_of what (own p span) ≡ Some ask
     → let way = way_of kind what (own p span) in (is_due_by way p span ≡ true → is_open_to s p ask ≡ true → step ≡ Some (gets p ask)) × LooksElse way p span r
 
 abbrev pub GetsWhenDue : {C V A : Type 0} → LockKind → ℕ → Outcome A V → Move C V → Option Asked → List Mark → Plain → Option Change → StepKind → Type 0

@@ -71,8 +71,7 @@ placed_at m s Step (Some (Calling c l h)) = (m.step s.words s.value c l h).place
 placed_at m s _ _ = None
 
 abbrev pub if_completed : {V : Type 0} → Option V → Option V → Option Change → Option V
-if_completed old value (Some (completes p)) = value
-if_completed old value _ = old
+if_completed old value step = elim step [ Some (completes p) ↦ value | _ ↦ old ]
 
 -- the value last written, by a holder, by the owner, or by a closure that completed
 abbrev pub last_written : {V C A : Type 0} → Outcome A V → Move C V → Option V → Option V → Option Change → Option V
@@ -90,22 +89,21 @@ abbrev pub mark_of : ℕ → Option Change → StepKind → Plain → Mark
 mark_of p step step_kind s = record { party = p; change = step; step_kind = step_kind; before = s; after = apply_some s step }
 
 abbrev pub scene_of : {W V C L A : Type 0} → Seen W V C L → ℕ → Move C V → Option (Seat C L) → Happened W V C L A → Option Change → StepKind → Option V → Scene W V C L A
-scene_of seen p move seat h step step_kind value =
-    record {
-      before = seen;
-      party = p;
-      move = move;
-      seat = seat;
-      outcome = h.outcome;
-      change = step;
-      step_kind = step_kind;
-      after = record {
-        state = h.next;
-        plain = apply_some seen.plain step;
-        span = span_after h.outcome (mark_of p step step_kind seen.plain) seen.span;
-        written = last_written h.outcome move seen.written value step;
-      };
-    }
+scene_of seen p move seat h step step_kind value = record {
+  before = seen;
+  party = p;
+  move = move;
+  seat = seat;
+  outcome = h.outcome;
+  change = step;
+  step_kind = step_kind;
+  after = record {
+    state = h.next;
+    plain = apply_some seen.plain step;
+    span = span_after h.outcome (mark_of p step step_kind seen.plain) seen.span;
+    written = last_written h.outcome move seen.written value step;
+  };
+}
 
 abbrev pub scene_at : {W V C L A : Type 0} → Machine W V C L A → Seen W V C L → ℕ → Move C V → Option (Seat C L) → Scene W V C L A
 scene_at m seen p move seat = scene_of seen p move seat (moves_at m seen.state p move seat) (step_at m seen.state p move seat) (step_kind_at m move seat) (placed_at m seen.state move seat)
@@ -136,8 +134,7 @@ is_open_to _ _ _ _ = false
 
 -- no move is open to a party that does not exist
 abbrev pub is_open_move : {W V C L A : Type 0} → Machine W V C L A → State W V C L → Move C V → Option (Seat C L) → Bool
-is_open_move m s move None = false
-is_open_move m s move (Some seat) = is_open_to m s move seat
+is_open_move m s move o = elim o [ None ↦ false | Some seat ↦ is_open_to m s move seat ]
 
 -- A party's entries in the plain lock: its holders, tickets and registrations
 
@@ -149,8 +146,7 @@ entries_of p (hold.Ticket t) = record no_entries { tickets = ticket p t true ∷
 entries_of p hold.Starver = record no_entries { starvers = p ∷ [] }
 
 abbrev pub entries_held : ℕ → Option Hold → Entries
-entries_held p None = no_entries
-entries_held p (Some h) = entries_of p h
+entries_held p o = elim o [ None ↦ no_entries | Some h ↦ entries_of p h ]
 
 -- the party's entries after its own steps of the span, where `e` are its entries before them
 abbrev pub entries_so_far : ℕ → List Mark → Entries → Entries
@@ -159,14 +155,13 @@ entries_so_far p (m ∷ ms) e =
     if m.party == p then entries_after m.before m.change (entries_so_far p ms e) else entries_so_far p ms e
 
 -- The party's entries in the plain lock are those that its seat implies. In a call they are the entries with which
--- the party began the call, changed by its own steps in the call.
+-- the party began the call, changed by its own steps in the call. An idle party has none.
 abbrev pub StandsFor : {C L : Type 0} → Plain → ℕ → List Mark → Option (Seat C L) → Type 0
-StandsFor s p span None = entries p s ≡ no_entries
-StandsFor s p span (Some Idle) = entries p s ≡ no_entries
 StandsFor s p span (Some (Calling c l h)) = entries p s ≡ entries_so_far p span (entries_held p h)
 StandsFor s p span (Some (Holding h)) = entries p s ≡ entries_of p h
 StandsFor s p span (Some (Leaked h)) = entries p s ≡ entries_of p h
 StandsFor s p span (Some (Gone h)) = entries p s ≡ entries_of p h
+StandsFor s p span _ = entries p s ≡ no_entries
 
 -- Who may use the value
 
@@ -178,12 +173,11 @@ is_writer e = list_any (λ h. same_kind writing h.kind) e.holders || list_any (�
 
 -- the party leaves the value to the owner: it has leaked, or is gone, or is idle and has no entry in the plain lock
 abbrev pub YieldsToOwner : {C L : Type 0} → Plain → ℕ → Option (Seat C L) → Type 0
-YieldsToOwner s p None = entries p s ≡ no_entries
-YieldsToOwner s p (Some Idle) = entries p s ≡ no_entries
 YieldsToOwner s p (Some (Calling c l h)) = ⊥
 YieldsToOwner s p (Some (Holding h)) = ⊥
 YieldsToOwner s p (Some (Leaked h)) = Unit {0}
 YieldsToOwner s p (Some (Gone h)) = Unit {0}
+YieldsToOwner s p _ = entries p s ≡ no_entries
 
 abbrev pub IsOwners : {W V C L : Type 0} → Seen W V C L → Type 0
 IsOwners seen = (q : ℕ) → YieldsToOwner seen.plain q (seat_of seen q)
@@ -232,14 +226,11 @@ is_in_place owned _ _ = false
 -- the outcome is that of a step
 
 abbrev pub IsStep : {V A : Type 0} → Outcome A V → Type 0
-IsStep outcome.GoingOn = Unit {0}
-IsStep (outcome.Answered a b) = Unit {0}
-IsStep _ = ⊥
+IsStep o = elim o [ outcome.GoingOn ↦ Unit {0} | outcome.Answered a b ↦ Unit {0} | _ ↦ ⊥ ]
 
 -- a step changes the value only if a closure completes by this step
 abbrev pub StepLeaves : {V : Type 0} → Option Change → Option V → Option V → Type 0
-StepLeaves (Some (completes p)) old new = Unit {0}
-StepLeaves _ old new = new ≡ old
+StepLeaves step old new = elim step [ Some (completes p) ↦ Unit {0} | _ ↦ new ≡ old ]
 
 abbrev pub ComesTo : {V C A : Type 0} → Move C V → Option Change → Option V → Option V → Outcome A V → Type 0
 ComesTo (Begin c) step old new o = (o ≡ outcome.Begun) × (new ≡ old)
@@ -263,8 +254,7 @@ IsWeakCall _ p span what = Unit {0}
 
 -- what the party's call promises, if the party is in a call
 abbrev pub asked : {W V C L A : Type 0} → Machine W V C L A → Option (Seat C L) → Option Asked
-asked m (Some (Calling c l h)) = Some (m.asks c h)
-asked m _ = None
+asked m seat = elim seat [ Some (Calling c l h) ↦ Some (m.asks c h) | _ ↦ None ]
 
 -- A call that is answered has made the plain steps that its answer implies. The plain steps of a call that continues are
 -- the first ones of those that some answer implies.
@@ -278,8 +268,7 @@ OwnSteps m p span _ _ = Unit {0}
 -- A party's call
 
 abbrev pub held_at : {C L : Type 0} → Option (Seat C L) → Option Hold
-held_at (Some (Holding h)) = Some h
-held_at _ = None
+held_at seat = elim seat [ Some (Holding h) ↦ Some h | _ ↦ None ]
 
 -- A party that begins a call is then in that call, and its seat tells what it held. A party whose call continues stays
 -- in this call.
@@ -287,11 +276,6 @@ abbrev pub InItsCall : {V C L A : Type 0} → Outcome A V → Move C V → Optio
 InItsCall {L = L} outcome.Begun (Begin c) before after = (l : L) × (after ≡ Some (Calling c l (held_at before)))
 InItsCall {L = L} outcome.GoingOn move (Some (Calling c l h)) after = (next : L) × (after ≡ Some (Calling c next h))
 InItsCall _ move before after = Unit {0}
-
--- a move of the party p leaves each other party in its call, at the same point
-abbrev pub LeavesCalls : {W V C L : Type 0} → ℕ → Seen W V C L → Seen W V C L → Type 0
-LeavesCalls {C = C} {L = L} p before after =
-    (q : ℕ) (c : C) (l : L) (h : Option Hold) → (p ≡ q → ⊥) → seat_of before q ≡ Some (Calling c l h) → seat_of after q ≡ Some (Calling c l h)
 
 -- What is promised of an event
 
@@ -334,7 +318,8 @@ pub record Keeps {W V C L A : Type 0} (m : Machine W V C L A) (s : Scene W V C L
   pub in_place : (s.outcome ≡ outcome.Skipped → ⊥) → is_in_place m.owned s.move s.seat ≡ true
   -- A party stays in its call until the call is answered. No move of another party changes its point in the call.
   pub in_call : InItsCall s.outcome s.move s.seat (seat_of s.after s.party)
-  pub calls : LeavesCalls s.party s.before s.after
+  pub calls : (q : ℕ) (c : C) (l : L) (h : Option Hold) → (s.party ≡ q → ⊥) → seat_of s.before q ≡ Some (Calling c l h)
+      → seat_of s.after q ≡ Some (Calling c l h)
 
 -- An answer by a step is right at some moment of its call. An answer by a move `Weak` is right at some moment, or is a
 -- spurious failure.
@@ -368,12 +353,10 @@ pub record RegistersInTime (IsFew : List Mark → Type 0) (p n : ℕ) (span : Li
   pub patient : (recent : List Mark) (m : Mark) (older : List Mark) → span ≡ recent ++ m ∷ older → Registers p m → n < held_looks p older
 
 abbrev pub EndsWithin : Limit → LockKind → ℕ → List Mark → Type 0
-EndsWithin unlimited kind p span = Unit {0}
 EndsWithin (within k) kind p span = own_count p span ≤ k
 EndsWithin (within_changes k) kind p span = own_count p span ≤ k + changes kind p span
-EndsWithin (gets_within ask k) kind p span = Unit {0}
-EndsWithin (changes_within k) kind p span = Unit {0}
 EndsWithin (registers_after n k) kind p span = RegistersInTime (λ recent. ⊥) p n span
+EndsWithin _ kind p span = Unit {0}
 
 abbrev pub ContinuesWithin : Limit → LockKind → ℕ → List Mark → Type 0
 ContinuesWithin unlimited kind p span = Unit {0}

@@ -10,5 +10,4 @@ abbrev pub shares : {C L : Type 0} → Seat C L → Bool
 shares seat = not (yields_to_owner seat)
 
 abbrev pub has_leaked : {C L : Type 0} → Seat C L → Bool
-has_leaked (Leaked h) = true
-has_leaked _ = false
+has_leaked seat = elim seat [ Leaked h ↦ true | _ ↦ false ]

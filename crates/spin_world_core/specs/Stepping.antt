@@ -15,8 +15,7 @@ result_of (Exchange to won lost) w = becomes (λ u. u) w to won lost
 result_of (WeakExchange to won lost) w = becomes (λ u. u) w to won lost
 
 abbrev pub refusal_of : {W V L A : Type 0} → Act W V L A → Option (Next L A)
-refusal_of (WeakExchange to won lost) = Some lost
-refusal_of _ = None
+refusal_of act = elim act [ WeakExchange to won lost ↦ Some lost | _ ↦ None ]
 
 -- an exchange if the word is still the one found before; otherwise a load of the word for the next exchange
 abbrev pub tried_again : {W V L A : Type 0} → Bool → Option W → Next L A → Next L A → Next L A → Act W V L A

@@ -26,8 +26,7 @@ scenes m seen (e ∷ es) = scene m seen e.0 e.1 ∷ scenes m (scene m seen e.0 e
 
 -- the outcome without the place where the call began
 abbrev pub without_begin : {V A : Type 0} → Outcome A V → Outcome A V
-without_begin (outcome.Answered a b) = outcome.Answered a None
-without_begin o = o
+without_begin o = elim o [ outcome.Answered a b ↦ outcome.Answered a None | other ↦ other ]
 
 -- the event has the scene's party, its outcome (apart from where the call began), and the words after the scene
 pub record TellsScene {W V C L A : Type 0} (s : Scene W V C L A) (e : Event W V A) : Type 0 where
@@ -38,9 +37,8 @@ pub record TellsScene {W V C L A : Type 0} (s : Scene W V C L A) (e : Event W V 
 -- each event tells the scene at its place, and there are as many events as scenes
 abbrev pub EachTells : {W V C L A : Type 0} → List (Scene W V C L A) → List (Event W V A) → Type 0
 EachTells [] [] = Unit {0}
-EachTells [] (e ∷ es) = ⊥
-EachTells (s ∷ ss) [] = ⊥
 EachTells (s ∷ ss) (e ∷ es) = TellsScene s e × EachTells ss es
+EachTells _ _ = ⊥
 
 -- for any schedule of any world that led to this state: the events tell the scenes of the new schedule, played from there
 abbrev pub TellsAfterAnyPast : {W V C L A : Type 0} → Machine W V C L A → State W V C L → Schedule C V → List (Event W V A) → Type 0
@@ -63,8 +61,7 @@ stage_by_own _ stage = stage
 
 -- the owner's moves turn leaked parties into gone ones
 abbrev pub let_go_stage : Stage → Stage
-let_go_stage has_leaked = is_gone
-let_go_stage stage = stage
+let_go_stage stage = elim stage [ has_leaked ↦ is_gone | other ↦ other ]
 
 abbrev pub stage_by_owner : {V C A : Type 0} → Outcome A V → Move C V → Stage → Stage
 stage_by_owner outcome.Skipped move stage = stage
@@ -92,8 +89,7 @@ PlaceSays stage n s p span (Some place) = (p < n) × StandsAt stage s p span pla
 
 -- for any schedule of any world that led to this state, `PlaceSays` holds of the place that was told
 abbrev pub SaysAfterAnyPast : {W V C L A : Type 0} → Machine W V C L A → State W V C L → ℕ → Option Place → Type 0
-SaysAfterAnyPast {V = V} {C = C} m s p told =
-    (n : ℕ) (past : Schedule C V) → state_at m n past ≡ s
+SaysAfterAnyPast {V = V} {C = C} m s p told = (n : ℕ) (past : Schedule C V) → state_at m n past ≡ s
     → let seen = seen_at m n past in PlaceSays (stage_after p at_rest (scenes m (opening m n) past)) n seen.plain p (seen.span p) told
 
 -- the event begins a call of the party

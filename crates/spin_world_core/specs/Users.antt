@@ -45,9 +45,7 @@ pub record FindsLastWritten {W V C L A : Type 0} (m : Machine W V C L A) (n : �
 
 -- the move is no `Write`; if the move begins a call, this call keeps the guard
 abbrev pub is_quiet_move : {C V : Type 0} → (C → Bool) → Move C V → Bool
-is_quiet_move keeps (Begin c) = keeps c
-is_quiet_move keeps (Write v) = false
-is_quiet_move keeps _ = true
+is_quiet_move keeps move = elim move [ Begin c ↦ keeps c | Write v ↦ false | _ ↦ true ]
 
 -- every move of the party among these entries is quiet
 abbrev pub is_quiet : {C V : Type 0} → (C → Bool) → ℕ → Schedule C V → Bool
@@ -73,8 +71,7 @@ ReadsAgree m n past = ReadsAgreeAcross (λ c. false) m n past
 -- how many events of these entries make a plain step that passes the test
 
 abbrev pub passes : (Change → Bool) → Option Change → Bool
-passes test None = false
-passes test (Some c) = test c
+passes test step = elim step [ None ↦ false | Some c ↦ test c ]
 
 abbrev pub steps_made : {W V C L A : Type 0} → (Change → Bool) → Machine W V C L A → Seen W V C L → Schedule C V → ℕ
 steps_made test m seen [] = 0

@@ -14,8 +14,7 @@ use Rattle.spin_world_core.specs.Runs.{Scene, Every, opening}
 
 -- if closures make the value, the world has a value exactly if the phase is complete
 abbrev pub HasPhase : {V : Type 0} → Bool → Phase → Option V → Type 0
-HasPhase true phase value = is_complete phase ≡ is_some value
-HasPhase false phase value = Unit {0}
+HasPhase makes phase value = elim makes [ true ↦ is_complete phase ≡ is_some value | false ↦ Unit {0} ]
 
 -- after a closure completes, the value is the one that its own call brings
 abbrev pub Brings : {W V C L A : Type 0} → Machine W V C L A → Option Change → Option (Seat C L) → Option V → Type 0
