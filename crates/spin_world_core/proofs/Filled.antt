@@ -2,6 +2,7 @@
 use Rattle.spin_world_core.proofs.Names.{◌≡◌, ℕ, Bool, true, false, is_some, Option, Some, None, refl, sym, ◌∙◌, subst, arith, true≢false, Plain, Phase, Change, completes, is_complete, apply_some, IsOpenStep, entries, is_held, Answer, Hold, Next, Answers, encoded, says_of, placed, HasPhase, if_completed, is_writer, Memory, Act, store, step_by, change_at, change_by, makes_by, Table, machine_of, completes_by, filled, machine_with}
 use Rattle.std.specs.Prelude.{if◌then◌else◌}
 use Rattle.spin_model.specs.Asks.{is_completion}
+use Rattle.spin_world_core.specs.Users.{passes}
 use Rattle.spin_model.specs.declared.answer.Answer.TheVariants.{Value}
 use Rattle.spin_world_core.proofs.Operating.{change_is, fits_change, stepwise_of, stepwise_with}
 use Rattle.spin_world_core.proofs.Shapes.{Notes, Pays}
@@ -11,10 +12,7 @@ use Rattle.spin_world_core.proofs.Steps.{told, NextGives, Plays}
 pub uncompleted : {V : Type 0} (old put : Option V) (step : Option Change) → ((q : ℕ) → step ≡ Some (completes q) → ⊥) → old ≡ if_completed old put step
 uncompleted old put step none = grind (arith, none)
 
--- The machine in which no closure makes the value: no step stores a value
-
-stores_none : {W V L A : Type 0} (m : Memory W) (i : ℕ) (act : Act W L A) (w : W) → (step_by {V = V} m i act w).placed ≡ None
-stores_none {V} m i act w = grind arith
+-- The machine in which no closure makes the value
 
 module _ {W V C L A : Type 0} {t : Table W V C L A} {n : Notes t} (pays : Pays n) (no_value : t.lock_kind.makes_value ≡ false) where
   no_completion : (p : ℕ) (c : C) (l : L) (h : Option Hold) (w : W) (q : ℕ) → change_by t.memory (t.word l) (t.act c l h) p w ≡ Some (completes q) → ⊥
@@ -24,35 +22,29 @@ module _ {W V C L A : Type 0} {t : Table W V C L A} {n : Notes t} (pays : Pays n
   silent v next = grind (arith, no_value)
 
   pub plays_of : Plays (machine_of t) n
-  plays_of =
-      record {
-        pays = pays;
-        stepwise = stepwise_of t pays.fits pays.operates pays.calls pays.own;
-        words = grind arith;
-        continues = grind arith;
-        refuses = λ c l h next is. (next, is, refl);
-        refusal_gives = grind (arith, silent);
-        values = λ p c l h s v w encodes shape phase opens.
-            grind (arith, no_value, silent, stores_none {V = V} t.memory (t.word l) (t.act c l h) w, uncompleted v, no_completion p c l h w);
-        written = grind (arith, no_value);
-      }
+  plays_of = record {
+    pays = pays;
+    stepwise = stepwise_of t pays.fits pays.operates pays.calls pays.own;
+    words = grind arith;
+    continues = grind arith;
+    refuses = λ c l h next is. (next, is, refl);
+    refusal_gives = grind (arith, silent);
+    values = λ p c l h s v w encodes shape phase opens.
+        grind (arith, no_value, silent, uncompleted v, no_completion p c l h w);
+    written = grind (arith, no_value);
+  }
 
 -- The machine in which closures make the value
-
-abbrev is_end : Option Change → Bool
-is_end None = false
-is_end (Some c) = is_completion c
 
 -- Only a store completes a closure, and only if the call brings a value. Whether a store completes a closure does not
 -- depend on the party.
 abbrev pub CompletesRight : {W V L A : Type 0} → Act W L A → ℕ → Option V → Type 0
 CompletesRight (store can operation step next) p value = (is_completion (step p) ≡ is_completion (step 0)) × (is_completion (step p) ≡ true → is_some value ≡ true)
-CompletesRight act p value = is_end (makes_by act p) ≡ false
+CompletesRight act p value = passes is_completion (makes_by act p) ≡ false
 
 -- a call answers with a value only if there is one
 abbrev pub TellsOf : {L : Type 0} → Phase → Next L (Answer (Unit {0})) → Type 0
-TellsOf phase (Answers (Value u) after) = is_complete phase ≡ true
-TellsOf phase _ = Unit {0}
+TellsOf phase next = elim next [ Answers (Value u) after ↦ is_complete phase ≡ true | _ ↦ Unit {0} ]
 
 -- what an object whose closures make its value shows of its table
 pub record PaysWith {W V C L : Type 0} {t : Table W V C L (Answer (Unit {0}))} (n : Notes t) (brings : C → Option V) : Type 0 where
@@ -90,24 +82,18 @@ module _ {W V C L : Type 0} {t : Table W V C L (Answer (Unit {0}))} {n : Notes t
   gives_at v next = grind (arith, pays.makes)
 
   pub plays_with : Plays (machine_with t brings) n
-  plays_with =
-      record {
-        pays = pays.pays;
-        stepwise = stepwise_with t brings pays.pays.fits pays.pays.operates pays.pays.calls pays.pays.own pays.strong;
-        words = λ w v c l h. refl;
-        continues = grind arith;
-        refuses = λ c l h next is. absurd (cc (is));
-        refusal_gives = λ c l h v next is. absurd (cc (is));
-        values = λ p c l h s v w encodes shape phase opens.
-            let complete = subst (λ made. HasPhase made s.phase v) pays.makes phase in
-            let puts = puts_by _ (t.act c l h) s p v (brings c) w (pays.completes_right p c l h) opens complete in
-            record {
-              tells = tells_with (apply_some s (change_by t.memory (t.word l) (t.act c l h) p w)) _ _ puts.phase (pays.tells p c l h s w encodes);
-              phase = grind arith;
-              places = puts.places;
-              completes_alone = λ q is. pays.none_holds s shape;
-              brings = puts.brings;
-              gives = gives_at _ _;
-            };
-        written = grind arith;
-      }
+  plays_with = record {
+    pays = pays.pays;
+    stepwise = stepwise_with t brings pays.pays.fits pays.pays.operates pays.pays.calls pays.pays.own pays.strong;
+    words = λ w v c l h. refl;
+    continues = grind arith;
+    refuses = λ c l h next is. absurd (cc (is));
+    refusal_gives = λ c l h v next is. absurd (cc (is));
+    values = λ p c l h s v w encodes shape phase opens.
+        let complete = subst (λ made. HasPhase made s.phase v) pays.makes phase in
+        let puts = puts_by _ (t.act c l h) s p v (brings c) w (pays.completes_right p c l h) opens complete in
+        let made = change_by t.memory (t.word l) (t.act c l h) p w in
+        let tells = tells_with (apply_some s made) _ _ puts.phase (pays.tells p c l h s w encodes) in
+        grind (arith, pays.makes, puts, tells, pays.none_holds s shape, gives_at);
+    written = grind arith;
+  }

@@ -17,13 +17,10 @@ abbrev pub OwnFits : {W V C L A : Type 0} → Table W V C L A → Type 0
 OwnFits {C = C} t =
     (c : C) (h : Option Hold) (said : Said) (p : ℕ) → (t.asks c h).begins h ≡ true → list_all (list_all (is_step_of t.lock_kind)) (own_steps ((t.asks c h).answers said) p) ≡ true
 
-abbrev pub may_be_section : Bool → Bool → Bool
-may_be_section true is = true
-may_be_section false is = not is
-
 -- `fits_step`, and the act is no section unless the steps of this kind of lock are sections
 abbrev pub fits_act : {W L A : Type 0} → LockKind → Asked → Act W L A → ℕ → Bool
-fits_act kind what act p = fits_step kind what (is_some (refusal_by act)) (makes_by act p) && may_be_section kind.steps_in_sections (is_section act)
+fits_act kind what act p =
+    fits_step kind what (is_some (refusal_by act)) (makes_by act p) && (kind.steps_in_sections || not (is_section act))
 
 -- a step that is no section makes its operation on its word, and does not change the other words
 abbrev pub Operates : {W V C L A : Type 0} → Table W V C L A → Type 0
@@ -53,9 +50,6 @@ module _ {W V C L A : Type 0} (t : Table W V C L A) (fit : (p : ℕ) (c : C) (l 
   performs_of : (c : C) (l : L) (h : Option Hold) → is_section (t.act c l h) ≡ false → Performs (machine_of t) c l h (place_of (t.word l) (t.act c l h)) (operation_by (t.act c l h))
   performs_of c l h one = grind arith
 
-  operation_of : (sections : Bool) (c : C) (l : L) (h : Option Hold) → may_be_section sections (is_section (t.act c l h)) ≡ true → IsOneOperation sections (machine_of t) c l h
-  operation_of sections c l h one = grind (arith, performs_of c l h)
-
   lost_of : (c : C) (l : L) (h : Option Hold) (act : Act W L A) (next : Next L A) → t.act c l h ≡ act → refusal_by act ≡ Some next → RefusesAsLost (machine_of t) c l h next
   lost_of c l h (weak_exchange k f step won lost) next same is =
       let i = t.word l in
@@ -64,16 +58,15 @@ module _ {W V C L A : Type 0} (t : Table W V C L A) (fit : (p : ℕ) (c : C) (l 
   lost_of c l h _ next same is = absurd (cc (is))
 
   pub stepwise_of : CallsFit t → OwnFits t → Stepwise (machine_of t)
-  stepwise_of calls own =
-      record {
-        calls = calls;
-        begins = grind arith;
-        fits = own;
-        refuses = λ c l h next is. lost_of c l h (t.act c l h) next refl is;
-        weak = λ p c l h w d is. (fits_change p c l h (number_at t.memory (place_of (t.word l) (t.act c l h)) w) w d is).1;
-        operates = λ c l h. operation_of t.lock_kind.steps_in_sections c l h (and_parts _ _ (fit 0 c l h)).1;
-        looks = grind arith;
-      }
+  stepwise_of calls own = record {
+    calls = calls;
+    begins = grind arith;
+    fits = own;
+    refuses = λ c l h next is. lost_of c l h (t.act c l h) next refl is;
+    weak = λ p c l h w d is. (fits_change p c l h (number_at t.memory (place_of (t.word l) (t.act c l h)) w) w d is).1;
+    operates = λ c l h. grind (arith, performs_of c l h, fit 0 c l h);
+    looks = grind arith;
+  }
 
 module _ {W V C L : Type 0} (t : Table W V C L (Answer (Unit {0}))) (brings : C → Option V) (fit : (p : ℕ) (c : C) (l : L) (h : Option Hold) → fits_act t.lock_kind (t.asks c h) (t.act c l h) p ≡ true) (operates : Operates t) where
   operation_with : (sections : Bool) (c : C) (l : L) (h : Option Hold) → IsOneOperation sections (machine_of t) c l h → IsOneOperation sections (machine_with t brings) c l h
@@ -83,8 +76,7 @@ module _ {W V C L : Type 0} (t : Table W V C L (Answer (Unit {0}))) (brings : C 
 
   pub stepwise_with : CallsFit t → OwnFits t → ((c : C) (h : Option Hold) (d : Change) → (t.asks c h).gets_weakly d ≡ false) → Stepwise (machine_with t brings)
   stepwise_with calls own strong =
-      let is = stepwise_of t fit operates calls own in
-      record {
+      let is = stepwise_of t fit operates calls own in record {
         calls = calls;
         begins = is.begins;
         fits = is.fits;

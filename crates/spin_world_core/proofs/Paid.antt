@@ -1,13 +1,10 @@
 -- What holds at a step of a party, by what the object shows of its table (`Pays`).
-use Rattle.spin_world_core.proofs.Names.{◌≤◌, LockKind, ◌≡◌, ℕ, zero, suc, Bool, true, false, is_some, Option, Some, None, List, [], ◌∷◌, ◌++◌, option_to_list, ap, sym, ◌∙◌, subst, arith, and_parts, false≢true, Plain, Ask, Change, gets, is_open, is_open_to, apply_some, IsOpenStep, entries, Hold, Next, Continue, Answers, Stepped, Move, Step, Weak, StepKind, weak, is_again, by_step, Asked, place_of, encoded, is_step_of, BelongsTo, Said, own_steps, AnyOf, Mark, first_word, Limit, is_open_now, steps_alone, way_of, is_due_by, LooksElse, Gets, mark_of, Machine, entries_held, own, failures, changes, IsBeginning, RightBy, ContinuesWithin, number_at, Act, load_for, retry, either, stays, step_by, change_by, can_by, refusal_by, makes_by, step_kind_by, Table, begin_of, HasPhase, tries_of, goes_of, limit}
-use Rattle.spin_world_core.proofs.Steps.{Makes, told, played, GoesOnOpen, ContinuesCounted, Moves, NextIs, AnswersWithin, AtStep, Plays}
+use Rattle.spin_world_core.proofs.Names.{◌≤◌, if◌then◌else◌, LockKind, ◌≡◌, ℕ, zero, suc, Bool, true, false, is_some, Option, Some, None, List, [], ◌∷◌, ◌++◌, option_to_list, ap, sym, ◌∙◌, subst, arith, and_parts, false≢true, Plain, Ask, Change, gets, is_open, is_open_to, apply_some, IsOpenStep, entries, Hold, Next, Continue, Answers, Stepped, Move, Step, Weak, StepKind, weak, is_again, by_step, Asked, place_of, encoded, is_step_of, BelongsTo, Said, own_steps, AnyOf, Mark, first_word, Limit, steps_alone, way_of, is_due_by, LooksElse, Gets, mark_of, Machine, entries_held, own, failures, changes, IsBeginning, RightBy, number_at, Act, load_for, retry, either, stays, step_by, change_by, can_by, refusal_by, makes_by, step_kind_by, Table, begin_of, HasPhase, tries_of, goes_of, limit}
+use Rattle.spin_world_core.proofs.Steps.{Makes, told, played, GoesOnOpen, Continues, Moves, NextIs, AnswersWithin, AtStep, Plays}
 use Rattle.spin_world_core.proofs.Operating.{change_is, fits_made}
 use Rattle.spin_world_core.proofs.Stands.{stand_of, held_at, stand-mine}
-use Rattle.spin_world_core.proofs.Rows.{Known, Opened, OwesRight, Branch, goes, finds_open, loses, misses, Branched, need_of, Needs, needs-mine, spent-mine, goes_within, ends_within, any_map, moment_of, Row, IsSound, Expects, known-other}
-use Rattle.spin_world_core.proofs.Shapes.{AimsRow, SoonRow, Notes, OwesBy, is_answer, row_of, KnowsRow, Knows, AtPoint, InCall, FollowsRow, Follows, Owes, OwesRow, answers_by, BeginsRow, sure_by, aim_by, aim_of, aimed, Pays}
-
-abbrev Aimed : {W L A : Type 0} → Option Ask → Option Ask → Act W L A → List Change → ℕ → Type 0
-Aimed tries due act made p = aim_by tries act p ≡ aimed p (aim_of tries due made) (aim_by tries act p)
+use Rattle.spin_world_core.proofs.Rows.{Known, Opened, OwesRight, Branch, goes, finds_open, loses, misses, Branched, need_of, Needs, needs-mine, goes_within, ends_within, any_map, moment_of, Row, IsSound, Expects, known-other}
+use Rattle.spin_world_core.proofs.Shapes.{AimsRow, SoonRow, Notes, OwesBy, is_answer, row_of, KnowsRow, Knows, AtPoint, InCall, FollowsRow, Follows, Owes, OwesRow, answers_by, BeginsRow, sure_by, aim_by, aimed, Aimed, Pays}
 
 aims_try : {W L A : Type 0} (tries due : Option Ask) (act : Act W L A) (made : List Change) (ask : Ask) (p : ℕ) → tries ≡ Some ask → made ≡ [] → Aimed tries due act made p → aim_by (Some ask) act p ≡ aimed p (Some ask) (aim_by (Some ask) act p)
 aims_try tries due act made ask p is none aims = grind arith
@@ -20,15 +17,8 @@ gets_by kind what act p s span step made is needs aims got = λ ask aim.
     subst (λ cs. let way = way_of kind what cs in (is_due_by way p span ≡ true → is_open_to s p ask ≡ true → step ≡ Some (gets p ask)) × LooksElse way p span (by_step (step_kind_by what act)))
     (sym is) (grind (arith, got (gets p ask), subst (λ cs. goes_of what cs ≡ Some ask) is aim))
 
--- `ContinuesCounted` holds if a step is a retry whenever its call continues and its plain step is open but not made
-counted_of : {W L A : Type 0} (change : W → Option Change) (s : Plain) (says : A → Said) (next : Next L A) (o : Option Change) (r : StepKind)
-    → ((w : W) (d : Change) → change w ≡ Some d → is_open s d ≡ true → o ≡ None → is_answer next ≡ false → is_again r ≡ true)
-    → ContinuesCounted change s (told says next) o r
-counted_of change s says next o r counts = grind (arith, counts)
-
 abbrev move_of : {C V : Type 0} → Bool → Move C V
-move_of true = Weak
-move_of false = Step
+move_of weakly = if weakly then Weak else Step
 
 -- `Open` holds if the result is `finds_open` or `loses`
 abbrev Aims : Branch → Type 0 → Type 0
@@ -36,20 +26,15 @@ Aims finds_open Open = Open
 Aims loses Open = Open
 Aims branch Open = Unit {0}
 
-abbrev misses_by : Option Change → Branch
-misses_by None = goes
-misses_by (Some c) = misses c
-
 -- the result of a step that makes no plain step, if it finds the number n in its word
 abbrev found_by : {W L A : Type 0} → ℕ → Act W L A → ℕ → Branch
 found_by n (load_for f step found missed) p = either (is_some (f n)) finds_open (misses (step p))
 found_by n (retry k f step won found missed) p = either (is_some (f n)) loses (misses (step p))
-found_by n act p = misses_by (sure_by act p)
+found_by n act p = elim (sure_by act p) [ None ↦ goes | Some c ↦ misses c ]
 
 -- the result of a step, by whether it makes its plain step
 abbrev branch_by : Option Change → Branch → Branch
-branch_by None branch = branch
-branch_by (Some c) branch = goes
+branch_by step branch = elim step [ None ↦ branch | Some c ↦ goes ]
 
 -- What the form of a step shows
 module _ {W V C L A : Type 0} {t : Table W V C L A} (n : Notes t) (p : ℕ) (what : Asked) (s : Plain) (w : W) (span : List Mark) (made : List Change)
@@ -80,7 +65,8 @@ module _ {W V C L A : Type 0} {t : Table W V C L A} (n : Notes t) (p : ℕ) (wha
       -- a step makes the plain step of `sure_by` whenever this plain step is open
       gets : (e : Change) → sure_by act p ≡ Some e → is_open s e ≡ true → change ≡ Some e
       -- a step that makes no plain step, though its plain step is open, answers its call or is a retry
-      counts : (d : Change) → makes_by act p ≡ Some d → is_open s d ≡ true → change ≡ None → is_answer moved.next ≡ false → is_again kind_of ≡ true
+      counts : (d : Change) → makes_by act p ≡ Some d → is_open s d ≡ true → change ≡ None
+          → is_answer (told t.says moved.next) ≡ false → is_again kind_of ≡ true
       -- a step with the result `finds_open` or `loses` shows that what a try asks is open
       aims : (ask : Ask) → aim_by (Some ask) act p ≡ aimed p (Some ask) (aim_by (Some ask) act p) → change ≡ None → Aims (branch_by change found) (is_open_to s p ask ≡ true)
       -- a spurious failure of a weak exchange: the call may fail so, and has made exactly the plain steps before this exchange
@@ -89,8 +75,7 @@ module _ {W V C L A : Type 0} {t : Table W V C L A} (n : Notes t) (p : ℕ) (wha
     formed : OwesBy n p what s w made Comes i act → ((d : Change) → makes_by act p ≡ Some d → is_step_of t.lock_kind d ≡ true) → Expects t.lock_kind act p s span
         → t.memory.numbers w ≡ encoded t.lock_kind s → n.Shape s → Formed
     formed owes own expects encodes shape =
-        let first : number_at t.memory 0 w ≡ first_word t.lock_kind s = grind arith in
-        record {
+        let first : number_at t.memory 0 w ≡ first_word t.lock_kind s = grind arith in record {
           can = grind arith;
           step = record { makes = grind (arith, own, expects, first); branched = grind arith; comes = grind arith };
           gets = grind arith;
@@ -129,12 +114,6 @@ module _ {W V C L A B : Type 0} {t : Table W V C L A} {m : Machine W V C L B} {n
     abbrev Comes : Bool → Option Change → StepKind → Branch → Next L A → Type 0
     Comes = Follows n p c h s w span row
 
-    abbrev ComesRow : Option Change → StepKind → Branch → L → Option Row → Type 0
-    ComesRow = FollowsRow n p c h s w span row
-
-    abbrev OwesHere : ℕ → Act W L A → Type 0
-    OwesHere = Owes n p c h s w span row
-
     abbrev spanned : Option Change → StepKind → List Mark
     spanned step r = mark_of p step r s ∷ span
 
@@ -150,39 +129,35 @@ module _ {W V C L A B : Type 0} {t : Table W V C L A} {m : Machine W V C L B} {n
     -- a step with this result, and how the call continues
     module _ {weakly : Bool} {step : Option Change} {r : StepKind} {branch : Branch} {u : W} {next : Next L A}
         (is : ShownHere weakly step r branch u next) where
-      goes_to : (j : L) (o : Option Row) → IsSound kind what p o → ComesRow step r branch j o
-          → KnowsRow n c j h p (apply_some s step) (spanned step r) o
-          × ((said : Said) × AnyOf (λ steps. IsBeginning (own p (spanned step r)) steps) (own_steps (what.answers said) p))
-          × ContinuesWithin limited kind p (spanned step r)
+      goes_to : (j : L) (o : Option Row) → IsSound kind what p o → FollowsRow n p c h s w span row step r branch j o
+          → Continues n o p c j h (apply_some s step) (spanned step r)
       goes_to j None sound follows = absurd follows
       goes_to j (Some to) sound follows =
           let retries : failures p (spanned step r) ≤ changes kind p (spanned step r) = grind (arith, at.retries, is.fails) in
           let found = needs-mine p s step r span (need_of kind what (to.made p) (t.act c j h)) _ follows.finds in
           let made = made_now step r (to.made p) follows.made in
           let expects : Expects kind (t.act c j h) p (apply_some s step) (spanned step r) = grind arith in
-          let spent = spent-mine p s step r span limited kind branch (to.made p) row.spent to.spent made follows.spends is.branched known.spent in (
-            (search (stand-mine s p step row.stand to.stand is.opens known.stand follows.stands, made, spent, expects, found, is, known.opened), follows.knows),
-            (
-              to.said,
-              any_map (λ steps. to.made p ++ to.rest p ≡ steps) (λ steps. IsBeginning (own p (spanned step r)) steps) (own_steps (what.answers to.said) p)
-                  (λ steps e. (to.rest p, ap (λ cs. cs ++ to.rest p) made ∙ e)) sound.1,
-            ),
-            goes_within p s step r span limited kind branch (to.made p) row.spent to.spent made follows.spends sound.0 retries spent,
-          )
+          let within = goes_within p s step r span limited kind branch (to.made p) row.spent to.spent made
+          follows.spends is.branched known.spent sound.0 retries in
+          let stands = stand-mine s p step row.stand to.stand is.opens known.stand follows.stands in
+          let so_far = any_map (λ steps. to.made p ++ to.rest p ≡ steps)
+          (λ steps. IsBeginning (own p (spanned step r)) steps) (own_steps (what.answers to.said) p)
+          (λ steps e. (to.rest p, ap (λ cs. cs ++ to.rest p) made ∙ e)) sound.1 in
+          record {
+            knows = (search (stands, made, within.0, expects, found, is, known.opened), follows.knows);
+            own_so_far = (to.said, so_far);
+            in_time = within.1;
+          }
 
       followed : (next : Next L A) → Comes weakly step r branch next → NextIs n (move_of weakly) p c h (apply_some s step) (spanned step r) (told t.says next)
-      followed (Continue j) follows =
-          let there = goes_to j (row_of n c j h) (pays.sound p c j h) follows in
-          record { knows = there.0; own_so_far = there.1; in_time = there.2 }
+      followed (Continue j) follows = goes_to j (row_of n c j h) (pays.sound p c j h) follows
       followed (Answers a after) follows =
           let made = any_map (λ steps. row.made p ++ option_to_list step ≡ steps) (λ steps. own p (spanned step r) ≡ steps)
           (own_steps (what.answers (t.says a)) p) (λ steps e. made_now step r steps e) follows.made in
-          search (
-            stand-mine s p step row.stand (stand_of after) is.opens known.stand follows.stands ∙ sym (held_at p after),
-            made,
-            right_by weakly what (t.says a) p (spanned step r) (is.opens, known.opened) made follows.right,
-            ends_within limited kind (row.made p) row.spent p s step r span sound.0 at.retries known.spent follows.in_time,
-          )
+          let stands = stand-mine s p step row.stand (stand_of after) is.opens known.stand follows.stands in
+          let right = right_by weakly what (t.says a) p (spanned step r) (is.opens, known.opened) made follows.right in
+          let ends = ends_within limited kind (row.made p) row.spent p s step r span sound.0 at.retries known.spent in
+          search (stands ∙ sym (held_at p after), made, right, ends follows.in_time)
 
       -- a try continues only as `MayTryOn` allows
       tried_on : (ask : Ask) → tries_of what ≡ Some ask → (step ≡ None → Aims branch (is_open_to s p ask ≡ true))
@@ -196,30 +171,27 @@ module _ {W V C L A B : Type 0} {t : Table W V C L A} {m : Machine W V C L B} {n
     refused : (next : Next L A) → Comes true None weak goes next → ShownHere true None weak goes w next
     refused next comes = grind arith
 
-    soon_is : SoonRow n p c l h s w span (Some row) → is_open_now p what span s ≡ true → answers_by t (steps_alone what) w c l h ≡ true
-    soon_is soon may = grind arith
-
-    at_row : ((d : Change) → makes_by (t.act c l h) p ≡ Some d → is_step_of kind d ≡ true) → OwesHere (t.word l) (t.act c l h)
+    at_row : Owes n p c h s w span row (t.word l) (t.act c l h)
         → Aimed (tries_of what) (goes_of what (row.made p)) (t.act c l h) (row.made p) p → SoonRow n p c l h s w span (Some row)
         → (v : Option V) → HasPhase kind.makes_value s.phase v → AtStep m n p c l h s v w span
-    at_row fits owes aims soon v phase =
+    at_row owes aims soon v phase =
         let act = t.act c l h in
-        let is = formed n p what s w span (row.made p) Comes (t.word l) act owes fits known.expects at.encodes at.shape in
-        let values = f.values p c l h s v w at.encodes at.shape phase is.step.opens in
-        record {
+        let is = formed n p what s w span (row.made p) Comes (t.word l) act owes
+        (λ d made. (fits_made kind what _ _ d (and_parts _ _ (pays.fits p c l h)).0 made).0)
+        known.expects at.encodes at.shape in
+        let values = f.values p c l h s v w at.encodes at.shape phase is.step.opens in record {
           can = is.can;
           steps = rw (f.words w v c l h, values.tells) (moves_by is.step);
-          counted = rw values.tells (counted_of _ s t.says _ _ _ (λ u d names. is.counts d (change_is _ act p u d names)));
+          counted = rw values.tells (λ u d names. is.counts d (change_is _ act p u d names));
           due = gets_by kind what act p s span _ (row.made p) known.made known.needs aims is.gets;
           tries_on = λ ask asks none.
               let aims = is.aims ask (aims_try (tries_of what) _ act (row.made p) ask p asks (sym known.made ∙ none) aims) in
               rw values.tells (tried_on is.step ask asks aims);
-          undisturbed = λ may. answers_within (steps_alone what) w c l h (soon_is soon may);
+          undisturbed = λ may. answers_within (steps_alone what) w c l h (grind arith);
           refuses = λ next refuses.
               let other = f.refuses c l h next refuses in rw other.2 (moves_by (refused other.0 (is.refuses other.0 other.1).0));
           weakly = λ next refuses.
-              let other = f.refuses c l h next refuses in
-              let may = is.refuses other.0 other.1 in (may.1, known.made ∙ may.2);
+              let may = is.refuses _ (f.refuses c l h next refuses).1 in (may.1, known.made ∙ may.2);
           values = values;
         }
 
@@ -232,9 +204,7 @@ module _ {W V C L A B : Type 0} {t : Table W V C L A} {m : Machine W V C L B} {n
       by : (o : Option Row) → AtPoint n p c l h s w span o → IsSound kind (t.asks c h) p o → OwesRow n p c l h s w span o
           → AimsRow n p c l h o → SoonRow n p c l h s w span o → AtStep m n p c l h s v w span
       by None at sound owes aims soon = absurd at.knows
-      by (Some row) at sound owes aims soon =
-          at_row p c l h s w span row at sound (λ d is. (fits_made kind (t.asks c h) _ _ d (and_parts _ _ (pays.fits p c l h)).0 is).0)
-          (owes at) aims soon v phase
+      by (Some row) at sound owes aims soon = at_row p c l h s w span row at sound (owes at) aims soon v phase
 
   module _ (p : ℕ) (c : C) (l : L) (h : Option Hold) (s : Plain) where
     -- another party's step keeps what the party knows

@@ -27,12 +27,10 @@ use Rattle.spin_world_core.proofs.Every.{good_first, good_after}
 
 -- there is a row and it passes the test; `passes_all`: there is no row, or it passes the test
 abbrev pub passes_some : (Row → Bool) → Option Row → Bool
-passes_some test None = false
-passes_some test (Some row) = test row
+passes_some test o = elim o [ None ↦ false | Some row ↦ test row ]
 
 abbrev pub passes_all : (Row → Bool) → Option Row → Bool
-passes_all test None = true
-passes_all test (Some row) = test row
+passes_all test o = elim o [ None ↦ true | Some row ↦ test row ]
 
 -- If every row with the party's entries and plain steps passes a test, then the row of the party's point passes it.
 module _ {W V C L A : Type 0} {t : Table W V C L A} (n : Notes t) (c : C) (l : L) (h : Option Hold) (p : ℕ) (s : Plain) (span : List Mark) where

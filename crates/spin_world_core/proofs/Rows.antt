@@ -1,5 +1,5 @@
 -- What a party in a call knows of its entries and of its span, and how each step of any party keeps this knowledge.
-use Rattle.spin_world_core.proofs.Names.{◌≡◌, ℕ, suc, ◌+◌, ◌≤◌, ◌⊎◌, ◌==◌, Bool, true, false, not, ◌&&◌, ◌||◌, is_some, Option, Some, None, List, [], ◌∷◌, ◌++◌, option_to_list, nat_lt, if◌then◌else◌, refl, arith, inr, ⊎_elim, Plain, Ask, Change, gets, is_open, apply_some, IsOpenStep, entries, is_held, bit, entries-other, Hold, StepKind, is_again, is_look, LockKind, Asked, Said, Mark, AnyOf, first_word, Limit, registers_after, mark_of, own, own_count, failures, changes, EndsWithin, ContinuesWithin, is_due, Way, by_looks, past_looks, way_of, MayTryOn, Act, load, load_if, load_for, attempt, retry, ap, list_any, goes_of}
+use Rattle.spin_world_core.proofs.Names.{get_or, ◌≡◌, ℕ, suc, ◌+◌, ◌≤◌, ◌⊎◌, ◌==◌, Bool, true, false, not, ◌&&◌, ◌||◌, is_some, Option, Some, None, List, [], ◌∷◌, ◌++◌, option_to_list, nat_lt, if◌then◌else◌, refl, arith, inr, ⊎_elim, Plain, Ask, Change, gets, is_open, apply_some, IsOpenStep, entries, is_held, bit, entries-other, Hold, StepKind, is_again, is_look, LockKind, Asked, Said, Mark, AnyOf, first_word, Limit, registers_after, mark_of, own, own_count, failures, changes, EndsWithin, ContinuesWithin, is_due, Way, by_looks, past_looks, way_of, MayTryOn, Act, load, load_if, load_for, attempt, retry, ap, list_any, goes_of}
 use Rattle.spin_world_core.proofs.Lists.{eqb_self}
 use Rattle.spin_world_core.proofs.Stands.{Stand, entries_at, stand_of}
 use Rattle.spin_world_core.proofs.Names.{ne_eqb, append-nil}
@@ -17,10 +17,9 @@ pub data Branch : Type 0 where
   misses : Change → Branch
 
 abbrev pub Branched : Branch → Plain → Option Change → StepKind → Type 0
-Branched goes s step r = Unit {0}
-Branched finds_open s step r = Unit {0}
 Branched loses s step r = (is_again r ≡ true) × (step ≡ None)
 Branched (misses c) s step r = is_open s c ≡ false
+Branched _ s step r = Unit {0}
 
 -- at most k of the steps that the limit counts have been spent
 abbrev pub Spends : Limit → ℕ → ℕ → List Mark → Type 0
@@ -70,12 +69,13 @@ now p s step r span = mark_of p step r s ∷ span
 -- a call that has a step left after a step of its own may continue within its limit
 module _ (p : ℕ) (s : Plain) (step : Option Change) (r : StepKind) (span : List Mark) (what : Limit) (kind : LockKind) (t : Branch) (cs : List Change)
     (j k : ℕ) (made : own p (now p s step r span) ≡ cs) (may : MaySpend what t cs j k p kind (now p s step r span)) where
-  pub spent-mine : Branched t s step r → Spends what j p span → Spends what k p (now p s step r span)
+  spent-mine : Branched t s step r → Spends what j p span → Spends what k p (now p s step r span)
   spent-mine how spent = grind (arith, nil_left (own p span), eqb_self p, spent)
 
-  pub goes_within : is_timely what cs k ≡ true → failures p (now p s step r span) ≤ changes kind p (now p s step r span) → Spends what k p (now p s step r span)
-      → ContinuesWithin what kind p (now p s step r span)
-  goes_within timely retries spent = grind (arith, spent)
+  pub goes_within : Branched t s step r → Spends what j p span → is_timely what cs k ≡ true
+      → failures p (now p s step r span) ≤ changes kind p (now p s step r span)
+      → Spends what k p (now p s step r span) × ContinuesWithin what kind p (now p s step r span)
+  goes_within how spent timely retries = let more = spent-mine how spent in (more, grind (arith, more))
 
 -- what the object has to show of the limit of a call that is answered: nothing, unless the limit is `registers_after`
 abbrev pub OwesEnd : Limit → LockKind → ℕ → List Mark → Type 0
@@ -127,12 +127,9 @@ pub moment_of : (meaning : Meaning) (p : ℕ) (span : List Mark) → Opened span
 moment_of meaning p span opened is owed = grind (arith, λ (ask : Ask). granted_at p ask span opened)
 
 -- nothing has to be shown of a moment if the answer may be a spurious failure
-abbrev pub OwesUnless : Bool → Type 0 → Type 0
-OwesUnless true Owed = Unit {0}
-OwesUnless false Owed = Owed
-
 abbrev pub OwesRight : Bool → Asked → Said → ℕ → List Mark → Type 0
-OwesRight weakly what said p span = OwesUnless (weakly && what.needs_no_cause said) (OwesMoment (what.answers said) p span)
+OwesRight weakly what said p span =
+    elim (weakly && what.needs_no_cause said) [ true ↦ Unit {0} | false ↦ OwesMoment (what.answers said) p span ]
 
 -- What a row says of a point
 
@@ -152,18 +149,12 @@ pub data Point : Type 0 where
 
 -- the point at which a call begins, if it may begin
 abbrev pub starts : {L : Type 0} → Option L → Point
-starts None = nowhere
-starts (Some l) = looked 0
-
-abbrev pub first_of : List (List Change) → List Change
-first_of [] = []
-first_of (steps ∷ more) = steps
+starts o = elim o [ None ↦ nowhere | Some l ↦ looked 0 ]
 
 abbrev pub row_at : Asked → Option Hold → Point → Option Row
 row_at what h nowhere = None
 row_at what h (onward row) = Some row
-row_at what h (looked k) =
-    let rest : ℕ → List Change = λ p. first_of (own_steps (what.answers what.most) p) in
+row_at what h (looked k) = let rest : ℕ → List Change = λ p. get_or (own_steps (what.answers what.most) p) 0 [] in
     Some (record { stand = stand_of h; made = λ p. []; rest = rest; said = what.most; spent = k })
 
 -- At this row the call has a step left. Its plain steps so far, followed by those that are left, are the plain steps of
@@ -201,8 +192,7 @@ rests (retry k f step won found missed) = true
 rests _ = false
 
 abbrev pub peeks : {W L A : Type 0} → Act W L A → Bool
-peeks (load_if test a b) = true
-peeks _ = false
+peeks act = elim act [ load_if test a b ↦ true | _ ↦ false ]
 
 -- the need of a point, by whether its next step is such a load or exchange (`rests`), and whether the step is a look
 abbrev pub need : Option Ask → Way → Bool → Bool → Need
@@ -234,13 +224,10 @@ FoundBy never Finds step r s = ⊥
 
 -- a call does not begin with a retry
 abbrev pub NoRetry : {W L A : Type 0} → Act W L A → Type 0
-NoRetry (retry k f step won found missed) = ⊥
-NoRetry _ = Unit {0}
+NoRetry act = elim act [ retry k f step won found missed ↦ ⊥ | _ ↦ Unit {0} ]
 
 abbrev pub BeginsBy : Need → Type 0 → Type 0
-BeginsBy undue Begins = ⊥
-BeginsBy never Begins = ⊥
-BeginsBy _ Begins = Begins
+BeginsBy needed Begins = elim needed [ undue ↦ ⊥ | never ↦ ⊥ | _ ↦ Begins ]
 
 pub record Known {W L A : Type 0} (kind : LockKind) (what : Asked) (act : Act W L A) (row : Row) (p : ℕ) (s : Plain) (span : List Mark) : Type 0 where
   pub stand : entries p s ≡ entries_at p row.stand

@@ -7,13 +7,11 @@ use Rattle.spin_world_core.proofs.Rows.{Branch, goes, finds_open, loses, misses,
 -- A retry that lost has found a number that the step function does not refuse. If the limit is `registers_after`, this
 -- number also differs from the expected one.
 abbrev pub FindsAnother : Limit → Bool → Bool → Type 0
-FindsAnother (registers_after n i) same some = (same ≡ false) × (some ≡ true)
-FindsAnother _ same some = some ≡ true
+FindsAnother k same some = elim k [ registers_after n i ↦ (same ≡ false) × (some ≡ true) | _ ↦ some ≡ true ]
 
 -- the call ends here
 abbrev pub is_answer : {L A : Type 0} → Next L A → Bool
-is_answer (Continue l) = false
-is_answer (Answers a after) = true
+is_answer next = elim next [ Continue l ↦ false | Answers a after ↦ true ]
 
 -- the plain step that a step makes whenever this plain step is open
 abbrev pub sure_by : {W L A : Type 0} → Act W L A → ℕ → Option Change
@@ -37,14 +35,12 @@ abbrev pub aimed : ℕ → Option Ask → Option Change → Option Change
 aimed p (Some ask) (Some c) = Some (gets p ask)
 aimed p _ step = step
 
-abbrev pub aimed_at : ℕ → Asked → Option Row → Option Change → Option Change
-aimed_at p what None step = step
-aimed_at p what (Some row) step = aimed p (aim_of (tries_of what) (goes_of what (row.made p)) (row.made p)) step
+abbrev pub Aimed : {W L A : Type 0} → Option Ask → Option Ask → Act W L A → List Change → ℕ → Type 0
+Aimed tries due act made p = aim_by tries act p ≡ aimed p (aim_of tries due made) (aim_by tries act p)
 
 -- the value of f at the next point, or x if the call ends
 abbrev pub goes_by : {L A X : Type 0} → Next L A → X → (L → X) → X
-goes_by (Continue l) x f = f l
-goes_by (Answers a after) x f = x
+goes_by next x f = elim next [ Continue l ↦ f l | Answers a after ↦ x ]
 
 module _ {W V C L A : Type 0} (t : Table W V C L A) where
   -- What an object notes beside its table: the shape of its plain lock, the row of each point, and what else a party
@@ -57,8 +53,7 @@ module _ {W V C L A : Type 0} (t : Table W V C L A) where
   -- whether the call is answered by its k-th step from this point, if no other party steps in between
   abbrev pub answers_by : ℕ → W → C → L → Option Hold → Bool
   answers_by zero w c l h = false
-  answers_by (suc k) w c l h =
-      let st = step_by {V = V} t.memory (t.word l) (t.act c l h) w in
+  answers_by (suc k) w c l h = let st = step_by {V = V} t.memory (t.word l) (t.act c l h) w in
       goes_by st.next true (λ l. answers_by k st.words c l h)
 
 module _ {W V C L A : Type 0} {t : Table W V C L A} (n : Notes t) where
@@ -94,8 +89,7 @@ module _ {W V C L A : Type 0} {t : Table W V C L A} (n : Notes t) where
 
   -- the same of an exchange whose failure says nothing of the plain step
   abbrev pub MeansMade : {X : Type 0} → ℕ → Plain → Change → (X → W) → Option X → Type 0
-  MeansMade p s c put None = Unit {0}
-  MeansMade p s c put (Some x) = Means p s c put (Some x)
+  MeansMade p s c put o = elim o [ None ↦ Unit {0} | Some x ↦ Means p s c put (Some x) ]
 
   -- What has to be shown of a step of a call that has made these plain steps. `Comes` says that the call continues or is
   -- answered correctly.
@@ -107,8 +101,7 @@ module _ {W V C L A : Type 0} {t : Table W V C L A} (n : Notes t) where
     -- what has to be shown of an act on the i-th word, if this word is the number n
     abbrev pub OwesOn : ℕ → ℕ → Act W L A → Type 0
     OwesOn i n (load next) = Comes false None plain goes (next n)
-    OwesOn i n (load_if test a b) =
-        let looking = by_step (look_kind what) in
+    OwesOn i n (load_if test a b) = let looking = by_step (look_kind what) in
         (test n ≡ true → Comes false None looking goes (a n)) × (test n ≡ false → Comes false None looking goes (b n))
     OwesOn i n (load_for f step found missed) =
         Means p s (step p) (λ j. t.memory.put i j w) (f n) × (is_some (f n) ≡ true → Comes false None plain finds_open (found n))
@@ -150,8 +143,7 @@ module _ {W V C L A : Type 0} {t : Table W V C L A} (n : Notes t) where
       pub in_time : OwesEnd (limit t.lock_kind (t.asks c h)) t.lock_kind p (mark_of p step r s ∷ span)
 
     abbrev pub FollowsRow : Option Change → StepKind → Branch → L → Option Row → Type 0
-    FollowsRow step r branch l None = ⊥
-    FollowsRow step r branch l (Some to) = LeadsTo step r branch l to
+    FollowsRow step r branch l o = elim o [ None ↦ ⊥ | Some to ↦ LeadsTo step r branch l to ]
 
     -- the call continues or is answered correctly, after this step with this result
     abbrev pub Follows : Bool → Option Change → StepKind → Branch → Next L A → Type 0
@@ -182,11 +174,12 @@ module _ {W V C L A : Type 0} {t : Table W V C L A} (n : Notes t) where
       × n.Knows c l h p s []
 
   abbrev pub BeginsAt : C → Option Hold → ℕ → Plain → Option L → Type 0
-  BeginsAt c h p s None = Unit {0}
-  BeginsAt c h p s (Some l) = BeginsRow c l h p s (row_of c l h)
+  BeginsAt c h p s o = elim o [ None ↦ Unit {0} | Some l ↦ BeginsRow c l h p s (row_of c l h) ]
 
   abbrev pub AimsRow : ℕ → C → L → Option Hold → Option Row → Type 0
-  AimsRow p c l h o = let aim = aim_by (tries_of (t.asks c h)) (t.act c l h) p in aim ≡ aimed_at p (t.asks c h) o aim
+  AimsRow p c l h None = Unit {0}
+  AimsRow p c l h (Some row) =
+      let what = t.asks c h in Aimed (tries_of what) (goes_of what (row.made p)) (t.act c l h) (row.made p) p
 
   -- what has to be shown at every point of every call
   abbrev pub OwesAll : Type 0

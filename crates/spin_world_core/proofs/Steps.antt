@@ -1,7 +1,8 @@
 -- What holds when a party in a call is about to step, and what its step then leads to. Also what has to be shown of a machine that plays a table.
 use Rattle.spin_world_core.proofs.Names.{◌≡◌, ℕ, zero, suc, ◌<◌, true, false, Option, Some, None, List, [], ◌∷◌, Plain, Ask, Change, completes, is_open, apply_some, IsOpenStep, entries, is_held, Hold, Seat, Calling, Next, Continue, Answers, Stepped, Move, Step, Weak, StepKind, is_again, by_step, encoded, BelongsTo, Said, own_steps, Mark, AnyOf, Gets, MayTryOn, is_open_now, steps_alone, Machine, placed, HasPhase, Gives, mark_of, if_completed, entries_held, is_writer, own, failures, changes, IsBeginning, RightBy, EndsWithin, ContinuesWithin, tries_of, limit, Stepwise, Table, machine_by, step_by, change_by, refusal_by, step_kind_by, LockKind, Asked}
 use Rattle.spin_model.specs.StepKinds as step_kind
-use Rattle.spin_world_core.proofs.Shapes.{Notes, Knows, Pays}
+use Rattle.spin_world_core.proofs.Shapes.{Notes, is_answer, Knows, KnowsRow, row_of, Pays}
+use Rattle.spin_world_core.proofs.Rows.{Row}
 
 -- the machine of a table, with the steps of m
 abbrev pub played : {W V C L A B : Type 0} → Table W V C L A → Machine W V C L B → Machine W V C L B
@@ -9,8 +10,7 @@ played t m = machine_by t m.refuse m.step m.says m.brings m.gives
 
 -- how the call continues after a step, with each answer replaced by what the answer says (`Said`)
 abbrev pub told : {L A : Type 0} → (A → Said) → Next L A → Next L Said
-told says (Continue l) = Continue l
-told says (Answers a after) = Answers (says a) after
+told says next = elim next [ Continue l ↦ Continue l | Answers a after ↦ Answers (says a) after ]
 
 -- a try that continues without a plain step does so as `MayTryOn` allows
 abbrev pub GoesOnOpen : {L A : Type 0} → Ask → ℕ → List Mark → Plain → Next L A → Option Change → Type 0
@@ -19,8 +19,8 @@ GoesOnOpen ask p span s _ _ = Unit {0}
 
 -- if a step makes no plain step and its call continues, though its plain step is open, then the step is a retry
 abbrev pub ContinuesCounted : {W L A : Type 0} → (W → Option Change) → Plain → Next L A → Option Change → StepKind → Type 0
-ContinuesCounted {W} change s (Continue l) None step_kind = (w : W) (d : Change) → change w ≡ Some d → is_open s d ≡ true → is_again step_kind ≡ true
-ContinuesCounted change s _ _ step_kind = Unit {0}
+ContinuesCounted {W} change s next step step_kind = (w : W) (d : Change) → change w ≡ Some d → is_open s d ≡ true
+    → step ≡ None → is_answer next ≡ false → is_again step_kind ≡ true
 
 -- what holds at the end of a call
 pub record Ends {C V : Type 0} (kind : LockKind) (what : Asked) (move : Move C V) (p : ℕ) (s : Plain) (span : List Mark) (said : Said) (after : Option Hold) : Type 0 where
@@ -34,14 +34,15 @@ module _ {W V C L A : Type 0} {t : Table W V C L A} (n : Notes t) where
   KnowsAt s p span (Some (Calling c l h)) = Knows n c l h p s span
   KnowsAt s p span _ = Unit {0}
 
-  -- what holds when a call continues with this span
-  pub record Continues (p : ℕ) (c : C) (l : L) (h : Option Hold) (s : Plain) (span : List Mark) : Type 0 where
-    pub knows : Knows n c l h p s span
+  -- what holds when a call continues with this span, at a point with this row
+  pub record Continues (o : Option Row) (p : ℕ) (c : C) (l : L) (h : Option Hold)
+      (s : Plain) (span : List Mark) : Type 0 where
+    pub knows : KnowsRow n c l h p s span o
     pub own_so_far : (said : Said) × AnyOf (λ steps. IsBeginning (own p span) steps) (own_steps ((t.asks c h).answers said) p)
     pub in_time : ContinuesWithin (limit t.lock_kind (t.asks c h)) t.lock_kind p span
 
   abbrev pub NextIs : Move C V → ℕ → C → Option Hold → Plain → List Mark → Next L Said → Type 0
-  NextIs move p c h s span (Continue l) = Continues p c l h s span
+  NextIs move p c h s span (Continue l) = Continues (row_of n c l h) p c l h s span
   NextIs move p c h s span (Answers said after) = Ends t.lock_kind (t.asks c h) move p s span said after
 
   -- what holds of a step or a spurious failure that makes this plain step, if any, and leaves the words w
