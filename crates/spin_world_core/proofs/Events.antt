@@ -16,34 +16,29 @@ abbrev pub LeavesBy : {V C : Type 0} → Move C V → Option Change → Option V
 LeavesBy Step step old new = StepLeaves step old new
 LeavesBy move step old new = Unit {0}
 
--- What every move leads to, whatever the machine
-module _ {W V C L A : Type 0} (m : Machine W V C L A) (s : State W V C L) (p : ℕ) (move : Move C V) (o : Option (Seat C L)) where
-  abbrev result : Outcome A V
-  result = (moves_at m s p move o).outcome
-
-  abbrev next : State W V C L
-  next = (moves_at m s p move o).next
-
-  pub skips_closed : (result ≡ outcome.Skipped) ↔ (is_open_move m s move o ≡ false)
-  skips_closed = (λ e. grind arith, λ e. grind arith)
-
-  pub moves_in_place : (result ≡ outcome.Skipped → ⊥) → is_in_place m.owned move o ≡ true
-  moves_in_place happened = grind (arith, happened)
-
-  pub reads_value : (r value : Option V) → s.value ≡ value → result ≡ outcome.Value r → r ≡ value
-  reads_value r value is e = grind arith
-
-  -- a move has the outcome of its kind
-  pub comes_to : (step : Option Change) → LeavesBy move step s.value next.value → (result ≡ outcome.Skipped → ⊥) → ComesTo move step s.value next.value result
-  comes_to step leaves happened = grind (arith, leaves, happened)
-
-  -- another party that is in a call stays at its point
-  pub keeps_calling : (q : ℕ) (c : C) (l : L) (h : Option Hold) → (p ≡ q → ⊥) → slice_get s.seats q ≡ Some (Calling c l h) → slice_get next.seats q ≡ Some (Calling c l h)
-  keeps_calling q c l h ne is = grind (arith, get-set_other s.seats p q, slice_get-map (seen_by_owner {C = C} {L = L}) s.seats q)
-
 module _ {W V C L A : Type 0} (m : Machine W V C L A) (seen : Seen W V C L) (p : ℕ) where
-  pub skipped_scene : (move : Move C V) (o : Option (Seat C L)) → (moves_at m seen.state p move o).outcome ≡ outcome.Skipped → (scene_at m seen p move o).after ≡ seen
-  skipped_scene move o e = grind arith
+  module _ (move : Move C V) (o : Option (Seat C L)) where
+    abbrev result : Outcome A V
+    result = (moves_at m seen.state p move o).outcome
+
+    abbrev next : State W V C L
+    next = (moves_at m seen.state p move o).next
+
+    -- what every move leads to, whatever the machine
+    pub record Moved : Type 0 where
+      pub skips : (result ≡ outcome.Skipped) ↔ (is_open_move m seen.state move o ≡ false)
+      pub unchanged : result ≡ outcome.Skipped → (scene_at m seen p move o).after ≡ seen
+      pub in_place : (result ≡ outcome.Skipped → ⊥) → is_in_place m.owned move o ≡ true
+      pub reads : (value : Option V) → seen.state.value ≡ value → (r : Option V) → result ≡ outcome.Value r → r ≡ value
+      -- a move has the outcome of its kind
+      pub comes : (step : Option Change) → LeavesBy move step seen.state.value next.value
+          → (result ≡ outcome.Skipped → ⊥) → ComesTo move step seen.state.value next.value result
+      -- another party that is in a call stays at its point
+      pub calls : (q : ℕ) (c : C) (l : L) (h : Option Hold) → (p ≡ q → ⊥) → seat_of seen q ≡ Some (Calling c l h)
+          → slice_get next.seats q ≡ Some (Calling c l h)
+
+    pub moved : Moved
+    moved = grind (arith, get-set_other {X = Seat C L}, slice_get-map (seen_by_owner {C = C} {L = L}))
 
   abbrev pub SitsAt : Option (Seat C L) → Type 0
   SitsAt o = seat_of seen p ≡ o
@@ -54,18 +49,6 @@ module _ {W V C L A : Type 0} (m : Machine W V C L A) (seen : Seen W V C L) (p :
     OfBegin = (c : C) (l : L) (h : Option Hold) → SitsAt (Some (resting h)) → m.begin c h ≡ Some l
         → P (scene_of seen p (Begin c) (Some (resting h)) (begun seen.state p c h (Some l)) None plain None)
 
-    abbrev pub OfWrite : Type 0
-    OfWrite = (v : V) (b : Bool) (h : Hold) → SitsAt (Some (seat_with b h)) → may_write h ≡ true
-        → P (scene_of seen p (Write v) (Some (seat_with b h)) (written_by seen.state v true) None plain None)
-
-    abbrev pub OfGet : Type 0
-    OfGet = (y : Seat C L) → SitsAt (Some y) → is_owners m seen.state ≡ true
-        → P (scene_of seen p OwnerGet (Some y) (owner_gets seen.state true) None plain None)
-
-    abbrev pub OfSet : Type 0
-    OfSet = (v : V) (y : Seat C L) → SitsAt (Some y) → is_owners m seen.state ≡ true
-        → P (scene_of seen p (OwnerSet v) (Some y) (owner_sets seen.state v true) None plain None)
-
     pub record OfEach : Type 0 where
       pub passes : (move : Move C V) (o : Option (Seat C L)) (r : StepKind) → SitsAt o → is_open_move m seen.state move o ≡ false
           → P (scene_of seen p move o (skipped seen.state) None r None)
@@ -75,21 +58,22 @@ module _ {W V C L A : Type 0} (m : Machine W V C L A) (seen : Seen W V C L) (p :
           → P (scene_of seen p Weak (Some (Calling c l h)) (goes_on seen.state p c h next) None weak None)
       pub reads : (b : Bool) (h : Hold) → SitsAt (Some (seat_with b h)) → may_read h ≡ true
           → P (scene_of seen p Read (Some (seat_with b h)) (read_by seen.state true) None plain None)
-      pub writes : OfWrite
+      pub writes : (v : V) (b : Bool) (h : Hold) → SitsAt (Some (seat_with b h)) → may_write h ≡ true
+          → P (scene_of seen p (Write v) (Some (seat_with b h)) (written_by seen.state v true) None plain None)
       pub leaks : (h : Hold) → SitsAt (Some (Holding h)) → P (scene_at m seen p Leak (Some (Holding h)))
-      pub gets : OfGet
-      pub sets : OfSet
+      pub gets : (y : Seat C L) → SitsAt (Some y) → is_owners m seen.state ≡ true
+          → P (scene_of seen p OwnerGet (Some y) (owner_gets seen.state true) None plain None)
+      pub sets : (v : V) (y : Seat C L) → SitsAt (Some y) → is_owners m seen.state ≡ true
+          → P (scene_of seen p (OwnerSet v) (Some y) (owner_sets seen.state v true) None plain None)
 
   module _ (P : Scene W V C L A → Type 0) (each : OfEach P) where
     at_seat : (move : Move C V) (o : Option (Seat C L)) → SitsAt o → P (scene_at m seen p move o)
     at_seat (Begin c) (Some Idle) there = grind (arith, λ (l : L). each.begins c l None)
     at_seat (Begin c) (Some (Holding h)) there = grind (arith, λ (l : L). each.begins c l (Some h))
-    at_seat Step (Some (Calling c l h)) there = each.steps c l h there
     at_seat Read (Some (Holding h)) there = grind (arith, each.reads true h)
     at_seat Read (Some (Leaked h)) there = grind (arith, each.reads false h)
     at_seat (Write v) (Some (Holding h)) there = grind (arith, each.writes v true h)
     at_seat (Write v) (Some (Leaked h)) there = grind (arith, each.writes v false h)
-    at_seat Leak (Some (Holding h)) there = each.leaks h there
     at_seat move o there = grind arith
 
     -- if P holds in each case, it holds of every event

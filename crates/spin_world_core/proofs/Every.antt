@@ -6,16 +6,16 @@ use Rattle.spin_world_core.proofs.Names.{happens}
 use Rattle.spin_world_core.specs.Users.{seen_at}
 use Rattle.spin_world_core.specs.Runs.{state_at}
 use Rattle.spin_world_core.specs.Runs.{Schedule}
-use Rattle.spin_world_core.proofs.Names.{◌≡◌, ℕ, Option, [], ◌∷◌, refl, false, arith, Seat, Idle, Move, Machine, opening_plain, after, Seen, Scene, scene, is_open_move, StandsFor, MaySkip, Every, Keeps, IsRight, IsInTime, opening, KeepsAll, MomentsAll, CountsAll, CanStep, seen_after, Table, Option, seat_of, is_owners, IsOwners, moves_at, true, StepKind, scene_of, skipped, None}
+use Rattle.spin_world_core.proofs.Names.{◌≡◌, ℕ, Option, Some, [], ◌∷◌, refl, false, arith, Seat, Idle, Move, Machine, opening_plain, after, Seen, Scene, scene, is_open_move, StandsFor, MaySkip, Every, Keeps, IsRight, IsInTime, opening, KeepsAll, MomentsAll, CountsAll, CanStep, seen_after, Table, Option, seat_of, is_owners, IsOwners, moves_at, true, Holding, Leaked}
 use Rattle.spin_world_core.specs.Runs.{MayTouch}
 use Rattle.spin_world_core.proofs.Lists.{get-replicate}
 use Rattle.spin_world_core.proofs.Steps.{played, Plays}
 use Rattle.spin_world_core.proofs.Shapes.{Notes}
 pub use Rattle.spin_world_core.proofs.Preserved.{standing, in_call}
 use Rattle.spin_world_core.proofs.Paid.{at_step}
-use Rattle.spin_world_core.proofs.Events.{of_event, reads_value, skips_closed, skipped_scene, comes_to, moves_in_place, keeps_calling}
-use Rattle.spin_world_core.proofs.Preserved.{OfParty, Invariant, Kept, Preserved, StepKeeps, reader_of, writer_of, step_kept, refusal_kept, begun_kept, write_kept, leak_kept}
-use Rattle.spin_world_core.proofs.Owners.{none_owns, owns, owner_get_kept, owner_set_kept}
+use Rattle.spin_world_core.proofs.Events.{of_event, moved}
+use Rattle.spin_world_core.proofs.Preserved.{OfParty, Invariant, Kept, Preserved, step_kept, refusal_kept, begun_kept, good_seated, writes_by, owns, good_let_go, owner_writes_kept}
+use Rattle.spin_world_core.proofs.Owners.{none_owns}
 
 module _ {W V C L A : Type 0} (m : Machine W V C L A) where
   -- the state of `seen_after` is the state after the schedule
@@ -30,6 +30,13 @@ module _ {W V C L A : Type 0} (m : Machine W V C L A) where
       → (happens m (seen_at m n past).state p move).outcome ≡ outcome_after m n past p move
   outcome-seen_at n past p move = ap (λ s. (happens m s p move).outcome) (state-seen_at n past)
 
+  -- what each event of a schedule leaves true is true after the schedule
+  module _ (P : Seen W V C L → Type 0) (R : Scene W V C L A → Type 0)
+      (leaves : (s : Scene W V C L A) → R s → P s.after) where
+    pub left_after : (seen : Seen W V C L) (es : Schedule C V) → Every R m seen es → P seen → P (seen_after m seen es)
+    left_after seen [] all here = here
+    left_after seen (e ∷ es) all here = left_after (scene m seen e.0 e.1).after es all.1 (leaves _ all.0)
+
 module _ {W V C L A B : Type 0} {t : Table W V C L A} {by : Machine W V C L B} {n : Notes t} (f : Plays by n) where
   abbrev m : Machine W V C L B
   m = played t by
@@ -37,52 +44,43 @@ module _ {W V C L A B : Type 0} {t : Table W V C L A} {by : Machine W V C L B} {
   -- a move that is not open to its party may be skipped
   may_pass : (seen : Seen W V C L) (p : ℕ) (move : Move C V) (o : Option (Seat C L)) → StandsFor seen.plain p (seen.span p) o
       → is_open_move m seen.state move o ≡ false → MaySkip m seen p move o
-  may_pass seen p move o stands closed = grind (arith, f.stepwise.begins, reader_of p, writer_of p, none_owns m seen)
+  may_pass seen p move o stands closed = grind (arith, f.stepwise.begins, none_owns m seen)
 
   -- the party may use the value
   touches : (seen : Seen W V C L) (p : ℕ) (move : Move C V) (o : Option (Seat C L)) → StandsFor seen.plain p (seen.span p) o
       → (is_owners m seen.state ≡ true → IsOwners seen) → MayTouch seen p (moves_at m seen.state p move o).outcome move
-  touches seen p move o stands owners = grind (arith, reader_of p, writer_of p, owners)
-
-  passed : {seen : Seen W V C L} {p : ℕ} (move : Move C V) (o : Option (Seat C L)) (r : StepKind)
-      → StepKeeps f (scene_of seen p move o (skipped seen.state) None r None)
-  passed {seen} move o r = grind arith
+  touches seen p move o stands owners = grind (arith, owners)
 
   -- what the invariant gives of one event
   pub kept : (seen : Seen W V C L) (p : ℕ) (move : Move C V) → Invariant f seen → Preserved f (scene m seen p move)
   kept seen p move good =
       let s = seen.state in
       let o = seat_of seen p in
-      let stands = (good.parties p).stands in
+      let moves = moved m seen p move o in
       let is = of_event m seen p (Kept f)
       (record {
-        passes = λ move o r there closed. (good, passed move o r);
+        passes = λ move o r there closed. (good, grind arith);
         begins = begun_kept f seen p good;
         steps = step_kept f seen p good;
         refuses = λ c l h next there. refusal_kept f seen p good c l h there next;
         reads = λ b h there may. (good, search);
-        writes = write_kept f seen p good;
-        leaks = leak_kept f seen p good;
-        gets = owner_get_kept f seen p good;
-        sets = owner_set_kept f seen p good;
+        writes = λ v b h there may.
+            (search (good, f.written seen.plain p v good.shape (writes_by f p b h good there may)), search);
+        leaks = λ h there.
+            let here : OfParty f s.words seen.plain p (seen.span p) (Some (Leaked h)) =
+            search (standing f p good there, good.parties p) in
+            (good_seated f seen p good (Leaked h) (Holding h) seen.span there (λ q ne. refl) here, search);
+        gets = λ y there may. (good_let_go f seen p good s.value seen.written good.phase good.written, search);
+        sets = λ v y there may. owner_writes_kept f seen p good v y s.value refl;
       })
       move in
-      record {
-        keeps = search (
-          is.0,
-          is.1,
-          λ (q : ℕ). (is.0.parties q).stands,
-          f.pays.one_list _ is.0.shape,
-          reads_value m s p move o,
-          touches seen p move o stands (owns f seen p good),
-          skips_closed m s p move o,
-          (skips_closed m s p move o).0,
-          may_pass seen p move o stands,
-          skipped_scene m seen p move o,
-          comes_to m s p move o _ is.1.leaves,
-          moves_in_place m s p move o,
-          keeps_calling m s p move o,
-        );
+      let stands = λ (q : ℕ). (is.0.parties q).stands in
+      let one_list = f.pays.one_list _ is.0.shape in
+      let touched = touches seen p move o (good.parties p).stands (owns f seen p good) in
+      let passed = may_pass seen p move o (good.parties p).stands in
+      let read = moves.reads _ good.written in
+      let came = moves.comes _ is.1.leaves in record {
+        keeps = search (is, stands, one_list, touched, passed, moves, moves.skips.0, read, came);
         right = is.1.right;
         in_time = search (is.1, λ (q : ℕ). (is.0.parties q).retries);
         good = is.0;
@@ -106,9 +104,9 @@ module _ {W V C L A B : Type 0} {t : Table W V C L A} {by : Machine W V C L B} {
   -- The laws
   module _ (parties : ℕ) (es : Schedule C V) where
     pub can_of : CanStep m (state_at m parties es)
-    can_of =
-        rw (← state-seen_at m parties es)
-        (λ p c l h at. let good = good_after (opening m parties) es (good_first parties) in (at_step f _ (in_call f p good at) good.phase).can)
+    can_of = rw (← state-seen_at m parties es) (λ p c l h at.
+        let good = good_after (opening m parties) es (good_first parties) in
+        (at_step f _ (in_call f p good at) good.phase).can)
 
     pub keeps_of : KeepsAll m parties es
     keeps_of =

@@ -1,15 +1,15 @@
 -- What a party finds under one guard does not change.
 use Rattle.spin_world_core.proofs.Every.{outcome-seen_at}
 use Rattle.spin_world_core.specs.Runs.{Schedule}
-use Rattle.spin_world_core.proofs.Names.{seat_of, slice_get_within, ◌≡◌, ℕ, ◌==◌, ◌||◌, Bool, true, false, not, Option, Some, None, List, [], ◌∷◌, ◌++◌, map, slice_get, slice_set, refl, arith, ap, sym, ◌∙◌, list_all, option_map, and_parts, true≢false, slice_get-map, Plain, Change, completes, entries, is_held, Hold, Seat, Calling, Holding, Leaked, Gone, Next, Continue, Answers, Move, Step, Weak, Read, OwnerSet, StepKind, plain, weak, by_step, Mark, Machine, State, moves_at, goes_on, placed, resting, may_read, may_write, yields_to_owner, seen_by_owner, owner_writes, Seen, Scene, scene, scene_at, scene_of, if_completed, StandsFor, is_reader, is_writer, opening, seen_after, Table}
+use Rattle.spin_world_core.proofs.Names.{seat_of, slice_get_within, ◌≡◌, ℕ, ◌==◌, ◌||◌, Bool, true, false, not, Option, Some, None, List, [], ◌∷◌, ◌++◌, map, slice_get, slice_set, refl, arith, ap, sym, ◌∙◌, list_all, option_map, and_parts, true≢false, slice_get-map, Plain, Change, completes, entries, is_held, Hold, Seat, Calling, Holding, Leaked, Gone, Next, Continue, Answers, Move, Step, Weak, Read, OwnerSet, StepKind, plain, weak, by_step, Mark, Machine, State, moves_at, goes_on, placed, resting, may_read, may_write, yields_to_owner, seen_by_owner, owner_writes, Seen, Scene, scene, scene_at, scene_of, if_completed, is_reader, opening, seen_after, Table}
 use Rattle.spin_world_core.specs.Users.{ReadsAgree, ReadsAgreeAcross, is_quiet, is_quiet_move}
 use Rattle.spin_model.specs.declared.schedule.Outcome.TheVariants as outcome
 use Rattle.spin_world_core.proofs.Lists.{eqb_self, get-set}
-use Rattle.spin_world_core.proofs.Steps.{played, KnowsAt, Plays}
+use Rattle.spin_world_core.proofs.Steps.{played, Plays}
 use Rattle.spin_world_core.proofs.Paid.{at_step}
 use Rattle.spin_world_core.proofs.Shapes.{Notes, Knows}
 use Rattle.spin_world_core.proofs.Events.{seat_with, of_event}
-use Rattle.spin_world_core.proofs.Preserved.{Invariant, in_call, with_hold, writer_of}
+use Rattle.spin_world_core.proofs.Preserved.{Invariant, in_call, writes_by}
 use Rattle.spin_world_core.proofs.Owners.{all-get}
 use Rattle.spin_world_core.proofs.Every.{kept}
 use Rattle.spin_world_core.proofs.Reached as reached
@@ -45,8 +45,7 @@ Guard r w _ = ⊥
 
 -- the party is a reader in the plain lock, or is gone
 abbrev ReaderOrGone : {C L : Type 0} → Plain → ℕ → Option (Seat C L) → Type 0
-ReaderOrGone s p (Some (Gone h)) = Unit {0}
-ReaderOrGone s p _ = is_reader (entries p s) ≡ true
+ReaderOrGone s p o = elim o [ Some (Gone h) ↦ Unit {0} | _ ↦ is_reader (entries p s) ≡ true ]
 
 module _ {V C L : Type 0} (r : GuardedRead C V) (w v : Option V) where
   -- if a party with a guard is no reader in the plain lock, the party is gone
@@ -68,14 +67,11 @@ module _ {W V C L A B : Type 0} {t : Table W V C L A} {by : Machine W V C L B} {
   m = played t by
 
   module _ (r : GuardedRead C V) (g : KeepsGuard f r.keeps) where
-    reads_at : (w : Option V) (s : Plain) (p : ℕ) (span : List Mark) (o : Option (Seat C L)) → StandsFor s p span o → KnowsAt n s p span o → Guard r w o
-        → ReaderOrGone s p o
-    reads_at w s p span o stands knows guard = grind (arith, λ (c : C) (l : L) (h : Hold). g.reads p c l h s span)
-
     -- `Guard` holds of the party p, and q moves
     module _ (seen : Seen W V C L) (p q : ℕ) (good : Invariant f seen) (guard : Guard r seen.written (seat_of seen p)) where
       reads : ReaderOrGone seen.plain p (seat_of seen p)
-      reads = reads_at seen.written seen.plain p (seen.span p) (seat_of seen p) (good.parties p).stands (good.parties p).knows guard
+      reads =
+          grind (arith, good.parties p, guard, λ (c : C) (l : L) (h : Hold). g.reads p c l h seen.plain (seen.span p))
 
       -- `Guard` still holds of p after q moves from the seat y to the seat x; if q is p, x has to keep `Guard`
       sits : (w : Option V) (x y : Seat C L) → seat_of seen q ≡ Some y → (q ≡ p → Guard r w (Some y) → Guard r w (Some x))
@@ -83,11 +79,6 @@ module _ {W V C L A B : Type 0} {t : Table W V C L A} {by : Machine W V C L B} {
       sits w x y there own held =
           get-set (Guard r w) seen.state.seats q p x (slice_get_within seen.state.seats q y there)
           (λ e. own e (rw (← e, there) at held)) (λ ne. held)
-
-      answered : (w : Option V) (c : C) (l : L) (a : B) (h rest : Option Hold)
-          → ((j : Hold) → h ≡ Some j → r.keeps c ≡ true → may_read j ≡ true → ReadsOn {L = L} (Answers a rest))
-          → Guard r w (Some (Calling c l h)) → Guard r w (Some (resting {C = C} {L = L} rest))
-      answered w c l a h rest on guard = grind (arith, on)
 
       -- `Guard` of the party p after an event
       abbrev After : Scene W V C L B → Type 0
@@ -101,7 +92,7 @@ module _ {W V C L A B : Type 0} {t : Table W V C L A} {by : Machine W V C L B} {
           sits (if_completed seen.written value step) (Calling c i h) (Calling c l h) there (λ e is. is) held
       went move step step_kind value v u c l h (Answers a rest) there on held =
           sits (if_completed seen.written value step) (resting rest) (Calling c l h) there
-          (λ e. answered (if_completed seen.written value step) c l a h rest on) held
+          (λ e is. grind (arith, on)) held
 
       let_go_all : Guard r seen.written (slice_get (map seen_by_owner seen.state.seats) p)
       let_go_all = grind (arith, slice_get-map seen_by_owner seen.state.seats p, guard)
@@ -109,8 +100,7 @@ module _ {W V C L A B : Type 0} {t : Table W V C L A} {by : Machine W V C L B} {
       owner_wrote : (v : V) (y : Seat C L) (o : Option V) → list_all yields_to_owner seen.state.seats ≡ true
           → After (scene_of seen q (OwnerSet v) (Some y) (owner_writes seen.state v o) None plain None)
       owner_wrote v y None away = let_go_all
-      owner_wrote v y (Some old) away =
-          rw (slice_get-map seen_by_owner seen.state.seats p)
+      owner_wrote v y (Some old) away = rw (slice_get-map seen_by_owner seen.state.seats p)
           (gone_for r seen.written (Some v) (seat_of seen p) (λ x e. all-get yields_to_owner seen.state.seats p x away e) guard)
 
       stepped : (c : C) (l : L) (h : Option Hold) → seat_of seen q ≡ Some (Calling c l h) → After (scene_at m seen q Step (Some (Calling c l h)))
@@ -125,14 +115,12 @@ module _ {W V C L A B : Type 0} {t : Table W V C L A} {by : Machine W V C L B} {
       -- nobody else writes while the party has the guard
       written : (v : V) (b : Bool) (h : Hold) → seat_of seen q ≡ Some (seat_with b h) → may_write h ≡ true → (q ≡ p → ⊥)
           → Guard r (Some v) (seat_of seen p)
-      written v b h there may ne =
-          let writes = ap is_writer (with_hold f q b h good there) ∙ (writer_of q h ∙ may) in
-          no_reader r seen.written (Some v) seen.plain p (seat_of seen p) reads
-          (λ reads. ne (one_toucher seen.plain p q good.exclusive (f.pays.one_list seen.plain good.shape) reads writes)) guard
+      written v b h there may ne = no_reader r seen.written (Some v) seen.plain p (seat_of seen p) reads
+          (λ reads. ne (one_toucher seen.plain p q good.exclusive (f.pays.one_list seen.plain good.shape) reads
+          (writes_by f q b h good there may))) guard
 
       guard_kept : (move : Move C V) → (q ≡ p → is_quiet_move r.keeps move ≡ true) → After (scene m seen q move)
-      guard_kept move quiet =
-          of_event m seen q (λ sc. (q ≡ p → is_quiet_move r.keeps sc.move ≡ true) → After sc)
+      guard_kept move quiet = of_event m seen q (λ sc. (q ≡ p → is_quiet_move r.keeps sc.move ≡ true) → After sc)
           (record {
             passes = λ move o r there closed quiet. guard;
             begins = λ c l h there is quiet. sits seen.written (Calling c l h) (resting h) there (λ e. grind (arith, quiet e)) guard;

@@ -9,8 +9,8 @@ pub mod Usual
 pub mod Steps
 pub mod Paid
 pub mod Undisturbed
-pub mod Preserved
 pub mod Owners
+pub mod Preserved
 pub mod Sharing
 pub mod Every
 pub mod Reached

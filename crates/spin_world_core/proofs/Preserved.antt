@@ -1,6 +1,6 @@
 -- One event keeps all that is promised, for any machine that plays a table (`Plays`).
-use Rattle.spin_world_core.proofs.Names.{seat_of, slice_get_within, ◌≡◌, ℕ, ◌≤◌, ◌==◌, Bool, false, Option, Some, None, List, [], ◌∷◌, suc, if◌then◌else◌, slice_get, slice_set, refl, ap, sym, ◌∙◌, subst, arith, ne_eqb, true≢false, Plain, Ask, Change, apply_some, IsOpenStep, Entries, entries, IsExclusive, entries-other, entries-own, Hold, Seat, Calling, Holding, Leaked, Next, Continue, Answers, Move, Step, Weak, Leak, StepKind, is_weak, by_step, encoded, BelongsTo, Mark, Machine, seated, goes_on, placed, resting, may_read, may_write, Seen, Scene, scene_at, scene_of, mark_of, own, failures, changes, if_completed, entries_of, entries_held, StandsFor, is_reader, is_writer, Keeps, IsRight, IsInTime, UndisturbedTakes, AnsweredSoon, Gets, GetsWhenDue, TriesOn, tries_of, Table, HasPhase}
-use Rattle.spin_world_core.specs.Runs.{InItsCall, InTime, IsCounted, IsWeakCall, OwnSteps, asked, entries_so_far}
+use Rattle.spin_world_core.proofs.Names.{true, and_parts, slice_get-map, OwnerSet, is_owners, yields_to_owner, let_go, seen_by_owner, owner_writes, IsOwners, seat_of, slice_get_within, ◌≡◌, ℕ, ◌≤◌, ◌==◌, Bool, false, Option, Some, None, List, [], ◌∷◌, suc, if◌then◌else◌, slice_get, slice_set, refl, ap, sym, ◌∙◌, subst, arith, ne_eqb, true≢false, Plain, Ask, Change, apply_some, IsOpenStep, Entries, entries, IsExclusive, entries-other, entries-own, Hold, Seat, Calling, Next, Continue, Answers, Move, Step, Weak, StepKind, is_weak, by_step, encoded, BelongsTo, Mark, Machine, seated, goes_on, placed, resting, may_write, Seen, Scene, scene_at, scene_of, mark_of, own, failures, changes, if_completed, entries_held, StandsFor, is_writer, Keeps, IsRight, IsInTime, UndisturbedTakes, AnsweredSoon, Gets, GetsWhenDue, TriesOn, tries_of, Table, HasPhase}
+use Rattle.spin_world_core.specs.Runs.{held_at, InItsCall, InTime, IsCounted, IsWeakCall, OwnSteps, asked, entries_so_far}
 use Rattle.spin_step.proofs.Exclusive.{exclusive-kept}
 use Rattle.spin_model.specs.declared.schedule.Outcome.TheVariants as outcome
 use Rattle.spin_model.specs.StepKinds as step_kind
@@ -10,15 +10,8 @@ use Rattle.spin_world_core.proofs.Steps.{Makes, told, played, GoesOnOpen, Contin
 use Rattle.spin_world_core.proofs.Shapes.{Notes, InCall}
 use Rattle.spin_world_core.proofs.Paid.{at_step, knows_beside, knows_first}
 use Rattle.spin_world_core.proofs.Undisturbed.{RunsOn, GoesWithin, Left, stepped, beside, runs_fresh, soon_by}
-use Rattle.spin_world_core.proofs.Events.{LeavesBy, seat_with, OfBegin, OfWrite}
-
--- A party whose hold lets it read is a reader in the plain lock. A party whose hold lets it write is a writer there.
-
-pub reader_of : (p : ℕ) (h : Hold) → is_reader (entries_of p h) ≡ may_read h
-reader_of p h = grind arith
-
-pub writer_of : (p : ℕ) (h : Hold) → is_writer (entries_of p h) ≡ may_write h
-writer_of p h = grind arith
+use Rattle.spin_world_core.proofs.Events.{LeavesBy, seat_with, OfBegin}
+use Rattle.spin_world_core.proofs.Owners.{all-get, yields_at}
 
 -- to show P of every party after the party p takes the seat x, show P of p in this seat, and of the others in their old seats
 at_seat : {C L : Type 0} (P : ℕ → Option (Seat C L) → Type 0) (seats : List (Seat C L)) (p : ℕ) (x y : Seat C L) → slice_get seats p ≡ Some y
@@ -55,9 +48,10 @@ module _ {W V C L A B : Type 0} {t : Table W V C L A} {by : Machine W V C L B} {
   pub standing : {seen : Seen W V C L} (p : ℕ) {y : Seat C L} → Invariant seen → seat_of seen p ≡ Some y → StandsFor seen.plain p (seen.span p) (Some y)
   standing {seen} p good there = grind arith
 
-  pub with_hold : {seen : Seen W V C L} (p : ℕ) (b : Bool) (h : Hold) → Invariant seen → seat_of seen p ≡ Some (seat_with b h)
-      → entries p seen.plain ≡ entries_of p h
-  with_hold p b h good there = grind (arith, standing p good there)
+  -- a party that may write by what it holds or has leaked is a writer in the plain lock
+  pub writes_by : {seen : Seen W V C L} (p : ℕ) (b : Bool) (h : Hold) → Invariant seen
+      → seat_of seen p ≡ Some (seat_with b h) → may_write h ≡ true → is_writer (entries p seen.plain) ≡ true
+  writes_by p b h good there may = grind (arith, standing p good there)
 
   pub in_call : {seen : Seen W V C L} (p : ℕ) {c : C} {l : L} {h : Option Hold} → Invariant seen → seat_of seen p ≡ Some (Calling c l h)
       → InCall n p c l h seen.plain seen.state.words (seen.span p)
@@ -69,20 +63,6 @@ module _ {W V C L A B : Type 0} {t : Table W V C L A} {by : Machine W V C L B} {
     pub right : IsRight m s
     pub in_time : IsInTime m s
     pub good : Invariant s.after
-
-  -- `OfParty` for a party that is in no call
-  rests : (w : W) (s : Plain) (p : ℕ) (span : List Mark) (after : Option Hold) → entries p s ≡ entries_held p after
-      → failures p span ≤ changes m.lock_kind p span → OfParty w s p span (Some (resting after))
-  rests w s p span after stands retries = grind arith
-
-  -- the invariant still holds after a party gets another seat without a step
-  good_seated : (seen : Seen W V C L) (p : ℕ) (x y : Seat C L) (span : ℕ → List Mark) → Invariant seen → seat_of seen p ≡ Some y
-      → ((q : ℕ) → (p ≡ q → ⊥) → span q ≡ seen.span q) → OfParty seen.state.words seen.plain p (span p) (Some x)
-      → Invariant (record { state = seated seen.state p x; plain = seen.plain; span = span; written = seen.written })
-  good_seated seen p x y span good there same here =
-      let parties = at_seat (λ q o. OfParty seen.state.words seen.plain q (span q) o) seen.state.seats p x y there here
-      (λ q ne. rw (same q ne) (good.parties q)) in
-      search (good, parties)
 
   -- what has to be shown of a step of a call and of how the call then goes on; of any other event these properties hold by themselves
   pub record StepRules (s : Scene W V C L B) : Type 0 where
@@ -115,36 +95,33 @@ module _ {W V C L A B : Type 0} {t : Table W V C L A} {by : Machine W V C L B} {
     abbrev longer : Option Change → StepKind → ℕ → List Mark
     longer step r q = mark_of p step r seen.plain ∷ seen.span q
 
-    -- `OfParty` of another party q is kept by a step of p
-    of_others : (q : ℕ) (w : W) (step : Option Change) (r : StepKind) (o : Option (Seat C L)) → seat_of seen q ≡ o → (p ≡ q → ⊥)
-        → IsOpenStep seen.plain p step → BelongsTo m.lock_kind step
-        → (encoded m.lock_kind (plain_by step) ≡ encoded m.lock_kind seen.plain → w ≡ seen.state.words)
-        → OfParty seen.state.words seen.plain q (seen.span q) o → OfParty w (plain_by step) q (longer step r q) o
-    of_others q w step r o there ne may belongs same is =
-        let beside_q = λ (c : C) (l : L) (h : Option Hold). knows_beside f q c l h seen.plain (seen.span q) in
-        record {
-          stands = grind (arith, entries-other seen.plain p q step ne may, is.stands);
-          knows = grind (arith, is.knows, λ (c : C) (l : L) (h : Option Hold). beside_q c l h p step r ne good.shape may belongs);
-          retries = grind arith;
-          undisturbed =
-              beside m seen.state.words w p q seen.plain step r (seen.span q) o ne same
-              (λ c l h at. (at_step f _ (in_call q good (there ∙ at)) good.phase).undisturbed) is.undisturbed;
-        }
+    -- the invariant still holds after p gets another seat without a step
+    pub good_seated : (x y : Seat C L) (span : ℕ → List Mark) → seat_of seen p ≡ Some y
+        → ((q : ℕ) → (p ≡ q → ⊥) → span q ≡ seen.span q) → OfParty seen.state.words seen.plain p (span p) (Some x)
+        → Invariant (record seen { state = seated seen.state p x; span = span })
+    good_seated x y span there same here =
+        let parties = at_seat (λ q o. OfParty seen.state.words seen.plain q (span q) o) seen.state.seats p x y there here
+        (λ q ne. rw (same q ne) (good.parties q)) in search (good, parties)
 
     -- the invariant holds after a step of p's call
     good_stepped : (x y : Seat C L) (step : Option Change) (r : StepKind) (w : W) (v wr : Option V) → seat_of seen p ≡ Some y
         → Makes n p seen.plain (seen.span p) step r w → HasPhase t.lock_kind.makes_value (plain_by step).phase v → v ≡ wr
         → OfParty w (plain_by step) p (longer step r p) (Some x)
-        → Invariant (record {
-          state = record { words = w; value = v; seats = slice_set seen.state.seats p x };
-          plain = plain_by step;
-          span = longer step r;
-          written = wr;
-        })
+        → let after = seated (record seen.state { words = w; value = v }) p x in
+        Invariant (record { state = after; plain = plain_by step; span = longer step r; written = wr })
     good_stepped x y step r w v wr there makes phase written here =
-        let parties = at_seat (λ q o. OfParty w (plain_by step) q (longer step r q) o) seen.state.seats p x y there here (λ q ne.
-        of_others q w step r (seat_of seen q) refl ne makes.opens makes.belongs
-        (λ e. f.pays.numbers_tell w seen.state.words (makes.encodes ∙ (e ∙ sym good.encodes))) (good.parties q)) in
+        let parties = at_seat (λ q o. OfParty w (plain_by step) q (longer step r q) o) seen.state.seats p x y there here
+        (λ q ne.
+        let is = good.parties q in
+        let stays = λ (c : C) (l : L) (h : Option Hold).
+        knows_beside f q c l h seen.plain (seen.span q) p step r ne good.shape makes.opens makes.belongs in record {
+          stands = grind (arith, entries-other seen.plain p q step ne makes.opens, is.stands);
+          knows = grind (arith, is.knows, stays);
+          retries = grind (arith, is.retries);
+          undisturbed = beside m seen.state.words w p q seen.plain step r (seen.span q) (seat_of seen q) ne
+              (λ e. f.pays.numbers_tell w seen.state.words (makes.encodes ∙ (e ∙ sym good.encodes)))
+              (λ c l h at. (at_step f _ (in_call q good at) good.phase).undisturbed) is.undisturbed;
+        }) in
         search (makes, exclusive-kept seen.plain p step good.exclusive makes.opens, parties)
 
     -- the party p is in this call
@@ -156,12 +133,8 @@ module _ {W V C L A B : Type 0} {t : Table W V C L A} {by : Machine W V C L B} {
       left_by : (step : Option Change) (r : StepKind) (w : W) (next : Next L B)
           → (is_weak r ≡ false → (j : ℕ) → AnswersWithin m (suc j) seen.state.words c l h → GoesWithin m j w c h next)
           → UndisturbedTakes (Left m w c h next) t.lock_kind p (t.asks c h) (longer step r p)
-      left_by step r w next steps =
-          stepped m seen.state.words w p c l h seen.plain step r (seen.span p) next
+      left_by step r w next steps = stepped m seen.state.words w p c l h seen.plain step r (seen.span p) next
           (rw there at (good.parties p).undisturbed) is.undisturbed steps
-
-      stays : (k : L) → (next : L) × (slice_get (slice_set seen.state.seats p (Calling c k h)) p ≡ Some (Calling c next h))
-      stays k = (k, get-set_same seen.state.seats p (Calling c k h) (Calling c l h) there)
 
       -- an event of the call: it makes the plain step `step`, if any, stores the value `stored`, if any, and leaves the
       -- words w and the value v
@@ -179,26 +152,22 @@ module _ {W V C L A B : Type 0} {t : Table W V C L A} {by : Machine W V C L B} {
 
         went_on : (next : Next L B) → Goes next → Kept (event next)
         went_on (Continue k) to =
-            let runs = left_by step r w (Continue k) to.steps in (
-              good_stepped (Calling c k h) (Calling c l h) step r w v _ there to.moves.makes to.phase to.written
-                  (record {
-                    stands = stands_stepped seen.plain p step r (seen.span p) (entries_held p h) to.moves.opens (standing p good there);
-                    knows = to.moves.goes_on.knows;
-                    retries = grind arith;
-                    undisturbed = runs;
-                  }),
-              search (to, soon_by m seen.state w p c h (longer step r p) (Continue k) runs, stays k),
-            )
-        went_on (Answers b rest) to = (
-          good_stepped (resting rest) (Calling c l h) step r w v _ there to.moves.makes to.phase to.written
-              (rests w (plain_by step) p (longer step r p) rest to.moves.goes_on.stands (grind (arith, (good.parties p).retries, to.moves.fails))),
-          search (to, soon_by m seen.state w p c h (longer step r p) (Answers b rest) (left_by step r w (Answers b rest) to.steps)),
-        )
+            let runs = left_by step r w (Continue k) to.steps in
+            let here = standing p good there in
+            let stands = stands_stepped seen.plain p step r (seen.span p) (entries_held p h) to.moves.opens here in
+            let after = good_stepped (Calling c k h) (Calling c l h) step r w v _ there to.moves.makes to.phase
+            to.written (search (arith, stands, to.moves.goes_on.knows, good.parties p, to.moves.fails, runs)) in
+            let soon = soon_by m seen.state w p c h (longer step r p) (Continue k) runs in
+            (after, search (to, soon, get-set_same seen.state.seats p (Calling c k h) _ there))
+        went_on (Answers b rest) to =
+            let runs = left_by step r w (Answers b rest) to.steps in
+            let after = good_stepped (resting rest) (Calling c l h) step r w v _ there to.moves.makes to.phase
+            to.written (grind (arith, to.moves.goes_on.stands, (good.parties p).retries, to.moves.fails)) in
+            (after, search (to, soon_by m seen.state w p c h (longer step r p) (Answers b rest) runs))
 
       -- a step continues or answers its call, and changes the value only if a closure completes
       step_rules : (step : Option Change) (r : StepKind) (stored : Option V) (w : W) (v : Option V) (next : Next L B)
-          → Makes n p seen.plain (seen.span p) step r w
-          → v ≡ if_completed seen.state.value stored step
+          → Makes n p seen.plain (seen.span p) step r w → v ≡ if_completed seen.state.value stored step
           → ContinuesCounted (λ u. m.change p u c l h) seen.plain (told by.says next) step r
           → Gets t.lock_kind p (t.asks c h) (seen.span p) seen.plain step r
           → ((ask : Ask) → tries_of (t.asks c h) ≡ Some ask → own p (seen.span p) ≡ [] → GoesOnOpen ask p (seen.span p) seen.plain (told by.says next) step)
@@ -208,8 +177,7 @@ module _ {W V C L A B : Type 0} {t : Table W V C L A} {by : Machine W V C L B} {
       step_rules step r stored w v (Answers b rest) makes is counted due may = grind arith
 
       pub step_kept : Kept (scene_at m seen p Step (Some (Calling c l h)))
-      step_kept =
-          let st = m.step seen.state.words seen.state.value c l h in
+      step_kept = let st = m.step seen.state.words seen.state.value c l h in
           went_on Step (m.change p seen.state.words c l h) (by_step (m.step_kind c l h)) st.placed st.words (placed st.placed seen.state.value) st.next
           (record {
             moves = is.steps;
@@ -221,8 +189,7 @@ module _ {W V C L A B : Type 0} {t : Table W V C L A} {by : Machine W V C L B} {
 
       pub refusal_kept : (next : Next L B) → m.refuse c l h ≡ Some next
           → Kept (scene_of seen p Weak (Some (Calling c l h)) (goes_on seen.state p c h next) None step_kind.weak None)
-      refusal_kept next refused =
-          went_on Weak None step_kind.weak None seen.state.words seen.state.value next
+      refusal_kept next refused = went_on Weak None step_kind.weak None seen.state.words seen.state.value next
           (record {
             moves = is.refuses next refused;
             phase = good.phase;
@@ -234,37 +201,32 @@ module _ {W V C L A B : Type 0} {t : Table W V C L A} {by : Machine W V C L B} {
     pub begun_kept : OfBegin m seen p Kept
     begun_kept c l h there is =
         let span : ℕ → List Mark = λ q. if p == q then [] else seen.span q in
-        let fresh : [] ≡ span p = sym (ap (λ b. if b then [] else seen.span p) (eqb_self p)) in
-        let stands : entries p seen.plain ≡ entries_held p h = grind (arith, standing p good there) in (
-          good_seated seen p (Calling c l h) (resting h) span good there (λ q ne. ap (λ b. if b then [] else seen.span q) (ne_eqb p q ne))
-              (subst (λ ms. OfParty seen.state.words seen.plain p ms (Some (Calling c l h))) fresh
-              (record {
-                stands = stands;
-                knows = knows_first f p c l h seen.plain is stands;
-                retries = omega arith;
-                undisturbed = runs_fresh m seen.state.words p c l h;
-              })),
-          record {
-            rules = search;
-            own = tt;
-            right = tt;
-            in_time = tt;
-            undisturbed = tt;
-            in_call = (l, get-set_same seen.state.seats p (Calling c l h) (resting h) there ∙ grind arith);
-          },
-        )
+        let stands : entries p seen.plain ≡ entries_held p h = grind (arith, standing p good there) in
+        let knows = knows_first f p c l h seen.plain is stands in
+        let fresh : OfParty seen.state.words seen.plain p [] (Some (Calling c l h)) =
+        record { stands = stands; knows = knows; retries = omega arith; undisturbed = runs_fresh m _ p c l h } in
+        let after = good_seated (Calling c l h) (resting h) span there (λ q ne. rw (ne_eqb p q ne) refl)
+        (rw (eqb_self p) fresh) in
+        let seats = slice_set seen.state.seats p (Calling c l h) in
+        let sits : slice_get seats p ≡ Some (Calling c l (held_at {C = C} {L = L} (Some (resting h)))) =
+        get-set_same seen.state.seats p (Calling c l h) (resting h) there ∙ grind arith in
+        (after, search sits)
 
-    pub write_kept : OfWrite m seen p Kept
-    write_kept v b h there may =
-        let writes = ap is_writer (with_hold p b h good there) ∙ (writer_of p h ∙ may) in
-        let phase = f.written seen.plain p v good.shape writes in (
-          record { encodes = good.encodes; shape = good.shape; phase = phase; exclusive = good.exclusive; written = refl; parties = good.parties },
-          search,
-        )
+    -- the owner's move
 
-    pub leak_kept : (h : Hold) → seat_of seen p ≡ Some (Holding h) → Kept (scene_at m seen p Leak (Some (Holding h)))
-    leak_kept h there = (
-      good_seated seen p (Leaked h) (Holding h) seen.span good there (λ q ne. refl)
-          (record { stands = standing p good there; knows = tt; retries = (good.parties p).retries; undisturbed = tt }),
-      search,
-    )
+    pub good_let_go : (v wr : Option V) → HasPhase t.lock_kind.makes_value seen.plain.phase v → v ≡ wr
+        → Invariant (record seen { state = let_go (record seen.state { value = v }); written = wr })
+    good_let_go v wr phase written =
+        let seats = (let_go seen.state).seats in
+        let parties : (q : ℕ) → OfParty seen.state.words seen.plain q (seen.span q) (slice_get seats q) =
+        λ q. grind (arith, slice_get-map seen_by_owner seen.state.seats q, good.parties q) in search (good, parties)
+
+    pub owns : is_owners m seen.state ≡ true → IsOwners seen
+    owns may = λ q. yields_at seen.plain q (seen.span q) (seat_of seen q) (good.parties q).stands
+        (λ x e. all-get yields_to_owner seen.state.seats q x (and_parts _ _ may).1 e)
+
+    pub owner_writes_kept : (v : V) (y : Seat C L) (o : Option V) → seen.state.value ≡ o
+        → Kept (scene_of seen p (OwnerSet v) (Some y) (owner_writes seen.state v o) None step_kind.plain None)
+    owner_writes_kept v y None found = (good_let_go seen.state.value seen.written good.phase good.written, search)
+    owner_writes_kept v y (Some old) found =
+        (good_let_go (Some v) (Some v) (grind (arith, (rw found at good.phase))) refl, search)

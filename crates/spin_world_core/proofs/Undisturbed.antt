@@ -1,5 +1,5 @@
 -- An undisturbed call is answered within as many own steps as it promises.
-use Rattle.spin_world_core.proofs.Names.{◌≡◌, ℕ, zero, suc, ◌+◌, ◌<◌, ◌≤◌, true, false, Option, Some, List, [], ◌∷◌, refl, arith, Plain, Change, apply_some, Hold, Seat, Calling, Next, Continue, Answers, State, goes_on, AnsweredSoon, StepKind, is_weak, encoded, LockKind, Asked, Mark, Machine, mark_of, is_open_now, Leaves, UndisturbedTakes, steps_alone, if◌then◌else◌, ◌==◌}
+use Rattle.spin_world_core.proofs.Names.{◌≡◌, ℕ, zero, suc, ◌+◌, ◌≤◌, true, false, Option, Some, List, [], ◌∷◌, refl, arith, Plain, Change, apply_some, Hold, Seat, Calling, Next, Continue, Answers, State, goes_on, AnsweredSoon, StepKind, is_weak, encoded, LockKind, Asked, Mark, Machine, mark_of, is_open_now, Leaves, UndisturbedTakes, steps_alone, if◌then◌else◌, ◌==◌}
 use Rattle.spin_world_core.proofs.Steps.{AnswersWithin}
 use Rattle.spin_world_core.proofs.Lists.{eqb_self}
 
@@ -63,13 +63,8 @@ module _ {W V C L A : Type 0} (m : Machine W V C L A) where
   runs_fresh w p c l h [] first older is may leaves = cc (is)
   runs_fresh w p c l h (mark ∷ recent) first older is may leaves = cc (is)
 
-  -- a call that continues has a step left
-  more_left : (w : W) (c : C) (l : L) (h : Option Hold) (taken k : ℕ) → taken + k ≤ steps_alone (m.asks c h) → AnswersWithin m k w c l h
-      → taken < steps_alone (m.asks c h)
-  more_left w c l h taken k few answers = grind arith
-
   pub soon_by : (s : State W V C L) (w : W) (p : ℕ) (c : C) (h : Option Hold) (span : List Mark) (next : Next L A)
       → UndisturbedTakes (Left w c h next) m.lock_kind p (m.asks c h) span → AnsweredSoon m.lock_kind p span (goes_on s p c h next).outcome (Some (m.asks c h))
   soon_by s w p c h span (Continue l) runs = λ recent first older is may leaves.
-      let left = runs recent first older is may leaves in more_left w c l h _ left.steps left.few (left.goes l refl)
+      let left = runs recent first older is may leaves in grind (arith, left.few, left.goes l refl)
   soon_by s w p c h span (Answers a rest) runs = λ recent first older is may leaves. omega (arith, (runs recent first older is may leaves).few)

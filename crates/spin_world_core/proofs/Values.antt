@@ -1,6 +1,6 @@
 -- Every event keeps what is promised of values that closures make.
 use Rattle.spin_world_core.specs.Runs.{Schedule}
-use Rattle.spin_world_core.proofs.Names.{seat_of, arith, ◌≡◌, ℕ, Option, Some, refl, ◌∙◌, Change, completes, Hold, Seat, Calling, Next, Answers, Move, Step, Weak, Machine, State, goes_on, refuses, placed, Seen, Scene, scene_at, scene, opening, Brings, GivesAt, KeepsValue, ValuesAll, Table}
+use Rattle.spin_world_core.proofs.Names.{seat_of, arith, ◌≡◌, ℕ, Option, Some, refl, ◌∙◌, Change, completes, Hold, Seat, Calling, Next, Answers, Move, Step, Weak, Machine, State, goes_on, refuses, placed, Seen, scene_at, scene, opening, Brings, GivesAt, KeepsValue, ValuesAll, Table}
 use Rattle.spin_world_core.proofs.Steps.{played, NextGives, Plays}
 use Rattle.spin_world_core.proofs.Paid.{at_step}
 use Rattle.spin_world_core.proofs.Shapes.{Notes}
@@ -25,28 +25,24 @@ module _ {W V C L A B : Type 0} {t : Table W V C L A} {by : Machine W V C L B} {
   abbrev m : Machine W V C L B
   m = played t by
 
-  -- the promises of values hold of an event that is no step of a call
-  still : (s : Scene W V C L B) → Invariant f s.after → Brings m s.change s.seat s.after.state.value → GivesAt m s.move s.outcome s.after.state.value
-      → KeepsValue m s
-  still s after brings gives = grind arith
-
   keeps_at : (seen : Seen W V C L) (p : ℕ) (move : Move C V) (o : Option (Seat C L)) → Invariant f seen → seat_of seen p ≡ o
       → Invariant f (scene_at m seen p move o).after → KeepsValue m (scene_at m seen p move o)
   keeps_at seen p Step (Some (Calling c l h)) good there after =
       let st = m.step seen.state.words seen.state.value c l h in
       let now : State W V C L = record seen.state { words = st.words; value = placed st.placed seen.state.value } in
       let is = (at_step f _ (in_call f p good there) good.phase).values in
-      still _ after (brings-by m c l h (m.change p seen.state.words c l h) _ (λ q e. (gives-step m now p c h st.next).0 ∙ is.brings q e))
-      ((gives-step m now p c h st.next).1 is.gives)
+      let gives = gives-step m now p c h st.next in
+      let brings = brings-by m c l h (m.change p seen.state.words c l h) _ (λ q e. gives.0 ∙ is.brings q e) in
+      record { phase = after.phase; brings = brings; gives = gives.1 is.gives }
   keeps_at seen p Weak (Some (Calling c l h)) good there after =
-      still _ after tt (gives-weak m seen.state p c h (m.refuse c l h) (f.refusal_gives c l h seen.state.value))
-  keeps_at seen p _ _ good there after = still _ after tt tt
+      let gives = gives-weak m seen.state p c h (m.refuse c l h) (f.refusal_gives c l h seen.state.value) in
+      record { phase = after.phase; brings = tt; gives = gives }
+  keeps_at seen p _ _ good there after = record { phase = after.phase; brings = tt; gives = tt }
 
   -- the promises of values hold of each event from a state with the invariant
   pub keeps_value : (seen : Seen W V C L) (p : ℕ) (move : Move C V) → Invariant f seen → KeepsValue m (scene m seen p move)
   keeps_value seen p move good = keeps_at seen p move (seat_of seen p) good refl (kept f seen p move good).good
 
   pub values_of : (parties : ℕ) (es : Schedule C V) → ValuesAll m parties es
-  values_of parties es =
-      let first = good_first f parties in
+  values_of parties es = let first = good_first f parties in
       record { first = first.phase; each = every f (KeepsValue m) keeps_value (opening m parties) es first }
