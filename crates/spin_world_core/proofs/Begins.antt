@@ -5,7 +5,7 @@ use Rattle.std.proofs.lemmas.List.{append-nil, length-append}
 use Rattle.spin_model.specs.declared.schedule.Outcome.TheVariants as outcome
 use Rattle.spin_model.specs.declared.schedule.Event.{Event}
 use Rattle.spin_model.specs.Schedules.{with_begins, with_begin, last_begin}
-use Rattle.spin_world_core.specs.Transcripts.{begins_of, IsLastOf, IsLastBegin, TellsBegins}
+use Rattle.spin_world_core.specs.Transcripts.{begins_of, IsLastOf, TellsBegins}
 use Rattle.spin_world_core.proofs.Schedules.{last_begin-append}
 
 module _ {W V A : Type 0} where
@@ -26,9 +26,6 @@ module _ {W V A : Type 0} where
   finds p k found [] = inl (refl, refl)
   finds p k found (e ∷ es) = later p k found e es (last_begin p k found (e ∷ es)) (begins_of p e) refl (finds p (k + 1) (if begins_of p e then Some k else found) es)
 
-  found_last : (p : ℕ) (xs : List (Event W V A)) (r : Option ℕ) → Finds p 0 None xs r → IsLastBegin p xs r
-  found_last p xs r found = grind arith
-
   tells : (before told es front : List (Event W V A)) (e : Event W V A) (back : List (Event W V A)) (a : A) (b : Option ℕ)
       → ((p : ℕ) → last_begin p 0 None told ≡ last_begin p 0 None before) → length told ≡ length before
       → with_begins before es ≡ front ++ e ∷ back → e.outcome ≡ outcome.Answered a b → b ≡ last_begin e.party 0 None (told ++ front)
@@ -47,4 +44,4 @@ module _ {W V A : Type 0} where
   pub begins_told : (es told : List (Event W V A)) → told ≡ with_begins [] es → TellsBegins told
   begins_told es told is = λ front e back a b split answers.
       let found = tells [] [] es front e back a b (λ p. refl) refl (sym is ∙ split) answers in
-      rw found (found_last e.party front _ (finds e.party 0 None front))
+      grind (arith, found, finds e.party 0 None front)

@@ -42,13 +42,11 @@ none_from start p k found (x ∷ xs) le none =
 last_from : {W V A : Type 0} (start p k : ℕ) (found here : Option ℕ) (xs : List (Event W V A)) → began_from start found ≡ here
     → began_from start (last_begin p (start + k) found xs) ≡ last_begin p k here xs
 last_from start p k found here [] is = is
-last_from start p k found here (x ∷ xs) is =
-    let b = (x.party == p) && is_begun x.outcome in
+last_from start p k found here (x ∷ xs) is = let b = (x.party == p) && is_begun x.outcome in
     grind (arith, last_from start p (k + 1) (if b then Some (start + k) else found) (if b then Some k else here) xs)
 
 begin_from : {W V A : Type 0} (p : ℕ) (xs ys : List (Event W V A)) → began_from (length xs) (last_begin p 0 None (xs ++ ys)) ≡ last_begin p 0 None ys
-begin_from p xs ys =
-    let n = length xs in
+begin_from p xs ys = let n = length xs in
     grind (arith, last_begin-append p 0 None xs ys, last_from n p 0 (last_begin p 0 None xs) None ys, none_from n p 0 None xs)
 
 length-with_begins : {W V A : Type 0} (before xs : List (Event W V A)) → length (with_begins before xs) ≡ length xs
@@ -61,42 +59,31 @@ with_begins_from xs before [] = refl
 with_begins_from xs before (y ∷ ys) =
     grind (arith, begin_from y.party xs before, with_begins_from xs (before ++ y ∷ []) ys, append_assoc xs before (y ∷ []))
 
--- the transcripts of two runs are that of one run, cut in two
-cut_in_two : {W V C L A : Type 0} (m : Machine W V C L A) (s : State W V C L) (first second : Schedule C V) (place : ℕ) (es fs : List (Event W V A))
-    → length first ≡ place → es ≡ with_begins [] (events_of m s first) → fs ≡ with_begins [] (events_of m (after m s first) second)
-    → IsCut place (with_begins [] (events_of m s (first ++ second))) es fs
-cut_in_two m s first second place es fs at front back =
+-- Two runs of one world: the second run starts in the state in which the first has stopped, on the same object. They
+-- end as one run does, their transcripts are its transcript, cut in two, and both together tell its scenes.
+pub two_in_one : {O W V C L A : Type 0} (machine : O → Machine W V C L A) (old now : O) (s between end : State W V C L)
+    (first second schedule : Schedule C V) (place : ℕ) (es fs : List (Event W V A)) → now ≡ old
+    → first ≡ take place schedule → second ≡ drop place schedule → length first ≡ place
+    → let m = machine old in between ≡ after m s first → end ≡ after (machine now) between second
+    → es ≡ with_begins [] (events_of m s first) → fs ≡ with_begins [] (events_of (machine now) between second)
+    → (end ≡ after m s schedule) × IsCut place (with_begins [] (events_of m s schedule)) es fs
+    × TellsAfterAnyPast m s schedule (es ++ fs)
+two_in_one machine old now s between end first second schedule place es fs same front back at is ends heads tails =
+    let m = machine old in
+    let more = rw (same, is) at tails in
     let xs = events_of m s first in
     let ys = events_of m (after m s first) second in
-    let heads = with_begins [] xs in
+    let parts = ap (with_begins []) (events_of-append m s first second) ∙ with_begins-append [] xs ys in
     let here = length-events_of m s first ∙ at in
-    let so_long = length-with_begins [] xs ∙ here in
-    let whole = ap (with_begins []) (events_of-append m s first second) ∙ with_begins-append [] xs ys in
-    let tails = with_begins xs ys in
-    grind (arith, front, back, take-append_seam heads tails, drop-append_seam heads tails, with_begins_from xs [] ys, here, append-nil xs, so_long, whole)
-
--- Two runs of one world: the second run starts in the state in which the first has stopped, on the same object
-module _ {O W V C L A : Type 0} (machine : O → Machine W V C L A) (old now : O) (s between : State W V C L) (first second schedule : Schedule C V) where
-  pub record PlaysOn : Type 0 where
-    pub object : now ≡ old
-    pub whole : first ++ second ≡ schedule
-    pub between_is : between ≡ after (machine old) s first
-
-  pub plays_on : (place : ℕ) → now ≡ old → first ≡ take place schedule → second ≡ drop place schedule → between ≡ after (machine old) s first → PlaysOn
-  plays_on place same front back is = record { object = same; whole = rw (front, back) (take-append-drop place schedule); between_is = is }
-
-  pub state_on : (end : State W V C L) → PlaysOn → end ≡ after (machine now) between second → end ≡ after (machine old) s schedule
-  state_on end on is = grind (arith, is, on.object, on.between_is, on.whole, after-append (machine old) s first second)
-
-  pub events_on : (place : ℕ) (es fs : List (Event W V A)) → PlaysOn → length first ≡ place → es ≡ with_begins [] (events_of (machine old) s first)
-      → fs ≡ with_begins [] (events_of (machine now) between second) → IsCut place (with_begins [] (events_of (machine old) s schedule)) es fs
-  events_on place es fs on at front back =
-      rw (← on.whole) (cut_in_two (machine old) s first second place es fs at front (rw (on.object, on.between_is) at back))
-
-  pub tells_on : (es fs : List (Event W V A)) → PlaysOn → TellsAfterAnyPast (machine old) s first es → TellsAfterAnyPast (machine now) between second fs
-      → TellsAfterAnyPast (machine old) s schedule (es ++ fs)
-  tells_on es fs on front back =
-      rw (← on.whole) (tells_both (machine old) s first second es fs front (rw (on.object, on.between_is) at back))
+    let seam = take-append_seam (with_begins [] xs) (with_begins xs ys) in
+    let seam_back = drop-append_seam (with_begins [] xs) (with_begins xs ys) in
+    let from = with_begins_from xs [] ys in
+    let whole : first ++ second ≡ schedule = rw (front, back) (take-append-drop place schedule) in
+    let one = (rw (same, is) at ends) ∙ sym (after-append m s first second) in
+    let told = tells_after m (after m s first) second fs more in
+    let all = tells_both m s first second es fs (tells_after m s first es heads) told in
+    let long = length-with_begins [] xs in
+    rw (← whole) (one, grind (arith, heads, more, seam, seam_back, from, here, append-nil xs, long, parts), all)
 
 -- Any number of runs
 module _ {W V C L A : Type 0} (m : Machine W V C L A) where

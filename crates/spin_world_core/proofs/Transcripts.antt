@@ -1,11 +1,11 @@
 -- A transcript tells the scenes of its schedule. A place agrees with the party's moves and with its entries.
-use Rattle.spin_world_core.proofs.Every.{state-seen_at}
+use Rattle.spin_world_core.proofs.Every.{left_after, state-seen_at}
 use Rattle.spin_world_core.specs.Users.{seen_at}
 use Rattle.spin_world_core.specs.Runs.{Schedule}
-use Rattle.spin_world_core.proofs.Names.{cases_eq, ⊎_elim, moves_at, seat_of, ne_eqb, ◌≡◌, ℕ, ◌<◌, ◌≤◌, ◌==◌, Option, Some, None, List, [], ◌∷◌, ◌++◌, length, map, slice_get, if◌then◌else◌, refl, ap, ◌∙◌, subst, arith, option_map, length-replicate, slice_get-map, slice_get_within, slice_get_cases, Plain, Seat, Idle, Calling, Leaked, Gone, Move, Event, Mark, Machine, opening_plain, State, happens, seen_by_owner, events_of, with_begins, Seen, Scene, scene, Every, Keeps, KeepsAll, StandsFor, opening, seen_after, scenes, EachTells, TellsAfterAnyPast}
+use Rattle.spin_world_core.proofs.Names.{cases_eq, ⊎_elim, moves_at, seat_of, ne_eqb, ◌≡◌, ℕ, ◌<◌, ◌≤◌, ◌==◌, Option, Some, None, List, [], ◌∷◌, ◌++◌, length, slice_get, if◌then◌else◌, refl, ap, ◌∙◌, arith, option_map, length-replicate, slice_get-map, slice_get_within, slice_get_cases, Plain, Seat, Idle, Calling, Leaked, Gone, Move, Event, Mark, Machine, opening_plain, State, happens, seen_by_owner, events_of, with_begins, Seen, Scene, scene, Keeps, KeepsAll, StandsFor, opening, seen_after, scenes, EachTells, TellsAfterAnyPast}
 use Rattle.spin_model.specs.declared.place.Place.{Place}
 use Rattle.spin_model.specs.Schedules.{place_of}
-use Rattle.spin_world_core.specs.Transcripts.{has_leaked, PlaceSays, SaysAfterAnyPast, Stage, StandsAt, at_rest, in_call, is_gone, let_go_stage, stage_after, stage_by_own, stage_by_owner}
+use Rattle.spin_world_core.specs.Transcripts.{has_leaked, PlaceSays, SaysAfterAnyPast, Stage, at_rest, in_call, is_gone, stage_after, stage_by_own, stage_by_owner}
 use Rattle.spin_world_core.proofs.Lists.{eqb_self, get-set_other, get-replicate}
 use Rattle.spin_model.proofs.Lists.{get-set_within}
 use Rattle.spin_world_core.proofs.Schedules.{length-happens}
@@ -18,10 +18,8 @@ module _ {W V C L A : Type 0} (m : Machine W V C L A) where
   tells_from seen [] before = tt
   tells_from seen (e ∷ es) before =
       let h = happens m seen.state e.0 e.1 in
-      let event : Event W V A = record { party = e.0; outcome = h.outcome; words = h.next.words } in (
-        record { party = refl; outcome = grind arith; words = refl },
-        tells_from (scene m seen e.0 e.1).after es (before ++ event ∷ []),
-      )
+      let event : Event W V A = record { party = e.0; outcome = h.outcome; words = h.next.words } in
+      grind (arith, tells_from (scene m seen e.0 e.1).after es (before ++ event ∷ []))
 
   pub tells_after : (s : State W V C L) (schedule : Schedule C V) (events : List (Event W V A)) → events ≡ with_begins [] (events_of m s schedule)
       → TellsAfterAnyPast m s schedule events
@@ -36,35 +34,24 @@ stage_of (Some (Leaked h)) = has_leaked
 stage_of (Some (Gone h)) = is_gone
 stage_of _ = at_rest
 
--- the owner's use makes every leaked party gone
-let_go_all : {C L : Type 0} (seats : List (Seat C L)) (p : ℕ) → stage_of (slice_get (map seen_by_owner seats) p) ≡ let_go_stage (stage_of (slice_get seats p))
-let_go_all seats p = grind (arith, slice_get-map seen_by_owner seats p)
-
-stands_at : {C L : Type 0} (s : Plain) (p : ℕ) (span : List Mark) (seat : Seat C L) → StandsFor s p span (Some seat) → StandsAt (stage_of (Some seat)) s p span (place_of seat)
-stands_at s p span (Calling c l h) stands = (h, stands)
-stands_at s p span (Gone h) stands = (h, stands)
-stands_at s p span _ stands = stands
-
-says_at : {C L : Type 0} (n p : ℕ) (s : Plain) (span : List Mark) (o : Option (Seat C L)) → (o ≡ None → n ≤ p) → ((seat : Seat C L) → o ≡ Some seat → p < n) → StandsFor s p span o
-    → PlaceSays (stage_of o) n s p span (option_map place_of o)
-says_at n p s span None past within stands = (past refl, stands)
-says_at n p s span (Some seat) past within stands = grind arith
-
 module _ {W V C L A : Type 0} (m : Machine W V C L A) where
   -- after an event, the stage of p's seat is the stage that the event's outcome gives p
   abbrev Brings : ℕ → Scene W V C L A → Type 0
-  Brings p sc =
-      let before = stage_of (seat_of sc.before p) in
+  Brings p sc = let before = stage_of (seat_of sc.before p) in
       stage_of (seat_of sc.after p) ≡ stage_by_owner sc.outcome sc.move (if sc.party == p then stage_by_own sc.outcome before else before)
 
   module _ (seen : Seen W V C L) (p q : ℕ) where
+    abbrev seats : List (Seat C L)
+    seats = seen.state.seats
+
     brought_mine : (move : Move C V) (o : Option (Seat C L)) → seat_of seen p ≡ o
         → (let h = moves_at m seen.state p move o in stage_of (slice_get h.next.seats p) ≡ stage_by_owner h.outcome move (stage_by_own h.outcome (stage_of o)))
-    brought_mine move o there = grind (arith, there, get-set_within seen.state.seats p, slice_get_within seen.state.seats p, let_go_all seen.state.seats p)
+    brought_mine move o there =
+        grind (arith, there, get-set_within seats p, slice_get_within seats p, slice_get-map seen_by_owner seats p)
 
     brought_other : (move : Move C V) (o : Option (Seat C L)) → (q ≡ p → ⊥)
         → (let h = moves_at m seen.state q move o in stage_of (slice_get h.next.seats p) ≡ stage_by_owner h.outcome move (stage_of (seat_of seen p)))
-    brought_other move o ne = grind (arith, get-set_other seen.state.seats q p, let_go_all seen.state.seats p)
+    brought_other move o ne = grind (arith, get-set_other seats q p, slice_get-map seen_by_owner seats p)
 
     brought : (move : Move C V) → Brings p (scene m seen q move)
     brought move =
@@ -82,31 +69,16 @@ module _ {W V C L A : Type 0} (m : Machine W V C L A) where
   length-seen_after seen [] = refl
   length-seen_after seen (e ∷ es) = length-seen_after (scene m seen e.0 e.1).after es ∙ length-happens m seen.state e.0 e.1
 
-  -- after any schedule, each party's entries are those that its seat implies
-  stand_after : (seen : Seen W V C L) (es : Schedule C V) → Every (Keeps m) m seen es
-      → ((q : ℕ) → StandsFor seen.plain q (seen.span q) (seat_of seen q))
-      → (q : ℕ) → StandsFor (seen_after m seen es).plain q ((seen_after m seen es).span q) (seat_of (seen_after m seen es) q)
-  stand_after seen [] all stand = stand
-  stand_after seen (e ∷ es) all stand = stand_after (scene m seen e.0 e.1).after es all.1 all.0.places
-
-  says_seen : (p n : ℕ) (past : Schedule C V) → KeepsAll m n past
-      → let seen = seen_at m n past in PlaceSays (stage_after p at_rest (scenes m (opening m n) past)) n seen.plain p (seen.span p)
-      (option_map place_of (seat_of seen p))
-  says_seen p n past keeps =
-      let seen = seen_at m n past in
-      let stage = stage-seen_after (opening m n) p past ∙ ap (λ st. stage_after p st (scenes m (opening m n) past))
-      (get-replicate (λ (o : Option (Seat C L)). stage_of o ≡ at_rest) Idle n p refl refl) in
-      let count = length-seen_after (opening m n) past ∙ length-replicate n Idle in
-      let stands = stand_after (opening m n) past keeps.each (λ q. get-replicate (StandsFor {C = C} {L = L} (opening_plain m) q []) Idle n q refl refl) p in
-      rw (← stage)
-      (says_at n p seen.plain (seen.span p) (seat_of seen p) (λ e. grind (arith, count, slice_get_cases))
-      (λ x e. omega (arith, count, slice_get_within seen.state.seats p x e)) stands)
-
   pub says_after : (s : State W V C L) (p : ℕ) → ((n : ℕ) (past : Schedule C V) → KeepsAll m n past) → (told : Option Place)
       → told ≡ option_map place_of (slice_get s.seats p) → SaysAfterAnyPast m s p told
   says_after s p keeps told is = λ n past reached.
       let seen = seen_at m n past in
-      rw is
-      (subst (λ (t : State W V C L). PlaceSays (stage_after p at_rest (scenes m (opening m n) past)) n seen.plain p (seen.span p)
-      (option_map place_of (slice_get t.seats p)))
-      (state-seen_at m n past ∙ reached) (says_seen p n past (keeps n past)))
+      let stage = stage-seen_after (opening m n) p past ∙ ap (λ st. stage_after p st (scenes m (opening m n) past))
+      (get-replicate (λ (o : Option (Seat C L)). stage_of o ≡ at_rest) Idle n p refl refl) in
+      let count = length-seen_after (opening m n) past ∙ length-replicate n Idle in
+      let first = λ (q : ℕ). get-replicate (StandsFor {C = C} {L = L} (opening_plain m) q []) Idle n q refl refl in
+      let stands = left_after m (λ t. (q : ℕ) → StandsFor t.plain q (t.span q) (seat_of t q)) (Keeps m)
+      (λ s kept. kept.places) (opening m n) past (keeps n past).each first p in
+      let says : PlaceSays (stage_of (seat_of seen p)) n seen.plain p (seen.span p)
+      (option_map place_of (seat_of seen p)) = grind (arith, count, slice_get_cases seen.state.seats p, stands) in
+      rw is (rw (stage, state-seen_at m n past, reached) at says)

@@ -1,5 +1,7 @@
-use Rattle.spin_world_core.proofs.Users.{runs_join}
+use Rattle.std.proofs.Common.{arith}
+use Rattle.spin_model.proofs.Schedules.{after-append}
+use Rattle.spin_world_core.proofs.Schedules.{events_of-append}
 use Rattle.spin_world_core.proofs.laws.two_runs_are_one.Goals as goal
 
 pub returns : goal.returns
-returns g c = λ object state first second. runs_join (g.O.Object.machine object) state first second
+returns g c = λ object state first second. grind (arith, after-append, events_of-append)

@@ -18,12 +18,6 @@ loop-place-init g c = (
   c.requires.room,
 )
 
-pub act-requires : goal.act-requires
-act-requires g c = grind arith
-
-pub push_reserved-requires : goal.push_reserved-requires
-push_reserved-requires g c = grind arith
-
 pub returns-clause-table : goal.returns-clause-table
 returns-clause-table g c = (played_all (g.O.Object.machine c.args.object.now) c.args.table.now c.loop-place.table c.loop-place.begins c.loop-place.events.items c.args.schedule.now c.loop-place.place c.loop-place.invariant.0 c.loop-place-test.false).table
 

@@ -1,26 +1,15 @@
-use Rattle.spin_world_core.specs.Runs.{Schedule}
 use Rattle.std.proofs.Common.{rules, refl}
-use Rattle.spin_world_core.proofs.Names.{◌≡◌, ℕ, List, ◌++◌, length, take, sym, ap, ◌∙◌, subst, arith, length-take-le, length-append, ∥∥₁_map, ∥∥₁_elim, Machine, State, after, at_first, CanStep, IsReached, TellsAfterAnyPast}
-use Rattle.std.proofs.Math.Bool.{Bool-set}
-use Rattle.spin_model.proofs.Schedules.{after-append}
+use Rattle.spin_world_core.proofs.Names.{◌≡◌, ℕ, List, ◌++◌, length, take, ◌∙◌, subst, arith, length-take-le, length-append, IsReached, TellsAfterAnyPast}
 use Rattle.spin_world_core.proofs.Transcripts.{tells_after}
+use Rattle.spin_world_core.proofs.Playing.{can_reached, further}
 use Rattle.spin_world_core.proofs.Begins.{begins_told}
 use Rattle.spin_world_core.proofs.world.World.run.Goals as goal
 
 pub play-requires-clause-can : goal.play-requires-clause-can
-play-requires-clause-can g c = λ k p call local holds there.
+play-requires-clause-can g c = λ k.
     let m = g.O.Object.machine c.self.inside.object in
-    let front = take k c.args.schedule.now in
-    ∥∥₁_elim c.self.invariant.0 (Bool-set _ _) (λ led.
-    let can = (c.laws.ensures c.self.inside.object).can led.0 (led.1 ++ front) in
-    let there_now = after-append m (at_first m led.0) led.1 front ∙ ap (λ s. after m s front) led.2 in
-    subst (CanStep m) there_now can p call local holds there)
-
--- a state that a schedule leads to from a reached state is reached
-further : {W V C L A : Type 0} (m : Machine W V C L A) (s t : State W V C L) (schedule : Schedule C V) → t ≡ after m s schedule → IsReached m s → IsReached m t
-further m s t schedule is reached =
-    ∥∥₁_map reached (λ led.
-    (led.0, led.1 ++ schedule, after-append m (at_first m led.0) led.1 schedule ∙ (ap (λ u. after m u schedule) led.2 ∙ sym is)))
+    let reached = further m c.self.inside.table _ (take k c.args.schedule.now) refl c.self.invariant.0 in
+    can_reached m _ (c.laws.ensures c.self.inside.object).can reached
 
 -- the first n elements of what is written back into a vector of length n have this length
 kept_length : {X : Type 0} (n : ℕ) (xs ys : List X) → length xs ≡ n → length (take n (xs ++ ys)) ≡ length xs
@@ -31,20 +20,19 @@ invariant_of-self g c =
     (further (g.O.Object.machine c.self.inside.object) c.self.inside.table c.play.new.table c.args.schedule.now c.play.ensures.table c.self.invariant.0, kept_length c.self.inside.begins.len c.play.new.begins _ (c.play.auto.begins ∙ c.deref_mut.ensures.len) ∙ c.play.ensures.parties)
 
 pub returns-in_err-events : goal.returns-in_err-events
-returns-in_err-events g c =
-    let lawful = c.laws.ensures c.args.self.now.object in
+returns-in_err-events g c = let lawful = c.laws.ensures c.args.self.now.object in
     record {
       state = search rules;
-      object = refl;
       events = search rules;
       err = search rules;
+      tells = search rules;
+      begins = search rules;
+      object = refl;
       reached = subst (λ w. IsReached (g.O.Object.machine w.object) w.state) c.self.view_is c.self.invariant.0;
       keeps = λ n past reached. lawful.keeps n (past ++ c.args.schedule.now);
       moments = λ n past reached. lawful.moments n (past ++ c.args.schedule.now);
       counts = λ n past reached. lawful.counts n (past ++ c.args.schedule.now);
       values = λ n past reached. lawful.values n (past ++ c.args.schedule.now);
-      tells = search rules;
-      begins = search rules;
     }
 
 pub returns : goal.returns
