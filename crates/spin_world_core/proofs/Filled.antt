@@ -59,10 +59,6 @@ pub record PaysWith {W V C L : Type 0} {t : Table W V C L (Answer (Unit {0}))} (
   pub tells : (p : ℕ) (c : C) (l : L) (h : Option Hold) (s : Plain) (w : W) → t.memory.numbers w ≡ encoded t.lock_kind s
       → TellsOf (apply_some s (change_by t.memory (t.word l) (t.act c l h) p w)).phase (step_by {V = V} t.memory (t.word l) (t.act c l h) w).next
 
--- whether the phase is complete changes only by a step that completes a closure
-phase-kept : (s : Plain) (p : ℕ) (step : Option Change) (b : Bool) → ((q : ℕ) → step ≡ Some (completes q) → ⊥) → IsOpenStep s p step → is_complete s.phase ≡ b → is_complete (apply_some s step).phase ≡ b
-phase-kept s p step b not may e = grind (arith, not)
-
 -- a step that stores a value agrees with its plain step
 record Puts {V : Type 0} (s : Plain) (v value put : Option V) (step : Option Change) : Type 0 where
   phase : is_complete (apply_some s step).phase ≡ is_some (placed put v)
@@ -71,7 +67,7 @@ record Puts {V : Type 0} (s : Plain) (v value put : Option V) (step : Option Cha
 
 puts_by : {W V L A : Type 0} (n : ℕ) (act : Act W L A) (s : Plain) (p : ℕ) (v value : Option V) (w : W) → CompletesRight act p value → IsOpenStep s p (change_at n act p w) → is_complete s.phase ≡ is_some v
     → Puts s v value (if completes_by act then value else None) (change_at n act p w)
-puts_by n act s p v value w right may e = grind (arith, change_is n act p w, phase-kept s p, uncompleted v)
+puts_by n act s p v value w right may e = grind (arith, change_is n act p w, uncompleted v)
 
 module _ {W V C L : Type 0} {t : Table W V C L (Answer (Unit {0}))} {n : Notes t} {brings : C → Option V} (pays : PaysWith n brings) where
   tells_with : (s : Plain) (v : Option V) (next : Next L (Answer (Unit {0}))) → is_complete s.phase ≡ is_some v → TellsOf s.phase next

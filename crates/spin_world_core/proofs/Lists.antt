@@ -20,6 +20,3 @@ pub get-replicate : {X : Type 0} (P : Option X → Type 0) (x : X) (n i : ℕ) �
 get-replicate P x (suc n) (suc i) none some = get-replicate P x n i none some
 get-replicate P x (suc n) zero none some = some
 get-replicate P x zero i none some = none
-
-pub take_next : {X : Type 0} (xs : List X) (i : ℕ) (x : X) → i < length xs → x ≡ get_or xs i x → take (i + 1) xs ≡ take i xs ++ x ∷ []
-take_next xs i x lt is = rw add-one (take-suc xs i x lt ∙ ap (λ y. take i xs ++ y ∷ []) (sym is))

@@ -85,9 +85,6 @@ module _ {W V C L A : Type 0} {t : Table W V C L A} (n : Notes t) (p : ℕ) (wha
         }
 
 module _ {W V C L A B : Type 0} {t : Table W V C L A} {m : Machine W V C L B} {n : Notes t} (f : Plays m n) where
-  abbrev pays : Pays n
-  pays = f.pays
-
   abbrev kind : LockKind
   kind = t.lock_kind
 
@@ -117,18 +114,12 @@ module _ {W V C L A B : Type 0} {t : Table W V C L A} {m : Machine W V C L B} {n
     abbrev spanned : Option Change → StepKind → List Mark
     spanned step r = mark_of p step r s ∷ span
 
-    abbrev limited : Limit
-    limited = limit kind what
-
     made_now : (step : Option Change) (r : StepKind) (cs : List Change) → row.made p ++ option_to_list step ≡ cs → own p (spanned step r) ≡ cs
     made_now step r cs is = grind arith
 
-    abbrev ShownHere : Bool → Option Change → StepKind → Branch → W → Next L A → Type 0
-    ShownHere = Shown n p what s w span (row.made p) Comes
-
     -- a step with this result, and how the call continues
     module _ {weakly : Bool} {step : Option Change} {r : StepKind} {branch : Branch} {u : W} {next : Next L A}
-        (is : ShownHere weakly step r branch u next) where
+        (is : Shown n p what s w span (row.made p) Comes weakly step r branch u next) where
       goes_to : (j : L) (o : Option Row) → IsSound kind what p o → FollowsRow n p c h s w span row step r branch j o
           → Continues n o p c j h (apply_some s step) (spanned step r)
       goes_to j None sound follows = absurd follows
@@ -137,7 +128,7 @@ module _ {W V C L A B : Type 0} {t : Table W V C L A} {m : Machine W V C L B} {n
           let found = needs-mine p s step r span (need_of kind what (to.made p) (t.act c j h)) _ follows.finds in
           let made = made_now step r (to.made p) follows.made in
           let expects : Expects kind (t.act c j h) p (apply_some s step) (spanned step r) = grind arith in
-          let within = goes_within p s step r span limited kind branch (to.made p) row.spent to.spent made
+          let within = goes_within p s step r span (limit kind what) kind branch (to.made p) row.spent to.spent made
           follows.spends is.branched known.spent sound.0 retries in
           let stands = stand-mine s p step row.stand to.stand is.opens known.stand follows.stands in
           let so_far = any_map (λ steps. to.made p ++ to.rest p ≡ steps)
@@ -150,14 +141,14 @@ module _ {W V C L A B : Type 0} {t : Table W V C L A} {m : Machine W V C L B} {n
           }
 
       followed : (next : Next L A) → Comes weakly step r branch next → NextIs n (move_of weakly) p c h (apply_some s step) (spanned step r) (told t.says next)
-      followed (Continue j) follows = goes_to j (row_of n c j h) (pays.sound p c j h) follows
+      followed (Continue j) follows = goes_to j (row_of n c j h) (f.pays.sound p c j h) follows
       followed (Answers a after) follows =
           let made = any_map (λ steps. row.made p ++ option_to_list step ≡ steps) (λ steps. own p (spanned step r) ≡ steps)
           (own_steps (what.answers (t.says a)) p) (λ steps e. made_now step r steps e) follows.made in
           let stands = stand-mine s p step row.stand (stand_of after) is.opens known.stand follows.stands in
           let right = right_by weakly what (t.says a) p (spanned step r) (is.opens, known.opened) made follows.right in
-          let ends = ends_within limited kind (row.made p) row.spent p s step r span sound.0 at.retries known.spent in
-          search (stands ∙ sym (held_at p after), made, right, ends follows.in_time)
+          let ends = ends_within (limit kind what) kind (row.made p) row.spent p s step r span sound.0 at.retries
+          known.spent follows.in_time in search (stands ∙ sym (held_at p after), made, right, ends)
 
       -- a try continues only as `MayTryOn` allows
       tried_on : (ask : Ask) → tries_of what ≡ Some ask → (step ≡ None → Aims branch (is_open_to s p ask ≡ true))
@@ -168,7 +159,8 @@ module _ {W V C L A B : Type 0} {t : Table W V C L A} {m : Machine W V C L B} {n
       moves_by = record { makes = is.makes; goes_on = followed next is.comes }
 
     -- a spurious failure changes no word
-    refused : (next : Next L A) → Comes true None weak goes next → ShownHere true None weak goes w next
+    refused : (next : Next L A) → Comes true None weak goes next
+        → Shown n p what s w span (row.made p) Comes true None weak goes w next
     refused next comes = grind arith
 
     at_row : Owes n p c h s w span row (t.word l) (t.act c l h)
@@ -177,7 +169,7 @@ module _ {W V C L A B : Type 0} {t : Table W V C L A} {m : Machine W V C L B} {n
     at_row owes aims soon v phase =
         let act = t.act c l h in
         let is = formed n p what s w span (row.made p) Comes (t.word l) act owes
-        (λ d made. (fits_made kind what _ _ d (and_parts _ _ (pays.fits p c l h)).0 made).0)
+        (λ d made. (fits_made kind what _ _ d (and_parts _ _ (f.pays.fits p c l h)).0 made).0)
         known.expects at.encodes at.shape in
         let values = f.values p c l h s v w at.encodes at.shape phase is.step.opens in record {
           can = is.can;
@@ -198,8 +190,8 @@ module _ {W V C L A B : Type 0} {t : Table W V C L A} {m : Machine W V C L B} {n
   -- a party in a call takes its next step
   pub at_step : {p : ℕ} {c : C} {l : L} {h : Option Hold} {s : Plain} {w : W} {span : List Mark} (v : Option V) → InCall n p c l h s w span
       → HasPhase kind.makes_value s.phase v → AtStep m n p c l h s v w span
-  at_step {p} {c} {l} {h} {s} {w} {span} v here phase = by (row_of n c l h) here (pays.sound p c l h) (pays.owes p c l h s w span) (pays.aims p c l h)
-      (pays.soon p c l h s w span)
+  at_step {p} {c} {l} {h} {s} {w} {span} v here phase = by (row_of n c l h) here (f.pays.sound p c l h)
+      (f.pays.owes p c l h s w span) (f.pays.aims p c l h) (f.pays.soon p c l h s w span)
     where
       by : (o : Option Row) → AtPoint n p c l h s w span o → IsSound kind (t.asks c h) p o → OwesRow n p c l h s w span o
           → AimsRow n p c l h o → SoonRow n p c l h s w span o → AtStep m n p c l h s v w span
@@ -215,8 +207,8 @@ module _ {W V C L A B : Type 0} {t : Table W V C L A} {m : Machine W V C L B} {n
 
     pub knows_beside : (span : List Mark) (q : ℕ) (step : Option Change) (r : StepKind) → (q ≡ p → ⊥) → n.Shape s → IsOpenStep s q step
         → BelongsTo kind step → Knows n c l h p s span → Knows n c l h p (apply_some s step) (mark_of q step r s ∷ span)
-    knows_beside span q step r ne shape may belongs knows =
-        others_at q step r span (row_of n c l h) ne may (pays.others p q c l h s step r span ne shape may belongs) knows
+    knows_beside span q step r ne shape may belongs knows = others_at q step r span (row_of n c l h) ne may
+        (f.pays.others p q c l h s step r span ne shape may belongs) knows
 
     -- what a party knows when its call begins
     begins_at : (o : Option Row) → entries p s ≡ entries_held p h → BeginsRow n c l h p s o → KnowsRow n c l h p s [] o
@@ -224,4 +216,4 @@ module _ {W V C L A B : Type 0} {t : Table W V C L A} {m : Machine W V C L B} {n
     begins_at (Some row) mine begins = grind arith
 
     pub knows_first : begin_of t c h ≡ Some l → entries p s ≡ entries_held p h → Knows n c l h p s []
-    knows_first e mine = begins_at (row_of n c l h) mine (rw e at (pays.begins p c h s))
+    knows_first e mine = begins_at (row_of n c l h) mine (rw e at (f.pays.begins p c h s))

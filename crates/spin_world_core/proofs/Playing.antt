@@ -4,7 +4,9 @@ use Rattle.spin_world_core.specs.Runs.{Always, CanGoOn, Schedule}
 use Rattle.spin_world_core.proofs.Names.{slice_get-map, ◌≡◌, ℕ, map, ◌+◌, ◌<◌, ◌≤◌, ◌==◌, ◌&&◌, true, Option, Some, None, List, [], ◌∷◌, ◌++◌, length, if◌then◌else◌, ap, sym, ◌∙◌, arith, subst, length-set, take, get_or, length-take-le, zero-add, ∥∥₁_elim, ∥∥₁_map, CanStep, length-map, take_all, Move, Outcome, Event, Machine, State, Happened, happens, after, events_of, with_begins, last_begin, is_begun, at_first, IsReached}
 use Rattle.spin_model.specs.Schedules.{begin_of, begins_after, with_begin}
 use Rattle.spin_model.proofs.Lists.{get-set_within}
-use Rattle.spin_world_core.proofs.Lists.{get-set_other, take_next}
+use Rattle.spin_world_core.proofs.Lists.{get-set_other}
+use Rattle.std.proofs.Common.{add-one}
+use Rattle.std.proofs.Math.Seq.{take-suc}
 use Rattle.spin_model.proofs.Schedules.{after-append}
 use Rattle.spin_world_core.proofs.Schedules.{events_of-append, length-events_of, with_begins-append, last_begin-append, stranger, length-happens}
 
@@ -39,7 +41,7 @@ module _ {W V C L A : Type 0} (m : Machine W V C L A) where
       let is = acted ∙ ap (λ s. happens m s entry.0 entry.1) played.table in
       let told = ap (λ h. h.outcome) is in
       let place : length front ≡ k = length-take-le k schedule (omega arith) in
-      rw (take_next schedule k entry lt read, added, put, told_o, same_words) (record {
+      rw (add-one, take-suc schedule k entry lt, ← read, added, put, told_o, same_words) (record {
         table = ap (λ h. h.next) is ∙ sym (after-append m from front (entry ∷ []));
         with_begins_so = grind (arith, all, is, played.with_begins_so, played.begun_so entry.0, last);
         begun_so = λ q. rw (all, last_begin-append q 0 None done, length-events_of m from front, place, told, zero-add)

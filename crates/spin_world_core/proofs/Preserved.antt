@@ -202,9 +202,8 @@ module _ {W V C L A B : Type 0} {t : Table W V C L A} {by : Machine W V C L B} {
     begun_kept c l h there is =
         let span : ℕ → List Mark = λ q. if p == q then [] else seen.span q in
         let stands : entries p seen.plain ≡ entries_held p h = grind (arith, standing p good there) in
-        let knows = knows_first f p c l h seen.plain is stands in
         let fresh : OfParty seen.state.words seen.plain p [] (Some (Calling c l h)) =
-        record { stands = stands; knows = knows; retries = omega arith; undisturbed = runs_fresh m _ p c l h } in
+        search (arith, stands, knows_first f p c l h seen.plain is stands, runs_fresh m seen.state.words p c l h) in
         let after = good_seated (Calling c l h) (resting h) span there (λ q ne. rw (ne_eqb p q ne) refl)
         (rw (eqb_self p) fresh) in
         let seats = slice_set seen.state.seats p (Calling c l h) in
