@@ -76,12 +76,6 @@ module _ {W V C L : Type 0} (t : Table W V C L (Answer (Unit {0}))) (brings : C 
 
   pub stepwise_with : CallsFit t → OwnFits t → ((c : C) (h : Option Hold) (d : Change) → (t.asks c h).gets_weakly d ≡ false) → Stepwise (machine_with t brings)
   stepwise_with calls own strong =
-      let is = stepwise_of t fit operates calls own in record {
-        calls = calls;
-        begins = is.begins;
-        fits = is.fits;
-        refuses = λ c l h next is. absurd (cc (is));
-        weak = λ p c l h w d is got. grind (arith, strong c h d);
-        operates = λ c l h. operation_with t.lock_kind.steps_in_sections c l h (is.operates c l h);
-        looks = is.looks;
-      }
+      let is = stepwise_of t fit operates calls own in
+      let one = λ (c : C) (l : L) (h : Option Hold).
+      operation_with t.lock_kind.steps_in_sections c l h (is.operates c l h) in grind (arith, calls, is, one, strong)

@@ -179,24 +179,13 @@ module _ {W V C L A B : Type 0} {t : Table W V C L A} {by : Machine W V C L B} {
       pub step_kept : Kept (scene_at m seen p Step (Some (Calling c l h)))
       step_kept = let st = m.step seen.state.words seen.state.value c l h in
           went_on Step (m.change p seen.state.words c l h) (by_step (m.step_kind c l h)) st.placed st.words (placed st.placed seen.state.value) st.next
-          (record {
-            moves = is.steps;
-            phase = is.values.phase;
-            written = is.values.places ∙ ap (λ old. if_completed old st.placed (m.change p seen.state.words c l h)) good.written;
-            steps = λ strong j answers. answers seen.state.value;
-            rules = step_rules _ _ st.placed st.words _ st.next is.steps.makes is.values.places is.counted is.due is.tries_on;
-          })
+          (grind (arith, is.steps, is.values, good.written,
+          step_rules _ _ st.placed st.words _ st.next is.steps.makes is.values.places is.counted is.due is.tries_on))
 
       pub refusal_kept : (next : Next L B) → m.refuse c l h ≡ Some next
           → Kept (scene_of seen p Weak (Some (Calling c l h)) (goes_on seen.state p c h next) None step_kind.weak None)
       refusal_kept next refused = went_on Weak None step_kind.weak None seen.state.words seen.state.value next
-          (record {
-            moves = is.refuses next refused;
-            phase = good.phase;
-            written = good.written;
-            steps = λ strong. absurd (true≢false strong);
-            rules = grind (arith, is.weakly next refused);
-          })
+          (grind (arith, is.refuses next refused, good.phase, good.written, is.weakly next refused))
 
     pub begun_kept : OfBegin m seen p Kept
     begun_kept c l h there is =
