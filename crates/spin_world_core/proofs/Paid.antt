@@ -1,10 +1,10 @@
 -- What holds at a step of a party, by what the object shows of its table (`Pays`).
-use Rattle.spin_world_core.proofs.Names.{◌≤◌, if◌then◌else◌, LockKind, ◌≡◌, ℕ, zero, suc, Bool, true, false, is_some, Option, Some, None, List, [], ◌∷◌, ◌++◌, option_to_list, ap, sym, ◌∙◌, subst, arith, and_parts, false≢true, Plain, Ask, Change, gets, is_open, is_open_to, apply_some, IsOpenStep, entries, Hold, Next, Continue, Answers, Stepped, Move, Step, Weak, StepKind, weak, is_again, by_step, Asked, place_of, encoded, is_step_of, BelongsTo, Said, own_steps, AnyOf, Mark, first_word, Limit, steps_alone, way_of, is_due_by, LooksElse, Gets, mark_of, Machine, entries_held, own, failures, changes, IsBeginning, RightBy, number_at, Act, load_for, retry, either, stays, step_by, change_by, can_by, refusal_by, makes_by, step_kind_by, Table, begin_of, HasPhase, tries_of, goes_of, limit}
+use Rattle.spin_world_core.proofs.Names.{◌≤◌, if◌then◌else◌, LockKind, ◌≡◌, ℕ, zero, suc, Bool, true, false, is_some, Option, Some, None, List, [], ◌∷◌, ◌++◌, option_to_list, ap, sym, ◌∙◌, subst, arith, and_parts, false≢true, Plain, Ask, Change, gets, is_open, is_open_to, apply_some, IsOpenStep, entries, Hold, Next, Continue, Answers, Stepped, Move, Step, Weak, StepKind, weak, is_again, by_step, Asked, place_of, encoded, is_step_of, BelongsTo, Said, own_steps, AnyOf, Mark, first_word, steps_alone, way_of, is_due_by, LooksElse, Gets, mark_of, Machine, entries_held, own, failures, changes, IsBeginning, RightBy, number_at, Act, load_for, retry, either, stays, step_by, change_by, can_by, refusal_by, makes_by, step_kind_by, Table, begin_of, HasPhase, tries_of, goes_of, limit}
 use Rattle.spin_world_core.proofs.Steps.{Makes, told, played, GoesOnOpen, Continues, Moves, NextIs, AnswersWithin, AtStep, Plays}
 use Rattle.spin_world_core.proofs.Operating.{change_is, fits_made}
 use Rattle.spin_world_core.proofs.Stands.{stand_of, held_at, stand-mine}
 use Rattle.spin_world_core.proofs.Rows.{Known, Opened, OwesRight, Branch, goes, finds_open, loses, misses, Branched, need_of, Needs, needs-mine, goes_within, ends_within, any_map, moment_of, Row, IsSound, Expects, known-other}
-use Rattle.spin_world_core.proofs.Shapes.{AimsRow, SoonRow, Notes, OwesBy, is_answer, row_of, KnowsRow, Knows, AtPoint, InCall, FollowsRow, Follows, Owes, OwesRow, answers_by, BeginsRow, sure_by, aim_by, aimed, Aimed, Pays}
+use Rattle.spin_world_core.proofs.Shapes.{AimsRow, SoonRow, Notes, OwesBy, is_answer, row_of, KnowsRow, Knows, AtPoint, InCall, FollowsRow, Follows, Owes, OwesRow, answers_by, BeginsRow, sure_by, aim_by, aimed, Aimed}
 
 aims_try : {W L A : Type 0} (tries due : Option Ask) (act : Act W L A) (made : List Change) (ask : Ask) (p : ℕ) → tries ≡ Some ask → made ≡ [] → Aimed tries due act made p → aim_by (Some ask) act p ≡ aimed p (Some ask) (aim_by (Some ask) act p)
 aims_try tries due act made ask p is none aims = grind arith

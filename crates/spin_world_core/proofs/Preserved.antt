@@ -1,5 +1,5 @@
 -- One event keeps all that is promised, for any machine that plays a table (`Plays`).
-use Rattle.spin_world_core.proofs.Names.{true, and_parts, slice_get-map, OwnerSet, is_owners, yields_to_owner, let_go, seen_by_owner, owner_writes, IsOwners, seat_of, slice_get_within, ◌≡◌, ℕ, ◌≤◌, ◌==◌, Bool, false, Option, Some, None, List, [], ◌∷◌, suc, if◌then◌else◌, slice_get, slice_set, refl, ap, sym, ◌∙◌, subst, arith, ne_eqb, true≢false, Plain, Ask, Change, apply_some, IsOpenStep, Entries, entries, IsExclusive, entries-other, entries-own, Hold, Seat, Calling, Next, Continue, Answers, Move, Step, Weak, StepKind, is_weak, by_step, encoded, BelongsTo, Mark, Machine, seated, goes_on, placed, resting, may_write, Seen, Scene, scene_at, scene_of, mark_of, own, failures, changes, if_completed, entries_held, StandsFor, is_writer, Keeps, IsRight, IsInTime, UndisturbedTakes, AnsweredSoon, Gets, GetsWhenDue, TriesOn, tries_of, Table, HasPhase}
+use Rattle.spin_world_core.proofs.Names.{true, and_parts, slice_get-map, OwnerSet, is_owners, yields_to_owner, let_go, seen_by_owner, owner_writes, IsOwners, seat_of, slice_get_within, ◌≡◌, ℕ, ◌≤◌, ◌==◌, Bool, false, Option, Some, None, List, [], ◌∷◌, suc, if◌then◌else◌, slice_get, slice_set, refl, sym, ◌∙◌, subst, arith, ne_eqb, Plain, Ask, Change, apply_some, IsOpenStep, Entries, entries, IsExclusive, entries-other, entries-own, Hold, Seat, Calling, Next, Continue, Answers, Move, Step, Weak, StepKind, is_weak, by_step, encoded, BelongsTo, Mark, Machine, seated, goes_on, placed, resting, may_write, Seen, Scene, scene_at, scene_of, mark_of, own, failures, changes, if_completed, entries_held, StandsFor, is_writer, Keeps, IsRight, IsInTime, UndisturbedTakes, AnsweredSoon, Gets, GetsWhenDue, TriesOn, tries_of, Table, HasPhase}
 use Rattle.spin_world_core.specs.Runs.{held_at, InItsCall, InTime, IsCounted, IsWeakCall, OwnSteps, asked, entries_so_far}
 use Rattle.spin_step.proofs.Exclusive.{exclusive-kept}
 use Rattle.spin_model.specs.declared.schedule.Outcome.TheVariants as outcome
@@ -177,10 +177,12 @@ module _ {W V C L A B : Type 0} {t : Table W V C L A} {by : Machine W V C L B} {
       step_rules step r stored w v (Answers b rest) makes is counted due may = grind arith
 
       pub step_kept : Kept (scene_at m seen p Step (Some (Calling c l h)))
-      step_kept = let st = m.step seen.state.words seen.state.value c l h in
+      step_kept =
+          let st = m.step seen.state.words seen.state.value c l h in
+          let rules = step_rules _ _ st.placed st.words _ st.next is.steps.makes is.values.places
+          is.counted is.due is.tries_on in
           went_on Step (m.change p seen.state.words c l h) (by_step (m.step_kind c l h)) st.placed st.words (placed st.placed seen.state.value) st.next
-          (grind (arith, is.steps, is.values, good.written,
-          step_rules _ _ st.placed st.words _ st.next is.steps.makes is.values.places is.counted is.due is.tries_on))
+          (grind (arith, is.steps, is.values, good.written, rules))
 
       pub refusal_kept : (next : Next L B) → m.refuse c l h ≡ Some next
           → Kept (scene_of seen p Weak (Some (Calling c l h)) (goes_on seen.state p c h next) None step_kind.weak None)

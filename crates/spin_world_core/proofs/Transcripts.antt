@@ -2,7 +2,7 @@
 use Rattle.spin_world_core.proofs.Every.{left_after, state-seen_at}
 use Rattle.spin_world_core.specs.Users.{seen_at}
 use Rattle.spin_world_core.specs.Runs.{Schedule}
-use Rattle.spin_world_core.proofs.Names.{cases_eq, ⊎_elim, moves_at, seat_of, ne_eqb, ◌≡◌, ℕ, ◌<◌, ◌≤◌, ◌==◌, Option, Some, None, List, [], ◌∷◌, ◌++◌, length, slice_get, if◌then◌else◌, refl, ap, ◌∙◌, arith, option_map, length-replicate, slice_get-map, slice_get_within, slice_get_cases, Plain, Seat, Idle, Calling, Leaked, Gone, Move, Event, Mark, Machine, opening_plain, State, happens, seen_by_owner, events_of, with_begins, Seen, Scene, scene, Keeps, KeepsAll, StandsFor, opening, seen_after, scenes, EachTells, TellsAfterAnyPast}
+use Rattle.spin_world_core.proofs.Names.{cases_eq, moves_at, seat_of, ne_eqb, ◌≡◌, ℕ, ◌==◌, Option, Some, List, [], ◌∷◌, ◌++◌, length, slice_get, if◌then◌else◌, refl, ap, ◌∙◌, arith, option_map, length-replicate, slice_get-map, slice_get_within, slice_get_cases, Seat, Idle, Calling, Leaked, Gone, Move, Event, Machine, opening_plain, State, happens, seen_by_owner, events_of, with_begins, Seen, Scene, scene, Keeps, KeepsAll, StandsFor, opening, seen_after, scenes, EachTells, TellsAfterAnyPast}
 use Rattle.spin_model.specs.declared.place.Place.{Place}
 use Rattle.spin_model.specs.Schedules.{place_of}
 use Rattle.spin_world_core.specs.Transcripts.{has_leaked, PlaceSays, SaysAfterAnyPast, Stage, at_rest, in_call, is_gone, stage_after, stage_by_own, stage_by_owner}
@@ -55,9 +55,8 @@ module _ {W V C L A : Type 0} (m : Machine W V C L A) where
 
     brought : (move : Move C V) → Brings p (scene m seen q move)
     brought move =
-        ⊎_elim
-        (λ (same : q ≡ p). rw (same, eqb_self p) (brought_mine move (seat_of seen p) refl))
-        (λ (other : q ≡ p → ⊥). rw (ne_eqb q p other) (brought_other move (seat_of seen q) other)) (cases_eq q p)
+        let other = brought_other move (seat_of seen q) in
+        grind (arith, cases_eq q p, eqb_self p, ne_eqb q p, brought_mine move (seat_of seen p), other)
 
   stage-seen_after : (seen : Seen W V C L) (p : ℕ) (es : Schedule C V)
       → stage_of (seat_of (seen_after m seen es) p) ≡ stage_after p (stage_of (seat_of seen p)) (scenes m seen es)
