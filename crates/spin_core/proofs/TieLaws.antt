@@ -49,11 +49,8 @@ module _ (κ l : Lft) (within : κ ⊑ l) where
   abbrev alone : Lft
   alone = l ++ []
 
-  abbrev thrice : Lft
-  thrice = alone ++ (alone ++ (alone ++ []))
-
   abbrev entries : Lft
-  entries = (thrice ++ []) ++ (thrice ++ [])
+  entries = let thrice : Lft = alone ++ (alone ++ (alone ++ [])) in (thrice ++ []) ++ (thrice ++ [])
 
   pub entries_within : κ ⊑ entries
   entries_within = search (within, ⊑_meet, ⊑_static) depth 20

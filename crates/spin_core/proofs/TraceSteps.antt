@@ -2,6 +2,7 @@
 use Rattle.std.proofs.Common.{◌≡◌, ◌⊎◌, ℕ, List, [], ◌∷◌, ◌++◌, map, refl, sym, ◌∙◌}
 use mathlib.Core.Logic.{inl, inr}
 use mathlib.Core.List.{IsPrefix, append-nil}
+use Rattle.std.proofs.lemmas.List.{map-append}
 use seplogic.Ra.Ura.{Ura}
 use base.Fraction.{full_share}
 use base.Stored.{Coded, Gv}
@@ -19,14 +20,14 @@ use types.Tokens.{bor_fracture}
 use denote.Steps.{nothing}
 use denote.Opens.{Cuts-Halves}
 use denote.Struct.Lending.{Lends}
-use Rattle.spin_core.proofs.TracePrefixes.{one_in_other, prefix_coded, prefix_uncoded}
+use Rattle.spin_core.proofs.TracePrefixes.{one_in_other, prefix_uncoded}
 use Rattle.spin_core.specs.Logs.{logs, log_owns, log_part, log_shares, known_owns}
 use Rattle.spin_core.proofs.Signs.{signs}
 use Rattle.spin_core.proofs.Lemmas.{script, lemma, update, cite}
 
 module _ {T : Type 0} (c : T → Gv) where
   pub log_keyless : (γ : ℕ) (l : List T) → Keyless (log_owns c γ l)
-  unfolding log_owns latest
+  unfolding latest
   log_keyless γ l = tt
 
   pub part_keyless : (γ : ℕ) (l : List T) (q : Share) → Keyless (log_part c γ l q)
@@ -44,7 +45,6 @@ module _ {M : Type 1} {𝓤 : Ura M} (𝓛 : Logic 𝓤) where
 
   module _ {T : Type 0} (cv : Coded T) where
     pub begins : raw (emp 𝓤) ⊩ later (some (λ (γ : ℕ). ‵ (log_owns cv.code γ [])))
-    unfolding log_owns
     begins = lemma (via 𝓤 _ (latest_new logs 𝓛 []) (basic 𝓛 _))
 
   module _ {T : Type 0} (cv : Coded T) (γ : ℕ) where
@@ -59,18 +59,15 @@ module _ {M : Type 1} {𝓤 : Ura M} (𝓛 : Logic 𝓤) where
     Known = known_owns cv.code γ
 
     pub appends : (l es : List T) → ‵ (Log l) ⊫ ‵ (Log (l ++ es))
-    unfolding log_owns
-    appends l es = update (latest_grows logs 𝓛 γ (map cv.code l) (map cv.code (l ++ es)) (prefix_coded cv l es))
+    appends l es = let more : IsPrefix (map cv.code l) (map cv.code (l ++ es)) = (_, sym (map-append cv.code l es)) in
+        update (latest_grows logs 𝓛 γ (map cv.code l) (map cv.code (l ++ es)) more)
 
     -- a share of the right can be halved, so each `&` to the trace gets some share
     pub part_halves : (l : List T) → Halves 𝓤 H A (Right l)
-    part_halves l = Cuts-Halves 𝓛 (Right l) (record {
-      cut = λ q q₁ q₂ m. latest_cut logs 𝓛 q q₁ q₂ γ (map cv.code l) m;
-      join = λ q q₁ q₂ m. latest_glue logs 𝓛 q q₁ q₂ γ (map cv.code l) m;
-    })
+    part_halves l = let k = map cv.code l in let glue = λ (q r s : Share). latest_glue logs 𝓛 q r s γ k in
+        Cuts-Halves 𝓛 (Right l) (record { cut = λ q r s. latest_cut logs 𝓛 q r s γ k; join = glue })
 
     pub log_lends : (l : List T) (κ₀ : Lft) → Lends 𝓛 (Log l) (log_shares cv.code γ l) κ₀
-    unfolding log_owns
     log_lends l κ₀ κ ts inc sp = qed 𝓛 (‵ (fbor κ (Right l full_share)) ∷ raw (lfts 𝓛 ts) ∷ []) ∵ updating ! $ bor_fracture ! tt (Right l) full_share $
         now ! $ done !
 
@@ -89,11 +86,9 @@ module _ {M : Type 1} {𝓤 : Ura M} (𝓛 : Logic 𝓤) where
 
     -- the owner of the whole right learns that what a watch knows is a prefix of the log
     pub observes_whole : (l k : List T) → ‵ (Log l) ⊛ ‵ (Known k) ⊩ given (IsPrefix k l) (‵ (Log l) ⊛ ‵ (Known l))
-    unfolding log_owns
     observes_whole l k = observes full_share l k
 
     pub shows_whole : (l : List T) → ‵ (Log l) ⊩ ‵ (Log l) ⊛ ‵ (Known l)
-    unfolding log_owns
     shows_whole l = shows full_share l
 
     -- two owners of shares of one right agree on the log
@@ -107,14 +102,10 @@ module _ {M : Type 1} {𝓤 : Ura M} (𝓛 : Logic 𝓤) where
     known_twice [] = script ∵ nothing ! $ done !
     known_twice (x ∷ k) = lemma (at_least_dup logs 𝓛 γ (map cv.code (x ∷ k)))
 
-    uncode : (k l : List T) → IsPrefix (map cv.code k) (map cv.code l) ⊎ IsPrefix (map cv.code l) (map cv.code k) → IsPrefix k l ⊎ IsPrefix l k
-    uncode k l (inl p) = inl (prefix_uncoded cv k l p)
-    uncode k l (inr p) = inr (prefix_uncoded cv l k p)
-
     pub compares : (k l : List T) → ‵ (Known k) ⊛ ‵ (Known l) ⊩ given (IsPrefix k l ⊎ IsPrefix l k) (‵ ftrue)
     unfolding known_owns
     compares [] l = script ∵ drop ! $ drop ! $ by ! (fact_i 𝓤 _ (emp 𝓤) (inl (l, refl)))
     compares (x ∷ k) [] = script ∵ drop ! $ drop ! $ by ! (fact_i 𝓤 _ (emp 𝓤) (inr (x ∷ k, refl)))
     compares (x ∷ k') (y ∷ l') = let k : List T = x ∷ k' in let l : List T = y ∷ l' in let a = map cv.code k in let b = map cv.code l in
         script ∵ use2 𝓛 (some (λ (m : List Gv). given (Least logs.le a b m) (‵ (at_least logs γ m)))) (at_least_join logs 𝓛 γ a b) $
-        pick ! (λ m. learn ! (λ s. drop ! $ by ! (fact_i 𝓤 _ (emp 𝓤) (uncode k l (one_in_other a b m s.0 s.1)))))
+        pick ! (λ m. learn ! (λ s. drop ! $ by ! (fact_i 𝓤 _ (emp 𝓤) (one_in_other cv k l m s.0 s.1))))

@@ -40,9 +40,6 @@ module _ (X : RattleType) where
   abbrev pub fields_of : RattleType → Shape
   fields_of S = record { name = []; args = []; types = []; fields = S ∷ marker.the_row X ∷ [] }
 
-  abbrev pub Beside : RattleType → RattleType
-  Beside S = Struct (fields_of S)
-
   pub token_made : {M : Type 1} {𝓤 : Ura M} (𝓛 : Logic 𝓤) → ent 𝓤 (emp 𝓤) (sem 𝓛 (Token.own_val (record {}, tt) (token ∷ [])))
   token_made 𝓛 = makes_shadow 𝓛 (Token.own_val (record {}, tt) (token ∷ [])) (λ vss. (tt, ((λ uss. (tt, tt)), tt))) ((vstruct vnil ∷ [], tt), (refl, ((tt, (refl, tt)), tt)))
 

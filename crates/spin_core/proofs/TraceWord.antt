@@ -51,9 +51,6 @@ module _ {M : Type 1} {𝓤 : Ura M} (𝓛 : Logic 𝓤) (Er : RattleType) (b o 
   abbrev In : Trace Er.Denot ℕ → Fml
   In m = part_at S full_share m b o
 
-  abbrev Log : Trace Er.Denot ℕ → Fml
-  Log m = log_owns Er.coded.code m.name m.entries
-
   abbrev Word : ℕ → Fml
   Word w = part_at (row_of flag) full_share w b (o + 0)
 
@@ -69,7 +66,7 @@ module _ {M : Type 1} {𝓤 : Ura M} (𝓛 : Logic 𝓤) (Er : RattleType) (b o 
   abbrev pub Takes : Trace Er.Denot ℕ → SProp 𝓤
   Takes m = all 𝓤 (with m)
 
-  takes : (m : Trace Er.Denot ℕ) → ‵ Mark ⊛ raw Back ⊛ ‵ (Log m) ⊩ raw (Takes m)
+  takes : (m : Trace Er.Denot ℕ) → ‵ Mark ⊛ raw Back ⊛ ‵ (log_owns Er.coded.code m.name m.entries) ⊩ raw (Takes m)
   unfolding part_of
   takes m = script ∵ each ! (with m) (λ w. let a : Denots (rows_of ks) = data_of w in
       let m' : Trace Er.Denot ℕ = beside m w in assume {P = ⟦ In m' ⟧} ! (‵ (word b (o + 0) w)) $

@@ -1,8 +1,8 @@
 -- Rules for walks that the toolchain does not have: how to state a fact, why a pointer points into a block, how to find what the contract
 -- asks among the facts that a walk does not use, and how to read several locals. Assumes `Logic`.
-use Rattle.std.proofs.Common.{◌≡◌, ℕ, zero, suc, List, [], ◌∷◌, refl}
+use Rattle.std.proofs.Common.{◌≡◌, ℕ, zero, suc, List, [], ◌∷◌, refl, sym, subst}
 use seplogic.Ra.Ura.{Ura}
-use base.Logic.{SProp, ent, sep, emp, never_e, id⊢, via, fst∗, snd∗, emp∗}
+use base.Logic.{SProp, ent, sep, emp, never_e, id⊢, via, fst∗, snd∗}
 use base.Fml.{fex, Fml, Share, ffalse, ftrue, fsep, fat}
 use contract.Monad.{fact, fact_i, fact_use}
 use types.Logic.{Logic}
@@ -13,7 +13,7 @@ use mir.Val.{Val}
 use prog.Wp.{Env, spot_of}
 use types.Kit.{fpack, Goal, Seq, Step, Item, ‵, raw, given, ◌$◌, move, keep, fsplit, learn, rewrite, use0, use1}
 use denote.Steps.{nothing, heard}
-use denote.RawPtr.{Ptr, InBlock, block_ptr, null_ptr, block_of, count_of}
+use denote.RawPtr.{Ptr, InBlock, block_ptr, null_ptr, block_of, count_of, at_block}
 
 module _ {M : Type 1} {𝓤 : Ura M} {𝓛 : Logic 𝓤} {K : Type 0} {Γ : List (Item 𝓤)} {G : Goal 𝓤 𝓛.H} where
   pub says : K → (φ : Type 0) → φ → Step K 𝓛 (raw (fact 𝓤 φ) ∷ Γ) G Γ G
@@ -30,8 +30,7 @@ module _ {M : Type 1} {𝓤 : Ura M} {𝓛 : Logic 𝓤} {K : Type 0} {Γ : List
 
   pub lies_at : K → (F : Ptr → Fml) → F null_ptr ≡ ffalse → (p : Ptr) → (InBlock p → Seq K 𝓛 (‵ (F (block_ptr (block_of p) (count_of p))) ∷ Γ) G)
       → Seq K 𝓛 (‵ (F p) ∷ Γ) G
-  lies_at t F never (block_ptr b o) go = go tt
-  lies_at t F never null_ptr go = lies t F never null_ptr (λ no. absurd no)
+  lies_at t F never p go = lies t F never p (λ so. subst (λ z. Seq K 𝓛 (‵ (F z) ∷ Γ) G) (sym (at_block p so)) (go so))
 
 -- n facts that a walk does not use
 abbrev pub Facts : ℕ → Type 1
@@ -50,14 +49,14 @@ module _ {M : Type 1} (𝓤 : Ura M) (P : SProp 𝓤) where
 
   -- for a walk that uses nothing of the requirement P
   pub unasked : ent 𝓤 P (fact 𝓤 (Unit {0}))
-  unasked = via 𝓤 (sep 𝓤 (emp 𝓤) P) (emp∗ 𝓤 P) (via 𝓤 (emp 𝓤) (fst∗ 𝓤 (emp 𝓤) P) (fact_i 𝓤 (Unit {0}) (emp 𝓤) tt))
+  unasked = fact_i 𝓤 (Unit {0}) P tt
 
 -- the first fact and the last one
 pub first_and_last : {M : Type 1} (𝓤 : Ura M) (φ ψ : Type 0) (n : ℕ) (φs : Facts n)
     → ent 𝓤 (sep 𝓤 (fact 𝓤 φ) (after_facts 𝓤 (fact 𝓤 ψ) n φs)) (fact 𝓤 (φ × ψ))
-first_and_last 𝓤 φ ψ n φs = let First : SProp 𝓤 = fact 𝓤 φ in let Last : SProp 𝓤 = after_facts 𝓤 (fact 𝓤 ψ) n φs in let All : SProp 𝓤 = sep 𝓤 First Last in
-    fact_use 𝓤 φ (fst∗ 𝓤 First Last) (λ x. fact_use 𝓤 ψ (via 𝓤 Last (snd∗ 𝓤 First Last) (last_fact 𝓤 (fact 𝓤 ψ) n φs)) (λ y.
-    via 𝓤 (sep 𝓤 (emp 𝓤) All) (emp∗ 𝓤 All) (via 𝓤 (emp 𝓤) (fst∗ 𝓤 (emp 𝓤) All) (fact_i 𝓤 (φ × ψ) (emp 𝓤) (x, y)))))
+first_and_last 𝓤 φ ψ n φs = let First : SProp 𝓤 = fact 𝓤 φ in let Last : SProp 𝓤 = after_facts 𝓤 (fact 𝓤 ψ) n φs in
+    fact_use 𝓤 φ (fst∗ 𝓤 First Last) (λ x. fact_use 𝓤 ψ (via 𝓤 Last (snd∗ 𝓤 First Last) (last_fact 𝓤 (fact 𝓤 ψ) n φs))
+    (λ y. fact_i 𝓤 (φ × ψ) (sep 𝓤 First Last) (x, y)))
 
 -- the last two facts
 pub last_two : {M : Type 1} (𝓤 : Ura M) (φ ψ : Type 0) (n : ℕ) (φs : Facts n) → ent 𝓤 (after_facts 𝓤 (sep 𝓤 (fact 𝓤 φ) (fact 𝓤 ψ)) n φs) (fact 𝓤 (φ × ψ))

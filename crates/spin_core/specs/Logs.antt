@@ -2,13 +2,11 @@
 -- type parameter.
 use Rattle.std.specs.Prelude.{ℕ, List, [], ◌∷◌, map}
 use base.Fraction.{full_share}
-use base.Stored.{Gv, Coded}
+use base.Stored.{Gv}
 use base.Growing.{Order, prefixes, latest, at_least}
 use base.Fml.{Share, Lft, Fml, ftrue}
 use denote.Sharing.{one}
-
-abbrev pub itself : Coded Gv
-itself = record { code = λ g. g; inj = λ x y p. p }
+use Rattle.atomic_table.specs.Seated.{itself}
 
 abbrev pub logs : Order (List Gv)
 logs = prefixes itself
@@ -22,8 +20,8 @@ abbrev pub log_shares : {T : Type 0} → (T → Gv) → ℕ → List T → Lft �
 log_shares c γ l = one (log_part c γ l)
 
 -- the whole right to append
-unfoldable pub log_owns : {T : Type 0} → (T → Gv) → ℕ → List T → Fml
-log_owns c γ l = latest logs full_share γ (map c l)
+abbrev pub log_owns : {T : Type 0} → (T → Gv) → ℕ → List T → Fml
+log_owns c γ l = log_part c γ l full_share
 
 -- A lower bound: the log begins with these entries. The empty list is known of any log, under any name.
 unfoldable pub known_owns : {T : Type 0} → (T → Gv) → ℕ → List T → Fml

@@ -44,7 +44,7 @@ module _ {M : Type 1} {𝓤 : Ura M} (𝓛 : Logic 𝓤) where
     Known = known_owns cv.code γ
 
     pub opens_as : (δ : ℕ) → δ ≡ γ → ⟦ blank_owns δ ⟧ ⊢ ⟦ Log [] ⟧
-    unfolding blank_owns log_owns
+    unfolding blank_owns
     opens_as δ e = subst (λ (z : ℕ). ⟦ latest logs full_share δ [] ⟧ ⊢ ⟦ latest logs full_share z [] ⟧) e (id⊢ 𝓤 _)
 
     pub appends : (l : List T) (x : T) → ‵ (Log l) ⊩ later (‵ (Log (l ++ x ∷ [])))
@@ -64,7 +64,7 @@ module _ {M : Type 1} {𝓤 : Ura M} (𝓛 : Logic 𝓤) where
 
     -- to close a log, the right to append is shared for ever; so nobody has the whole right again
     pub closes_it : (l : List T) → ‵ (Log l) ⊩ later (‵ (closed_owns cv.code γ l))
-    unfolding log_owns closed_owns
+    unfolding closed_owns
     closes_it l = script ∵ updating ! $ bor_new ! tt [] $ bor_fracture ! tt (log_part cv.code γ l) full_share $ keep ! (0 ∷ []) $ now ! $ done !
 
     pub closed_twice : (l : List T) → ‵ (closed_owns cv.code γ l) ⊩ ‵ (closed_owns cv.code γ l) ⊛ ‵ (closed_owns cv.code γ l)

@@ -9,15 +9,12 @@ use Rattle.spin_core.proofs.Walking.{walks, as_shr}
 use Rattle.spin_core.proofs.Lemmas.{cite}
 
 pub watch_spec : {M : Type 1} → statement M
-watch_spec 𝓤 𝓛 𝓜 𝓡 wired T S L N =
-    let T' : RattleType = param 0 T in let S' : RattleType = param 1 S in
+watch_spec 𝓤 𝓛 𝓜 𝓡 wired T S L N = let T' : RattleType = param 0 T in let S' : RattleType = param 1 S in
     let cv = T'.coded in let Lr : RattleType = Trace.the_row T' S' in
     walks 𝓛 (ended T S) (clauses T S 𝓛 𝓜.mem 𝓡.returns) 𝓜 𝓡 (λ κs x f. refl, tt) _ _ (code.unfolded 𝓤 𝓛.H 𝓜 𝓡 wired (T, (S, tt)))
     (λ κs. (as_shr (named 0) κs.0 Lr, tt)) (λ κs qs bounds a gh are Post out.
-    let me = a.0.now in
-    fsplit ! $ move ! (2 ∷ []) $ fsplit ! $ fsplit ! $ keep ! (1 ∷ 3 ∷ 4 ∷ []) $
-    alloc_all ! (λ l. pass_all ! refl ((tt, tt), tt) $
-    unhide ! $ fsplit ! $ drop ! $
+    let me = a.0.now in fsplit ! $ move ! (2 ∷ []) $ fsplit ! $ fsplit ! $ keep ! (1 ∷ 3 ∷ 4 ∷ []) $
+    alloc_all ! (λ l. pass_all ! refl ((tt, tt), tt) $ unhide ! $ fsplit ! $ drop ! $
     shr_bor-open ! tt (steps.part_halves 𝓛 cv me.name me.entries) (λ q. move ! (1 ∷ []) $
     cite _ (steps.shows 𝓛 cv me.name q me.entries) $ move ! (2 ∷ 0 ∷ []) $ obor_close ! tt $ drop ! $ move ! (1 ∷ []) $
     use0 𝓛 (‵ ((Token T').own_val (record {}, tt) (token ∷ []))) (token_made T' 𝓛) $ fjoin ! $

@@ -15,8 +15,7 @@ use Rattle.spin_core.proofs.TraceSteps.{known_twice}
 use Rattle.spin_core.proofs.trace.Watch.TheLaw.Statement.{statement}
 
 pub shares : (T : RattleType) (W : Laws T) → statement T W
-shares T W =
-    of_Lends (C.struct T) (C.the_codes T.Denot T.coded (marker.the_row T).coded) (C.the_heap T) (C.the_lent T)
+shares T W = of_Lends (C.struct T) (C.the_codes T.Denot T.coded (marker.the_row T).coded) (C.the_heap T) (C.the_lent T)
     (λ d p. record {
       contraction = λ M 𝓤 𝓛 κ. (known_twice 𝓛 T.coded d.name d.entries).prf;
       mono = λ M 𝓤 𝓛 κ' κ. snd∗ 𝓤 (sem 𝓛 (before κ' κ)) (sem 𝓛 (known_owns T.coded.code d.name d.entries));

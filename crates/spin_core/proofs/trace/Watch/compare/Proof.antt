@@ -11,17 +11,14 @@ use Rattle.spin_core.proofs.Walking.{walks, as_shr}
 use Rattle.spin_core.proofs.Lemmas.{cite}
 
 pub compare_spec : {M : Type 1} → statement M
-compare_spec 𝓤 𝓛 𝓜 𝓡 wired T L =
-    let T' : RattleType = param 0 T in
+compare_spec 𝓤 𝓛 𝓜 𝓡 wired T L = let T' : RattleType = param 0 T in
     let cv = T'.coded in let Sr : RattleType = Watch.the_row T' in
     walks 𝓛 (ended T) (clauses T 𝓛 𝓜.mem 𝓡.returns) 𝓜 𝓡 (λ κs x f. refl, (λ κs x f. refl, tt)) _ _ (code.unfolded 𝓤 𝓛.H 𝓜 𝓡 wired (T, tt))
     (λ κs. (as_shr (named 0) κs.0 Sr, (as_shr (named 1) κs.1.0 Sr, tt))) (λ κs qs bounds a gh are Post out.
-    let r = a.0 in let s = a.1.0 in let me = r.now in let other = s.now in
-    let Alike : Type 0 = me.name ≡ other.name in
+    let me = a.0.now in let other = a.1.0.now in let Alike : Type 0 = me.name ≡ other.name in
     move ! (2 ∷ []) $ use1 𝓛 (raw (fact 𝓤 Alike)) (last_fact 𝓤 (fact 𝓤 Alike) 1 (_, tt)) $ heard ! Alike (λ asked. move ! (1 ∷ []) $
     fsplit ! $ fsplit ! $ move ! (2 ∷ []) $ fsplit ! $ fsplit ! $ keep ! (1 ∷ 4 ∷ 5 ∷ []) $
-    alloc_all ! (λ l. pass_all ! refl ((tt, tt), ((tt, tt), tt)) $
-    unhide ! $ fsplit ! $ drop ! $
+    alloc_all ! (λ l. pass_all ! refl ((tt, tt), ((tt, tt), tt)) $ unhide ! $ fsplit ! $ drop ! $
     rewrite ! 0 (λ (z : ℕ). ‵ (known_owns cv.code z other.entries)) (sym asked) refl $ move ! (1 ∷ []) $
     unhide ! $ fsplit ! $ drop ! $
     cite _ (steps.compares 𝓛 cv me.name me.entries other.entries) $ learn ! (λ so. drop ! $

@@ -7,15 +7,11 @@ use Rattle.spin_core.proofs.WalkSteps.{says}
 use Rattle.spin_core.proofs.Walking.{walks, as_shr}
 
 pub copy_spec : {M : Type 1} → statement M
-copy_spec 𝓤 𝓛 𝓜 𝓡 wired T L =
-    let T' : RattleType = param 0 T in
-    let Sr : RattleType = Watch.the_row T' in
+copy_spec 𝓤 𝓛 𝓜 𝓡 wired T L = let T' : RattleType = param 0 T in let Sr : RattleType = Watch.the_row T' in
     walks 𝓛 (ended T) (clauses T 𝓛 𝓜.mem 𝓡.returns) 𝓜 𝓡 (λ κs x f. refl, tt) _ _ (code.unfolded 𝓤 𝓛.H 𝓜 𝓡 wired (T, tt))
     (λ κs. (as_shr (named 0) κs.0 Sr, tt)) (λ κs qs bounds a gh are Post out.
-    let me = a.0.now in
-    move ! (1 ∷ []) $ fsplit ! $ fsplit ! $ keep ! (1 ∷ 3 ∷ []) $
-    alloc_all ! (λ l. pass_all ! refl ((tt, tt), tt) $
-    unhide ! $ fsplit ! $ drop ! $
+    let me = a.0.now in move ! (1 ∷ []) $ fsplit ! $ fsplit ! $ keep ! (1 ∷ 3 ∷ []) $
+    alloc_all ! (λ l. pass_all ! refl ((tt, tt), tt) $ unhide ! $ fsplit ! $ drop ! $
     use0 𝓛 (‵ ((Token T').own_val (record {}, tt) (token ∷ []))) (token_made T' 𝓛) $ fjoin ! $
     sets ! (agg ! (no_more !)) refl (tt, tt) $ sets ! (agg ! (and_then ! (get ! refl) (no_more !))) refl (tt, (tt, tt)) $
     says ! ((me.name ≡ me.name) × (me.entries ≡ me.entries)) (refl, refl) $

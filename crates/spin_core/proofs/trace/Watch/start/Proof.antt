@@ -8,8 +8,7 @@ use Rattle.spin_core.proofs.trace.Watch.start.Code as code
 
 pub start_spec : {M : Type 1} → statement M
 unfolding known_owns
-start_spec 𝓤 𝓛 𝓜 𝓡 wired T L =
-    let H = 𝓛.H in let 𝓣 = tables 𝓤 H 𝓜 𝓡 𝓡.env in let T' : RattleType = param 0 T in
+start_spec 𝓤 𝓛 𝓜 𝓡 wired T L = let H = 𝓛.H in let 𝓣 = tables 𝓤 H 𝓜 𝓡 𝓡.env in let T' : RattleType = param 0 T in
     let fn = inst_fn (layouts (a_type ∷ []) (T, tt)) code.function in
     walks 𝓛 (ended T) (clauses T 𝓛 𝓜.mem 𝓡.returns) 𝓜 𝓡 tt _ fn (code.unfolded 𝓤 H 𝓜 𝓡 wired (T, tt))
     (λ κs. tt) (λ κs qs bounds a gh are Post out.
