@@ -1,12 +1,12 @@
 -- The parties own at most what the plain lock has. So it is known how many of them may use the value together.
-use Rattle.std.proofs.Common.{◌≡◌, ℕ, suc, ◌+◌, ◌≤◌, ◌==◌, true, cond, List, [], ◌∷◌, length, filter, refl, sym, ap, ◌∙◌, arith, zero-add, nat_lt}
+use Rattle.std.proofs.Common.{◌≡◌, ℕ, suc, ◌+◌, ◌≤◌, ◌==◌, true, cond, List, [], ◌∷◌, length, filter, refl, sym, ap, ◌∙◌, arith, zero-add, eq-eqb, nat_lt}
 use Rattle.std.specs.Prelude.{sum_by}
 use Rattle.std.proofs.lemmas.List.Sums.{sum_by-cons, count_by-le-length}
 use Rattle.spin_step.specs.Plain.{Plain, writing as writer, Holder, Ticket, same_kind, count_kind}
 use Rattle.spin_step.specs.Parties.{none_entered, first_alone_entered, IsExclusive, OneHolds}
 use Rattle.spin_step.specs.Steps.{bit}
 use Rattle.spin_core.specs.Cell.{Way, alone, lends, most_readers, reading, writing, Limits, readers_of, writers_of}
-use Rattle.spin_core.specs.Views.{Part, entries_of, used_by, part_at, IsLockOf}
+use Rattle.spin_core.specs.Views.{Part, idle, entries_of, used_by, part_at, IsLockOf}
 use Rattle.spin_step.specs.Orders.{IsInOrder}
 use Rattle.spin_core.proofs.CellCounts.{none}
 use Rattle.spin_core.proofs.Views.{part-beyond}
@@ -31,14 +31,11 @@ module _ {X : Type 0} (owner : X → ℕ) (weight : X → ℕ) where
   above-all [] = refl
   above-all (x ∷ xs) = grind (arith, above-all xs, sum_by-cons weight x xs)
 
-  only_rest : (p : ℕ) (x : X) (xs : List X) → filter (λ x. owner x == p) (x ∷ xs) ≡ [] → filter (λ x. owner x == p) xs ≡ []
-  only_rest p x xs none = grind arith
-
-  above-none : (k : ℕ) (xs : List X) → ((p : ℕ) → k ≤ p → filter (λ x. owner x == p) xs ≡ []) → above k xs ≡ 0
-  above-none k [] nobody = refl
-  above-none k (x ∷ xs) nobody =
-      let rest = above-none k xs (λ p far. only_rest p x xs (nobody p far)) in
-      let here : k ≤ owner x → ⊥ = λ far. let none = nobody (owner x) far in grind arith in grind (arith, here)
+  above-none : (k : ℕ) (xs : List X) → ((p : ℕ) → k ≤ p → own p xs ≡ 0) → above k xs ≡ 0
+  above-none k [] none = refl
+  above-none k (x ∷ xs) none =
+      let rest = above-none k xs (λ p far. omega (arith, own-cons p x xs, none p far)) in
+      grind (arith, rest, own-cons (owner x) x xs, none (owner x), eq-eqb (owner x) (owner x) refl)
 
   module _ {V : Type 0} (part : V → Part) (has : V → ℕ) (gives : ℕ → Part → ℕ) (same : (p : ℕ) (v : V) → has v ≡ gives p (part v)) where
     counted : (k : ℕ) (vs : List V) (xs : List X) → ((p i : ℕ) → p ≡ k + i → own p xs ≡ gives p (part_at part vs i))
@@ -50,16 +47,18 @@ module _ {X : Type 0} (owner : X → ℕ) (weight : X → ℕ) where
 
     all : (vs : List V) (xs : List X) → ((p : ℕ) → own p xs ≡ gives p (part_at part vs p)) → sum_by has vs + above (length vs) xs ≡ sum_by weight xs
     all vs xs owns =
-        let at : (p i : ℕ) → p ≡ 0 + i → own p xs ≡ gives p (part_at part vs i) = λ p i e. owns p ∙ ap (λ j. gives p (part_at part vs j)) (e ∙ zero-add i) in
-        counted 0 vs xs at (length vs) (omega arith) ∙ above-all xs
+        counted 0 vs xs (λ p i e. rw (← zero-add i, ← e) (owns p)) (length vs) (omega arith) ∙ above-all xs
 
     -- the parties in the list own at most the total weight
     pub within : (vs : List V) (xs : List X) → ((p : ℕ) → own p xs ≡ gives p (part_at part vs p)) → sum_by has vs ≤ sum_by weight xs
     within vs xs owns = omega (arith, all vs xs owns)
 
-    -- if nobody else owns anything, the parties in the list own the total weight
-    pub exactly : (vs : List V) (xs : List X) → ((p : ℕ) → own p xs ≡ gives p (part_at part vs p)) → ((p : ℕ) → length vs ≤ p → filter (λ x. owner x == p) xs ≡ []) → sum_by has vs ≡ sum_by weight xs
-    exactly vs xs owns nobody = omega (arith, all vs xs owns, above-none (length vs) xs nobody)
+    -- if a party with nothing gives nothing, the parties in the list own the total weight
+    pub exactly : (vs : List V) (xs : List X) → ((p : ℕ) → own p xs ≡ gives p (part_at part vs p))
+        → ((p : ℕ) → gives p idle ≡ 0) → sum_by has vs ≡ sum_by weight xs
+    exactly vs xs owns none =
+        let nobody = λ (p : ℕ) (far : length vs ≤ p). owns p ∙ ap (gives p) (part-beyond part p vs far) ∙ none p in
+        omega (arith, all vs xs owns, above-none (length vs) xs nobody)
 
 -- Which parties may use the value together.
 
@@ -71,8 +70,7 @@ none_entered-sum [] e = refl
 none_entered-sum (t ∷ ts) e = grind (arith, sum_by-cons is_entered t ts, none_entered-sum ts)
 
 one_entered : (ts : List Ticket) → first_alone_entered ts ≡ true → sum_by is_entered ts ≤ 1
-one_entered [] e = omega arith
-one_entered (t ∷ ts) e = grind (arith, sum_by-cons is_entered t ts, none_entered-sum ts)
+one_entered ts e = grind (arith, sum_by-cons is_entered, none_entered-sum)
 
 one_writer : (s : Plain) → IsExclusive s → count_kind writer s.holders ≤ 1
 one_writer s x = grind (arith, x.writer, count_by-le-length (λ (h : Holder). same_kind writer h.kind) s.holders)
@@ -81,7 +79,7 @@ one_writer s x = grind (arith, x.writer, count_by-le-length (λ (h : Holder). sa
 abbrev one_writes : Holder → ℕ
 one_writes h = cond (same_kind writer h.kind) 1 0
 
-ones : {X : Type 0} (xs : List X) → sum_by (λ x. 1) xs ≡ length xs
+pub ones : {X : Type 0} (xs : List X) → sum_by (λ x. 1) xs ≡ length xs
 ones [] = refl
 ones (x ∷ xs) = omega (arith, sum_by-cons (λ x. 1) x xs, ones xs)
 
@@ -148,13 +146,10 @@ module _ {V : Type 0} (part : V → Part) where
 
   -- if parties hold the lock only to write, and the lock is in order (`IsInOrder`), it has at most one holder
   pub one_holds : ((v : V) → Writes (part v)) → (vs : List V) (s : Plain) → IsInOrder s → IsLockOf part vs s → OneHolds s
-  one_holds each vs s order is =
-      let has : V → ℕ = λ v. length (entries_of 0 (part v)).holders in
-      let nobody : (p : ℕ) → length vs ≤ p → filter (λ h. h.party == p) s.holders ≡ [] = λ p far.
-      ap (λ e. e.holders) ((is p).0 ∙ ap (entries_of p) (part-beyond part p vs far)) in
+  one_holds each vs s order is = let has : V → ℕ = λ v. length (entries_of 0 (part v)).holders in
       let hold = exactly (λ h. h.party) (λ h. 1) part has (λ p x. length (entries_of p x).holders) (λ p v. as_many p (part v)) vs s.holders
-      (λ p. ones (filter (λ h. h.party == p) s.holders) ∙ ap (λ e. length e.holders) (is p).0) nobody in
+      (λ p. ones (filter (λ h. h.party == p) s.holders) ∙ ap (λ e. length e.holders) (is p).0) (λ p. refl) in
       let write = exactly (λ h. h.party) one_writes part has (λ p x. count_kind writer (entries_of p x).holders)
       (λ p v. as_many p (part v) ∙ sym (each v p)) vs s.holders
-      (λ p. ap (λ e. count_kind writer e.holders) (is p).0) nobody in
+      (λ p. ap (λ e. count_kind writer e.holders) (is p).0) (λ p. refl) in
       omega (arith, hold, write, ones s.holders, one_writer s order.exclusive)

@@ -8,7 +8,6 @@ use Rattle.spin_step_more.proofs.Readers.{tells-holder}
 use Rattle.spin_step.proofs.Sums.{upgrader, one_of, by_kinds, all_kinds, sum-less, sum-turned, length-with_kind}
 use Rattle.spin_core.specs.Views.{Part, holds, holds_starving, entries_of}
 use Rattle.spin_core.proofs.Owners.{exactly}
-use Rattle.spin_core.proofs.Views.{part-beyond}
 use Rattle.spin_rwlock.specs.declared.rwlock.rule.View.{View}
 use Rattle.spin_rwlock.specs.Rw.{part, Word}
 use Rattle.spin_rwlock.specs.Standing.{is_of_kind, has_kind, held, readers, upgradables, askers, writers, holders, ReadersOrWriter, HoldsAt}
@@ -27,7 +26,7 @@ one_holder k p _ = refl
 as_many : (k : Kind) (word : ℕ) (vs : List View) (rule : Word word tt vs) → held k vs ≡ count_kind k rule.0.holders
 as_many k word vs rule =
     exactly (λ h. h.party) (λ h. one_if (same_kind k h.kind)) part (λ v. one_if (has_kind k v)) (λ p x. count_kind k (entries_of p x).holders) (λ p v. one_holder k p (part v)) vs rule.0.holders
-    (λ p. ap (λ e. count_kind k e.holders) (rule.3 p).0) (λ p far. ap (λ e. e.holders) (rule.3 p).0 ∙ ap (λ x. (entries_of p x).holders) (part-beyond part p vs far))
+    (λ p. ap (λ e. count_kind k e.holders) (rule.3 p).0) (λ p. refl)
 
 pub counts_parties : (word : ℕ) (vs : List View) → Word word tt vs → word ≡ ((weight reading * readers vs + weight upgradable * upgradables vs) + weight asking * askers vs) + weight writing * writers vs
 counts_parties word vs rule = omega (arith, rule.4, by_kinds weight rule.0.holders, as_many reading word vs rule, as_many upgradable word vs rule, as_many asking word vs rule, as_many writing word vs rule)

@@ -1,7 +1,7 @@
 -- The steps of a lock of seats keep its rule. A step that takes or frees a seat makes the plain step of its step
 -- function. Each step is the moves that its party makes in the lock's model.
 use Rattle.std.proofs.Common.{◌≡◌, ℕ, ◌+◌, ◌-◌, ◌≤◌, ◌%◌, ◌^◌, ◌==◌, Bool, true, false, if◌then◌else◌, cond, List, [], ◌∷◌, length, filter, Option, Some, None, refl, sym, ap, ◌∙◌, subst, arith}
-use Rattle.std.specs.Prelude.{max, sum_by}
+use Rattle.std.specs.Prelude.{max}
 use Rattle.std.proofs.lemmas.List.Sums.{sum_by-cons}
 use prog.Atomic.{either}
 use Rattle.spin_step.specs.Plain.{Plain, reading, count_kind, same_kind, gets, releases, to_read}
@@ -16,11 +16,11 @@ use Rattle.spin_core.specs.Views.{IsLockOf, idle, holds, entries_of, part_at, no
 use Rattle.spin_core.specs.declared.trace.Trace.{Trace}
 use Rattle.spin_core.proofs.CellCounts.{none}
 use Rattle.spin_core.proofs.Leaving.{flag_word-up, no_word-up}
-use Rattle.spin_core.proofs.Owners.{exactly}
+use Rattle.spin_core.proofs.Owners.{ones, exactly}
 use Rattle.spin_core.proofs.Plays.{Lock, Holds, allows, by_step, gets_at, begins}
 use Rattle.spin_core.proofs.Plays as plays
 use Rattle.spin_core.proofs.Ties as tie
-use Rattle.spin_core.proofs.Views.{part-beyond, release-own, part_before}
+use Rattle.spin_core.proofs.Views.{release-own, part_before}
 use Rattle.spin_model.specs.declared.answer.Answer.TheVariants.{Granted, Done, Count}
 use Rattle.spin_model.specs.declared.schedule.Move.TheVariants.{Begin, Step}
 use Rattle.spin_model.specs.declared.schedule.Outcome.TheVariants.{Begun, Answered, GoingOn}
@@ -36,10 +36,6 @@ abbrev ways : Ways (Unit {0}) View (Unit {0})
 ways = (lends, use_of_view, no_fact)
 
 -- The holders are the parties that sit, and they read.
-
-ones : {X : Type 0} (xs : List X) → sum_by (λ x. 1) xs ≡ length xs
-ones [] = refl
-ones (x ∷ xs) = omega (arith, ones xs, sum_by-cons (λ y. 1) x xs)
 
 one_seat : (p : ℕ) (v : View) → reads_of (use_of_view v) ≡ length (entries_of p (part v)).holders
 one_seat p Seated = refl
@@ -62,13 +58,13 @@ nobody_writes Waiting = refl
 as_many_hold : (vs : List View) (s : Plain) → IsLockOf part vs s → readers_of use_of_view vs ≡ length s.holders
 as_many_hold vs s is =
     exactly (λ h. h.party) (λ h. 1) part (λ v. reads_of (use_of_view v)) (λ p x. length (entries_of p x).holders) one_seat vs s.holders
-    (λ p. ones (filter (λ h. h.party == p) s.holders) ∙ ap (λ e. length e.holders) (is p).0) (λ p far. ap (λ e. e.holders) ((is p).0 ∙ ap (entries_of p) (part-beyond part p vs far)))
+    (λ p. ones (filter (λ h. h.party == p) s.holders) ∙ ap (λ e. length e.holders) (is p).0) (λ p. refl)
     ∙ ones s.holders
 
 all_read : (vs : List View) (s : Plain) → IsLockOf part vs s → AllRead s
 all_read vs s is =
     sym (exactly (λ h. h.party) (λ h. cond (same_kind reading h.kind) 1 0) part (λ v. reads_of (use_of_view v)) (λ p x. count_kind reading (entries_of p x).holders) one_reads vs s.holders
-    (λ p. ap (λ e. count_kind reading e.holders) (is p).0) (λ p far. ap (λ e. e.holders) ((is p).0 ∙ ap (entries_of p) (part-beyond part p vs far))))
+    (λ p. ap (λ e. count_kind reading e.holders) (is p).0) (λ p. refl))
     ∙ as_many_hold vs s is
 
 fits : (n : ℕ) (vs : List View) (s : Plain) → s.cap ≡ seats n → IsInOrder s → IsLockOf part vs s → Limits {X = Unit {0}} lends (readers_of use_of_view vs) (writers_of use_of_view vs)

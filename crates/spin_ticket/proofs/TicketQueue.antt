@@ -36,7 +36,7 @@ in_turn next serving vs is = let s = is.0 in let order = is.2 in
     let plain = plain_queue next serving vs is in
     let count : (t : ℕ) → count_by (stands_with t) vs ≡ sum_by (has_number t) s.tickets = λ t.
     exactly (λ u. u.party) (has_number t) part (λ v. one_if (stands_with t v)) (λ p x. sum_by (has_number t) (entries_of p x).tickets) (λ p v. stands t p v) vs s.tickets
-    (λ p. ap (λ e. sum_by (has_number t) e.tickets) (is.3 p).0) plain.nobody_else in
+    (λ p. ap (λ e. sum_by (has_number t) e.tickets) (is.3 p).0) (λ p. refl) in
     record {
       in_order = omega (arith, is.4, is.5, order.numbered.0);
       within_limit = omega (arith, is.4, order.within_limit);
