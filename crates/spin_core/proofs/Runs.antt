@@ -78,32 +78,21 @@ module _ {W V C L A : Type 0} (m : Machine W V C L A) where
   moved_alike w value (Calling c l h) Weak is = refused_alike (w, value, Calling c l h) c h (m.refuse c l h)
   moved_alike w value (Holding h) (Write v) is = written_alike (w, value, Holding h) v (may_write h)
   moved_alike w value (Leaked h) (Write v) is = written_alike (w, value, Leaked h) v (may_write h)
-  moved_alike w value seat (Write v) is = skips (w, value, seat)
-  moved_alike w value seat (Begin c) is = skips (w, value, seat)
-  moved_alike w value seat Step is = skips (w, value, seat)
   moved_alike w value seat Weak is = skips (w, value, seat)
-  moved_alike w value seat _ is = absurd cc
+  moved_alike w value seat move is = first_of (search (skips (w, value, seat)), cc)
 
-  -- the same for all moves of a step
-  abbrev GoAlike : Alone → List (Move C V) → List (Outcome A V) → Alone → Type 0
-  GoAlike z own outs z' =
-      (xs ys : Seats) → (after m (among z xs ys) (by_party (length xs) own) ≡ among z' xs ys) × (outcomes m (among z xs ys) (by_party (length xs) own) ≡ outs)
-
-  go_alike : (z : Alone) (own : List (Move C V)) → list_all is_of_call own ≡ true → (outs : List (Outcome A V)) × (z' : Alone) × GoAlike z own outs z'
-  go_alike z [] all = ([], z, λ xs ys. (refl, refl))
-  go_alike z (move ∷ own) all =
-      let each = and_parts (is_of_call move) (list_all is_of_call own) all in let (o, z', is) = moved_alike z.0 z.1 z.2 move each.0 in
-      let (outs, end, are) = go_alike z' own each.1 in
-      let now : (xs ys : Seats) → happens m (among z xs ys) (length xs) move ≡ record { outcome = o; next = among z' xs ys } =
-      λ xs ys. rw (get_seam xs z.2 ys) (is xs ys) in
-      (o ∷ outs, end, λ xs ys. (rw (now xs ys, after) (are xs ys).0, rw (now xs ys) (ap (λ l. o ∷ l) (are xs ys).1)))
-
-  -- so the moves do among others what they do in a world of the party's own
+  -- so the moves of a step do among others what they do in a world of the party's own
   go_among : (z z' : Alone) (own : List (Move C V)) (outs : List (Outcome A V)) → list_all is_of_call own ≡ true
-      → after m (among z [] []) (by_party 0 own) ≡ among z' [] [] → outcomes m (among z [] []) (by_party 0 own) ≡ outs → GoAlike z own outs z'
-  go_among z z' own outs all is are xs ys =
-      let (outs', end, alike) = go_alike z own all in let alone = alike [] [] in
-      ((alike xs ys).0 ∙ ap (λ s. world s.words s.value (xs ++ (s.seats ++ ys))) (sym alone.0 ∙ is), (alike xs ys).1 ∙ (sym alone.1 ∙ are))
+      → after m (among z [] []) (by_party 0 own) ≡ among z' [] [] → outcomes m (among z [] []) (by_party 0 own) ≡ outs
+      → (xs ys : Seats) → let es = by_party (length xs) own in
+      (after m (among z xs ys) es ≡ among z' xs ys) × (outcomes m (among z xs ys) es ≡ outs)
+  go_among z z' [] outs all is are xs ys = (ap (λ s. world s.words s.value (xs ++ (s.seats ++ ys))) is, are)
+  go_among z z' (move ∷ own) outs all is are xs ys =
+      let each = and_parts _ _ all in let (o, to, alike) = moved_alike z.0 z.1 z.2 move each.0 in
+      let now : (xs ys : Seats) → happens m (among z xs ys) (length xs) move
+      ≡ record { outcome = o; next = among to xs ys } = λ xs ys. rw (get_seam xs z.2 ys) (alike xs ys) in
+      let rest = go_among to z' own _ each.1 (rw (now [] [], after) at is) refl xs ys in
+      (rw (now xs ys, after) rest.0, rw (now xs ys) (ap (λ l. o ∷ l) rest.1 ∙ (rw (now [] []) at are)))
 
   outcomes-append : (s : State W V C L) (xs ys : Schedule) → outcomes m s (xs ++ ys) ≡ outcomes m s xs ++ outcomes m (after m s xs) ys
   outcomes-append s [] ys = refl
