@@ -1,6 +1,8 @@
 -- Steps keep what is known of the value. Moves that write nothing keep it. A holder that releases writes the value that it leaves.
-use Rattle.std.proofs.Common.{arith, ◌≡◌, ℕ, Bool, true, false, Option, Some, None, List, [], ◌∷◌, ◌++◌, refl, sym, ap, ◌∙◌}
+use Rattle.std.proofs.Common.{arith, ◌≡◌, ℕ, Bool, true, Option, Some, List, [], ◌++◌, sym, ap, ◌∙◌}
 use Rattle.std.specs.Option.{IfSome}
+use Rattle.std.proofs.lemmas.List.Sums.{fold-append}
+use Rattle.std.proofs.lemmas.List.Folds.{fold-map}
 use Rattle.spin_model.specs.declared.schedule.Move.{Move}
 use Rattle.spin_model.specs.declared.schedule.Outcome.{Outcome}
 use Rattle.spin_model.specs.Schedules.{Entry}
@@ -12,30 +14,14 @@ use Rattle.spin_core.specs.Values.{written, left, latest, IsLast, last, Leaves}
 use Rattle.spin_core.specs.declared.tie.Opening.{Opening}
 use Rattle.spin_core.specs.declared.trace.Trace.{Trace}
 
--- A party that is shown a value after a step learns ψ of it, unless it writes on. This includes a party that stopped writing to read.
-tells : {V : Type 0} (ψ : V → Type 0) (u u' : Use) (before after : Option V) → (u ≡ writes → u' ≡ reads) → Shows u' before after → Learns ψ u u' before after → IfSome after ψ
-tells ψ u u' before after so shows learns = grind arith
-
--- a party that stops reading learns ψ of the value that it read
-leaves_told : {V : Type 0} (ψ : V → Type 0) (before after : Option V) → Learns ψ reads off before after → IfSome before ψ
-leaves_told ψ before after learns = grind arith
-
 module _ {C V : Type 0} where
-  latest-append : (v : V) (xs ys : List (Entry C V)) → latest v (xs ++ ys) ≡ latest (latest v xs) ys
-  latest-append v [] ys = refl
-  latest-append v (x ∷ xs) ys = latest-append (written x.1 v) xs ys
-
-  latest-own : (v : V) (p : ℕ) (own : List (Move C V)) → latest v (by_party p own) ≡ left own v
-  latest-own v p [] = refl
-  latest-own v p (move ∷ own) = latest-own (written move v) p own
-
   pub latest_left : (v : V) (log : List (Entry C V)) (p : ℕ) (own : List (Move C V)) → latest v (log ++ by_party p own) ≡ left own (latest v log)
-  latest_left v log p own = latest-append v log (by_party p own) ∙ latest-own (latest v log) p own
+  latest_left v log p own = let by : V → Entry C V → V = λ v e. written e.1 v in
+      fold-append by v log (by_party p own) ∙ fold-map by (λ move. (p, move)) (latest v log) own
 
   -- a step of a call writes nothing; after a write the moves leave the written value
   pub step_leaves : {A : Type 0} (goes_on : Bool) (c : C) (end : Outcome A V) (own : List (Move C V)) (outs : List (Outcome A V)) → IsStep goes_on c end own outs → (v : V) → left own v ≡ v
-  step_leaves true c end own outs is v = ap (λ o. left o v) is.0
-  step_leaves false c end own outs is v = ap (λ o. left o v) is.0
+  step_leaves goes_on c end own outs is v = grind arith
 
   pub write_leaves : {A : Type 0} (x : V) (goes_on : Bool) (c : C) (end : Outcome A V) (own : List (Move C V)) (outs : List (Outcome A V)) → Writes x (IsStep goes_on c end) own outs → (v : V) → left own v ≡ x
   write_leaves x goes_on c end own outs (rest, comes, is, came, step) v = rw is (step_leaves goes_on c end rest comes step x)
@@ -46,15 +32,9 @@ module _ {C V : Type 0} where
 
   module _ (opening : Opening V) where
     module _ {S : Type 0} (own : List (Move C V)) (t : Trace (Entry C V) S) (word : S) (p : ℕ) where
-      now : latest opening.value (t.entries ++ by_party p own) ≡ left own (latest opening.value t.entries)
-      now = latest_left opening.value t.entries p own
-
       -- what moves must show, if they write as `Leaves` says
       pub owed : (u u' : Use) (shown : Option V) → Leaves u u' shown own → Owed (last opening) t (grown_at t word (by_party p own)) u u' shown
-      owed writes writes shown l = tt
-      owed writes _ None l = tt
-      owed writes _ (Some x) l = λ told. now ∙ l (latest opening.value t.entries)
-      owed _ u' shown l = λ x is told. now ∙ l (latest opening.value t.entries) ∙ is told
+      owed u u' shown l = grind (arith, latest_left opening.value t.entries p own)
 
     -- a lock opens with the value that is in it
     pub opens_last : (es : List (Entry C V)) (x : V) → es ≡ [] → opening.value ≡ x → IsLast opening es x
@@ -73,11 +53,11 @@ module _ {C V : Type 0} where
 
       -- a party that begins to use the value, or reads on, is shown the value written last
       pub shows_last : {S : Type 0} → Tells S → (u ≡ writes → u' ≡ reads) → Shows u' before after → IfSome after Last
-      shows_last learnt so shows = tells Last u u' before after so shows (learns learnt)
+      shows_last learnt so shows = grind (arith, learns learnt)
 
       -- a party that stops reading has read the value written last
       pub read_last : {S : Type 0} → Tells S → u ≡ reads → u' ≡ off → IfSome before Last
-      read_last learnt is is' = leaves_told Last before after (rw (is, is') at (learns learnt))
+      read_last learnt is is' = rw (is, is') at (learns learnt)
 
       -- A party that begins to use the value finds the value written last. When a party stops writing, the value that
       -- it leaves is the value written last.
@@ -96,4 +76,4 @@ module _ {C V : Type 0} where
     -- Let x be the last value of a history, and y that of a longer one. Then y is the last value that the new moves
     -- write, or x if they write nothing.
     pub read_on : (old new more : List (Entry C V)) (x y : V) → opening.told ≡ true → new ≡ old ++ more → IsLast opening old x → IsLast opening new y → latest x more ≡ y
-    read_on old new more x y told grew is is' = cc (is told, is' told, latest-append opening.value old more)
+    read_on old new more x y told grew is is' = rw (← is told, ← fold-append, ← grew) (is' told)

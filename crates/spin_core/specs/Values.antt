@@ -1,6 +1,7 @@
 -- The values in a trace that is a schedule of a model: which was written last, and when this is the cell's value.
-use Rattle.std.specs.Prelude.{◌≡◌, true, false, Option, List, [], ◌∷◌}
+use Rattle.std.specs.Prelude.{◌≡◌, true, false, Option, List}
 use Rattle.std.specs.Option.{IfSome}
+use Rattle.std.specs.List.{fold}
 use Rattle.spin_model.specs.declared.schedule.Move.{Move}
 use Rattle.spin_model.specs.declared.schedule.Move.TheVariants.{Write}
 use Rattle.spin_model.specs.Schedules.{Entry}
@@ -11,18 +12,15 @@ use Rattle.spin_core.specs.declared.trace.Trace.{Trace}
 module _ {C V : Type 0} where
   -- the value after a move, if it was v before
   abbrev pub written : Move C V → V → V
-  written (Write x) v = x
-  written _ v = v
+  written move v = elim move [ Write x ↦ x | _ ↦ v ]
 
   -- the value after these moves of one party, if it was v before
   abbrev pub left : List (Move C V) → V → V
-  left [] v = v
-  left (move ∷ own) v = left own (written move v)
+  left own v = fold (λ v move. written move v) v own
 
   -- the value that these entries write last, or v if none writes
   abbrev pub latest : V → List (Entry C V) → V
-  latest v [] = v
-  latest v (e ∷ es) = latest (written e.1 v) es
+  latest v es = fold (λ v e. written e.1 v) v es
 
   -- The value is the one written last, or the opening value if nothing was written. This holds until the owner
   -- borrows the value.
