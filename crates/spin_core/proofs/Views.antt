@@ -1,16 +1,17 @@
 -- A party's open step in the plain lock gives it a new view in the list of views.
-use Rattle.std.proofs.Common.{◌≡◌, ℕ, zero, suc, pred, ◌≤◌, List, [], ◌∷◌, ◌++◌, length, set, Option, Some, None, refl, sym, ap, ◌∙◌, subst, arith}
+use Rattle.std.proofs.Common.{◌≡◌, ℕ, zero, suc, pred, ◌≤◌, List, [], ◌∷◌, ◌++◌, length, set, Option, Some, None, ap, ◌∙◌, arith}
 use mathlib.Core.Option.{some}
 use mathlib.Core.Logic.{dite}
 use native.Mathlib.Decide.{ℕ_discrete}
 use lib.ListN.{get_elem?}
+use Rattle.std.proofs.lemmas.Option.{slice_get_past}
 use Rattle.std.specs.Prelude.{slice_get}
-use Rattle.spin_step.specs.Plain.{Plain, Kind, writing, Change, releases, stops_starving, turns}
+use Rattle.spin_step.specs.Plain.{Plain, Kind, Change, releases, turns}
 use Rattle.spin_step.specs.Parties.{entries_after, apply_some, IsOpenStep}
 use Rattle.spin_core.specs.Cell.{Stands, after}
 use Rattle.spin_core.proofs.CellCounts.{around}
 use Rattle.spin_core.proofs.Runs.{get_seam}
-use Rattle.spin_core.specs.Views.{Part, idle, holds, starves, holds_starving, entries_of, Knows, HasPart, part_at, IsLockOf}
+use Rattle.spin_core.specs.Views.{Part, idle, holds, entries_of, Knows, HasPart, part_at, IsLockOf}
 use Rattle.spin_step.specs.Orders.{IsInOrder}
 use Rattle.spin_step.proofs.Entries.{entries-own, entries-other}
 use Rattle.spin_step.proofs.Holders.{same_kind-self}
@@ -27,12 +28,6 @@ release-own s p k = grind (arith, same_kind-self k)
 pub turn-own : (s : Plain) (p : ℕ) (k l : Kind) → entries_after s (Some (turns p k l)) (entries_of p (holds k)) ≡ entries_of p (holds l)
 turn-own s p k l = grind (arith, same_kind-self k)
 
-pub stop-own : (s : Plain) (p : ℕ) → entries_after s (Some (stops_starving p)) (entries_of p starves) ≡ entries_of p idle
-stop-own s p = grind arith
-
-pub stop_holding-own : (s : Plain) (p : ℕ) → entries_after s (Some (stops_starving p)) (entries_of p holds_starving) ≡ entries_of p (holds writing)
-stop_holding-own s p = grind arith
-
 module _ {V : Type 0} (part : V → Part) where
   -- the number of the party whose step it is
   abbrev pub number : ℕ → Option V → List V → ℕ
@@ -45,13 +40,10 @@ module _ {V : Type 0} (part : V → Part) where
   part_before (Some v) = part v
 
   pub part-there : (p : ℕ) (v : V) (vs : List V) → slice_get vs p ≡ Some v → part_at part vs p ≡ part v
-  part-there p v [] at = absurd (cc (at))
-  part-there zero v (x ∷ vs) at = ap part (let same : x ≡ v = cc (at) in same)
-  part-there (suc p) v (x ∷ vs) at = part-there p v vs at
+  part-there p v vs at = rw at
 
   pub part-beyond : (p : ℕ) (vs : List V) → length vs ≤ p → part_at part vs p ≡ idle
-  part-beyond p [] far = refl
-  part-beyond p (v ∷ vs) far = grind (arith, part-beyond (pred p) vs)
+  part-beyond p vs far = rw (slice_get_past vs p far)
 
   was : (id : ℕ) (view : Option V) (vs : List V) → Stands id view vs → part_at part vs (number id view vs) ≡ part_before view
   was id None vs at = part-beyond (length vs) vs (omega arith)
@@ -82,8 +74,7 @@ module _ {V : Type 0} (part : V → Part) where
       → IsOpenStep s (number id view vs) step → entries_after s step (entries_of (number id view vs) (part_before view)) ≡ entries_of (number id view vs) (part w) → Knows (apply_some s step) (part w)
       → IsLockOf part (after id view vs w) (apply_some s step)
   lock_after id view vs w s step at order is may becomes known q =
-      let p : ℕ = number id view vs in let new : Plain = apply_some s step in let m = moves id view vs w q at in
-      dite (ℕ_discrete p q)
-      (λ e. subst (λ j. HasPart new j (part_at part (after id view vs w) j)) e (subst (HasPart new p) (sym m.0)
-      (entries-own s p step may ∙ (ap (entries_after s step) (own_part id view vs s at is).0 ∙ becomes), known)))
-      (λ ne. subst (HasPart new q) (sym (m.1 ne)) (entries-other s p q step ne may ∙ (is q).0, knows-kept s p step (part_at part vs q) order may (is q).1))
+      let p : ℕ = number id view vs in let m = moves id view vs w q at in let had = own_part id view vs s at is in
+      let kept = knows-kept s p step (part_at part vs q) order may (is q).1 in dite (ℕ_discrete p q)
+      (λ e. rw (← e, m.0) (entries-own s p step may ∙ (ap (entries_after s step) had.0 ∙ becomes), known))
+      (λ ne. rw (m.1 ne) (entries-other s p q step ne may ∙ (is q).0, kept))

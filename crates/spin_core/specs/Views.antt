@@ -1,5 +1,6 @@
 -- The plain lock of a cell's parties. A party's view says what it is in the plain lock.
-use Rattle.std.specs.Prelude.{◌≡◌, ℕ, zero, suc, ◌≤◌, Bool, true, List, [], ◌∷◌, if◌then◌else◌}
+use Rattle.std.specs.Prelude.{◌≡◌, ℕ, ◌≤◌, Bool, true, List, [], ◌∷◌, if◌then◌else◌, slice_get}
+use Rattle.std.specs.Option.{unwrap_or, option_map}
 use Rattle.spin_step.specs.Plain.{Plain, Kind, writing, is_reader, holder, ticket, serving_word}
 use Rattle.spin_step.specs.Parties.{Entries, entries, no_entries}
 use Rattle.spin_step.specs.Orders.{IsInOrder}
@@ -16,17 +17,15 @@ pub data Part : Type 0 where
 
 -- the party's entries in the plain lock
 abbrev pub entries_of : ℕ → Part → Entries
-entries_of p idle = no_entries
 entries_of p (holds k) = record { holders = holder p k ∷ []; tickets = []; starvers = [] }
 entries_of p (queues n entered) = record { holders = []; tickets = ticket p n entered ∷ []; starvers = [] }
-entries_of p (knows_served n) = no_entries
 entries_of p starves = record { holders = []; tickets = []; starvers = p ∷ [] }
 entries_of p holds_starving = record { holders = holder p writing ∷ []; tickets = []; starvers = p ∷ [] }
+entries_of p _ = no_entries
 
 -- what a party with this part knows of the plain lock: after `knows_served n` the served number is at least n
 abbrev pub Knows : Plain → Part → Type 0
-Knows s (knows_served n) = n ≤ serving_word s
-Knows s _ = Unit {0}
+Knows s x = elim x [ knows_served n ↦ n ≤ serving_word s | _ ↦ Unit {0} ]
 
 -- how a party with this part uses the value
 abbrev pub use_of_part : Part → Use
@@ -42,9 +41,7 @@ HasPart s p x = (entries p s ≡ entries_of p x) × Knows s x
 module _ {V : Type 0} (part : V → Part) where
   -- the part of party p: the part of the p-th view; numbers past the list belong to nobody
   abbrev pub part_at : List V → ℕ → Part
-  part_at [] p = idle
-  part_at (v ∷ vs) zero = part v
-  part_at (v ∷ vs) (suc p) = part_at vs p
+  part_at vs p = unwrap_or (option_map part (slice_get vs p)) idle
 
   -- each party has in the plain lock the part that its view says; nobody else has entries there
   abbrev pub IsLockOf : List V → Plain → Type 0

@@ -32,7 +32,7 @@ use Rattle.spin_core.proofs.Plays.{Lock as CellLock, ways, EachOf, Reaches, allo
 use Rattle.spin_core.proofs.Plays as plays
 use Rattle.spin_core.proofs.Ties as tie
 use Rattle.spin_core.specs.Run.{by_first}
-use Rattle.spin_core.proofs.Views.{part_before, part-there, release-own, stop-own, stop_holding-own}
+use Rattle.spin_core.proofs.Views.{part_before, part-there, release-own}
 use Rattle.spin_model.specs.declared.answer.Answer.TheVariants.{Done}
 use Rattle.spin_model.specs.declared.schedule.Move.{Move}
 use Rattle.spin_model.specs.declared.schedule.Move.TheVariants.{Step}
@@ -155,10 +155,10 @@ stops_plain v left starver own = allows (Some v) (λ n. (n + (2 ^ 64 - 2)) % 2 ^
     ))
 
 gives_up_plain : Leads (Some Starving) (λ n. (n + (2 ^ 64 - 2)) % 2 ^ 64) (λ n u. (u ≡ Idle) × Takes 2 n)
-gives_up_plain = stops_plain Starving Idle (λ p. refl) (λ s p. stop-own s p)
+gives_up_plain = stops_plain Starving Idle (λ p. refl) (λ s p. grind arith)
 
 unregisters_plain : (c : FairCall) → Leads (Some (HoldingStarving c)) (λ n. (n + (2 ^ 64 - 2)) % 2 ^ 64) (λ n u. (u ≡ Served) × Takes 2 n)
-unregisters_plain c = stops_plain (HoldingStarving c) Served (λ p. refl) (λ s p. stop_holding-own s p)
+unregisters_plain c = stops_plain (HoldingStarving c) Served (λ p. refl) (λ s p. grind arith)
 
 part_not_alone : (c : FairCall) → part (not_alone c) ≡ starves
 part_not_alone StarverTryLockFair = refl
