@@ -1,7 +1,9 @@
 -- A party appends its moves under its own number, and makes no entry between its steps.
-use Rattle.std.proofs.Common.{◌≡◌, ℕ, suc, ◌+◌, ◌<◌, ◌≤◌, ◌==◌, if◌then◌else◌, Bool, Option, Some, None, List, [], ◌∷◌, ◌++◌, length, map, drop, le_refl, refl, sym, ap, ◌∙◌, subst, arith, zero-add, ne_eqb}
+use Rattle.std.proofs.Common.{◌≡◌, ℕ, suc, ◌+◌, ◌<◌, ◌≤◌, ◌==◌, cond, Option, Some, None, List, [], ◌∷◌, ◌++◌, length, map, drop, le_refl, refl, sym, ap, ◌∙◌, subst, arith, zero-add, ne_eqb}
 use Rattle.std.specs.Prelude.{◌≢◌}
+use Rattle.std.proofs.lemmas.Option.{IfSome_then}
 use Rattle.std.proofs.lemmas.List.{length-append, length-map, map-append, drop-append-le}
+use Rattle.std.proofs.lemmas.List.Elements.{filter-append}
 use Rattle.std.proofs.Math.Seq.{drop-length, set-append_seam}
 use Rattle.spin_core.specs.Cell.{Stands, after as views_after}
 use Rattle.spin_model.specs.declared.place.Seat.{Seat}
@@ -12,7 +14,7 @@ use Rattle.spin_model.specs.Machines.{Machine}
 use Rattle.spin_model.specs.Schedules.{Entry, at_first}
 use Rattle.spin_core.specs.Run.{IsPlayed, OnWord}
 use Rattle.spin_core.specs.Run as run
-use Rattle.spin_core.specs.Passes.{Says, Course}
+use Rattle.spin_core.specs.Passes.{Says}
 use Rattle.spin_core.specs.Own.{Numbered, by_party, present_from, kind, entries_by, Rested, IsRun, MadeNone, what}
 use Rattle.spin_core.proofs.CellCounts.{around}
 use Rattle.spin_core.proofs.Runs as runs
@@ -28,86 +30,67 @@ present_from-append k j [] ws is = let e : k ≡ j = omega arith in rw e
 present_from-append k j (None ∷ us) ws is = present_from-append (suc k) j us ws (omega arith)
 present_from-append k j (Some u ∷ us) ws is = ap (λ vs. (u.0, k, u.1) ∷ vs) (present_from-append (suc k) j us ws (omega arith))
 
--- the present party x with this number and mark is among those who came
-abbrev Split : {X : Type 0} → ℕ → Came X → List (Numbered X) → X → ℕ → ℕ → List (Numbered X) → Type 0
-Split {X} k came before x p mark behind =
-    (front : Came X) × (back : Came X) × (came ≡ front ++ Some (x, mark) ∷ back) × (p ≡ k + length front)
-    × (before ≡ present_from k front) × (behind ≡ present_from (suc p) back)
-
-split : {X : Type 0} (k : ℕ) (came : Came X) (before : List (Numbered X)) (x : X) (p mark : ℕ) (behind : List (Numbered X))
-    → before ++ (x, p, mark) ∷ behind ≡ present_from k came
-    → Split k came before x p mark behind
-split k [] [] x p mark behind e = cc (e)
-split k [] (y ∷ before) x p mark behind e = cc (e)
-split k (None ∷ us) before x p mark behind e =
-    let (front, back, is, place, are, after) = split (suc k) us before x p mark behind e in (None ∷ front, back, cc, omega arith, are, after)
-split {X} k (Some u ∷ us) [] x p mark behind e =
-    let v : Numbered X = (x, p, mark) in let same : v ≡ (u.0, k, u.1) = cc (e) in let place : p ≡ k = ap (λ (w : Numbered X). w.1) same in
+-- the present party v is among those who came
+split : {X : Type 0} (k : ℕ) (came : Came X) (before : List (Numbered X)) (v : Numbered X) (behind : List (Numbered X))
+    → before ++ v ∷ behind ≡ present_from k came
+    → (front back : Came X) × (came ≡ front ++ Some (v.0, v.2) ∷ back) × (v.1 ≡ k + length front)
+    × (before ≡ present_from k front) × (behind ≡ present_from (suc v.1) back)
+split k [] [] v behind e = cc (e)
+split k [] (y ∷ before) v behind e = cc (e)
+split k (None ∷ us) before v behind e = let (front, back, is, place, are, after) = split (suc k) us before v behind e in
+    (None ∷ front, back, cc, omega arith, are, after)
+split {X} k (Some u ∷ us) [] v behind e =
+    let same : v ≡ (u.0, k, u.1) = cc (e) in let place : v.1 ≡ k = ap (λ (w : Numbered X). w.1) same in
     ([], us, ap (λ (w : Numbered X). Some (w.0, w.2) ∷ us) (sym same), omega arith, refl, rw place (cc (e)))
-split k (Some u ∷ us) (y ∷ before) x p mark behind e =
-    let (front, back, is, place, are, after) = split (suc k) us before x p mark behind (cc (e)) in (Some u ∷ front, back, cc, omega arith, cc (e), after)
+split k (Some u ∷ us) (y ∷ before) v behind e =
+    let (front, back, is, place, are, after) = split (suc k) us before v behind (cc (e)) in
+    (Some u ∷ front, back, cc, omega arith, cc (e), after)
 
 -- The entries of one party.
 
--- a party's entries with one more entry in front, which is the party's own or is not
-pub picked : {X : Type 0} (x : X) (ls rs ts : List X) → ls ≡ rs ++ ts → (b : Bool) → (if b then x ∷ ls else ls) ≡ (if b then x ∷ rs else rs) ++ ts
-picked x ls rs ts e b = grind arith
-
 module _ {C V : Type 0} where
-  pub by-append : (q : ℕ) (xs ys : List (Entry C V)) → entries_by q (xs ++ ys) ≡ entries_by q xs ++ entries_by q ys
-  by-append q [] ys = refl
-  by-append q (x ∷ xs) ys = picked x (entries_by q (xs ++ ys)) (entries_by q xs) (entries_by q ys) (by-append q xs ys) (x.0 == q)
-
-  by_other : (q p : ℕ) (own : List (Move C V)) → p ≢ q → entries_by q (by_party p own) ≡ []
-  by_other q p [] other = refl
-  by_other q p (move ∷ own) other = rw (ne_eqb p q other) (by_other q p own other)
+  pub by_of : (q p : ℕ) (own : List (Move C V)) → entries_by q (by_party p own) ≡ cond (p == q) (by_party p own) []
+  by_of q p [] = grind arith
+  by_of q p (move ∷ own) = grind (arith, by_of q p own)
 
   module _ (log : List (Entry C V)) where
     -- a party that is present has made no entry since its mark
     rested_at : {X : Type 0} (k p : ℕ) (front : Came X) (u : X × ℕ) (back : Came X) → p ≡ k + length front → Rested log k (front ++ Some u ∷ back) → entries_by p (drop u.1 log) ≡ []
     rested_at k p [] u back is r = let e : p ≡ k = omega arith in rw e r.0.1
-    rested_at k p (None ∷ us) u back is r = rested_at (suc k) p us u back (omega arith) r
-    rested_at k p (Some x ∷ us) u back is r = rested_at (suc k) p us u back (omega arith) r.1
+    rested_at k p (x ∷ us) u back is r = rested_at (suc k) p us u back (omega arith) r.1
 
     nobody : {X : Type 0} (k p : ℕ) (came : Came X) → k + length came ≤ p → Rested log k came → entries_by p log ≡ []
     nobody k p [] is r = r p (omega arith)
-    nobody k p (None ∷ us) is r = nobody (suc k) p us (omega arith) r
-    nobody k p (Some x ∷ us) is r = nobody (suc k) p us (omega arith) r.1
+    nobody k p (x ∷ us) is r = nobody (suc k) p us (omega arith) r.1
 
     joins : {X : Type 0} (k : ℕ) (came : Came X) → Rested log k came → Rested log k (came ++ None ∷ [])
-    joins k [] r = λ q le. r q (omega arith)
-    joins k (None ∷ us) r = joins (suc k) us r
-    joins k (Some x ∷ us) r = (r.0, joins (suc k) us r.1)
+    joins k [] r = (tt, λ q le. r q (omega arith))
+    joins k (x ∷ us) r = (r.0, joins (suc k) us r.1)
 
     goes : {X : Type 0} (k : ℕ) (front : Came X) (u : X × ℕ) (back : Came X) → Rested log k (front ++ Some u ∷ back) → Rested log k (front ++ None ∷ back)
-    goes k [] u back r = r.1
-    goes k (None ∷ us) u back r = goes (suc k) us u back r
-    goes k (Some x ∷ us) u back r = (r.0, goes (suc k) us u back r.1)
-
-    behind : {X : Type 0} (k : ℕ) (o : Option (X × ℕ)) (back : Came X) → Rested log k (o ∷ back) → Rested log (suc k) back
-    behind k o back r = grind arith
+    goes k [] u back r = (tt, r.1)
+    goes k (x ∷ us) u back r = (r.0, goes (suc k) us u back r.1)
 
     module _ (p : ℕ) (own : List (Move C V)) where
       abbrev es : List (Entry C V)
       es = by_party p own
 
       none : (q : ℕ) (xs : List (Entry C V)) → p ≢ q → entries_by q xs ≡ [] → entries_by q (xs ++ es) ≡ []
-      none q xs other is = rw (by-append q xs es, is) (by_other q p own other)
+      none q xs other is = rw (filter-append, is, by_of q p own, ne_eqb p q other)
 
       on : (k mark : ℕ) → p ≢ k → (mark ≤ length log) × (entries_by k (drop mark log) ≡ []) → (mark ≤ length (log ++ es)) × (entries_by k (drop mark (log ++ es)) ≡ [])
       on k mark other r = (omega (arith, length-append log es, r.0), rw (drop-append-le mark log es r.0) (none k (drop mark log) other r.1))
 
       later : {X : Type 0} (k : ℕ) (us : Came X) → p < k → Rested log k us → Rested (log ++ es) k us
       later k [] under r = λ q le. none q log (omega arith) (r q le)
-      later k (None ∷ us) under r = later (suc k) us (omega arith) r
-      later k (Some u ∷ us) under r = (on k u.1 (omega arith) r.0, later (suc k) us (omega arith) r.1)
+      later k (o ∷ us) under r = (IfSome_then o r.0 (λ u. on k u.1 (omega arith)), later (suc k) us (omega arith) r.1)
 
       -- after the entries es the party that made them has a mark behind them
       made : {X : Type 0} (k : ℕ) (front : Came X) (o : Option (X × ℕ)) (v : X) (back : Came X) → p ≡ k + length front → Rested log k (front ++ o ∷ back) → Rested (log ++ es) k (front ++ Some (v, length (log ++ es)) ∷ back)
       made k [] o v back is r =
-          ((le_refl (length (log ++ es)), ap (entries_by k) (drop-length (log ++ es))), later (suc k) back (omega arith) (behind k o back r))
-      made k (None ∷ us) o v back is r = made (suc k) us o v back (omega arith) r
-      made k (Some u ∷ us) o v back is r = (on k u.1 (omega arith) r.0, made (suc k) us o v back (omega arith) r.1)
+          ((le_refl _, ap (entries_by k) (drop-length (log ++ es))), later (suc k) back (omega arith) r.1)
+      made k (x ∷ us) o v back is r =
+          (IfSome_then x r.0 (λ u. on k u.1 (omega arith)), made (suc k) us o v back (omega arith) r.1)
 
 -- A step of one party.
 
@@ -141,22 +124,19 @@ module _ {W V C L A X S : Type 0} (m : Machine W V C L A) (seat_of : X → Seat 
         let e = length-map (map kind came) sits in (came, w, value, is, s_is, (λ more. rw (← e) (leads more).0), (λ more. rw (← e) (leads more).1), rested)
 
     -- the party with this view has its old place among all who came, or a new place behind them
-    abbrev Placed : ℕ → Option (Numbered X) → Type 0
-    Placed id view =
-        (front : Came X) × (o : Option (X × ℕ)) × (back : Came X) × Ran log s (front ++ o ∷ back) × (kind o ≡ what view)
-        × MadeNone m seat_of words_of log (length front) view
+    placed : (id : ℕ) (view : Option (Numbered X)) → Run log s vs → Stands id view vs
+        → (front : Came X) × (o : Option (X × ℕ)) × (back : Came X) × Ran log s (front ++ o ∷ back)
+        × (kind o ≡ what view) × MadeNone m seat_of words_of log (length front) view
         × ((u : X) (mark : ℕ) → views_after id view vs (u, length front, mark) ≡ present_from 0 (front ++ Some (u, mark) ∷ back))
-
-    placed : (id : ℕ) (view : Option (Numbered X)) → Run log s vs → Stands id view vs → Placed id view
-    placed id None is at =
-        let (came, vs_are, (w, value, s_is, leads, rested)) = as_ran is in let p : ℕ = length came in
+    placed id None is at = let (came, vs_are, (w, value, s_is, leads, rested)) = as_ran is in let p : ℕ = length came in
+        let none = nobody log 0 p came (omega arith) rested in
         let there : runs.Leads m log w value (seats (came ++ None ∷ [])) = rw (seats-seam came None []) (runs.joins m log w value (seats came) leads) in
         let becomes : (u : X) (mark : ℕ) → vs ++ (u, p, mark) ∷ [] ≡ present_from 0 (came ++ Some (u, mark) ∷ []) =
         λ u mark. rw (present_from-append 0 p came (Some (u, mark) ∷ []) (omega arith)) (ap (λ xs. xs ++ (u, p, mark) ∷ []) vs_are) in
-        (came, None, [], (w, value, s_is, there, joins log 0 came rested), refl, nobody log 0 p came (omega arith) rested, becomes)
+        (came, None, [], (w, value, s_is, there, joins log 0 came rested), refl, (tt, none), becomes)
     placed id (Some v) is at =
         let (came, vs_are, ran) = as_ran is in let (before, after, vs_is, id_is) = around vs id v at in
-        let (front, back, came_is, place, are, rest) = split 0 came before v.0 v.1 v.2 after (sym vs_is ∙ vs_are) in
+        let (front, back, came_is, place, are, rest) = split 0 came before v after (sym vs_is ∙ vs_are) in
         let p : v.1 ≡ length front = omega arith in let ran' = rw came_is at ran in
         let quiet = rested_at log 0 v.1 front (v.0, v.2) back place ran'.4 in
         let becomes : (u : X) (mark : ℕ) → views_after id (Some v) vs (u, length front, mark) ≡ present_from 0 (front ++ Some (u, mark) ∷ back) =
@@ -168,21 +148,17 @@ module _ {W V C L A X S : Type 0} (m : Machine W V C L A) (seat_of : X → Seat 
   opens s is = ([], m.words, m.value, refl, is, (λ more. ap (at_first m) (zero-add more)), (λ more. refl), λ q le. refl)
 
   -- the result of a step that turns the view `view` of a party into u
-  abbrev pub Comes : Option (Numbered X) → X → Course V C A → ℕ → ℕ × S → Schedule → List (Numbered X) → Type 0
-  Comes view u says id s log vs = (p : ℕ) × (own : List (Move C V)) × (outs : List (Outcome A V)) × (let es = by_party p own in
-      Run (log ++ es) s (views_after id view vs (u, p, length (log ++ es))) × MadeNone m seat_of words_of log p view × run.AreOwn m own outs log es
-      × says own outs)
-
   pub step : (view : Option (Numbered X)) (g : OnWord S) (tells : ℕ → X → Type 0) (says : Says V C A X)
       → run.AreMoves m seat_of words_of (what view) g tells says
       → (id : ℕ) (s : ℕ × S) (log : Schedule) (vs : List (Numbered X)) → Run log s vs → Stands id view vs → (u : X) → tells (g.1 s) u
-      → Comes view u (λ own outs. says own outs (g.1 s) u) id (g.0 s) log vs
+      → (p : ℕ) × (own : List (Move C V)) × (outs : List (Outcome A V)) × (let es = by_party p own in
+      Run (log ++ es) (g.0 s) (views_after id view vs (u, p, length (log ++ es)))
+      × MadeNone m seat_of words_of log p view × run.AreOwn m own outs log es × says own outs (g.1 s) u)
   step view g tells says moves id s log vs is at u so =
       let (front, o, back, (w, value, s_is, leads, rested), o_is, none, becomes) = placed log s vs id view is at in
       let (own, outs, said, all, fine, w', now, alone, are, become) = moves w value u (rw (← s_is) so) in
       let p : ℕ = length front in let log' : Schedule = log ++ by_party p own in let came : Came X = front ++ Some (u, length log') ∷ back in
-      let (leads', mine) =
-      runs.goes m log (w, value, sits (what view)) (w', now, seat_of u) (seats front) (seats back)
+      let (leads', mine) = runs.goes m log (w, value, sits (what view)) (w', now, seat_of u) (seats front) (seats back)
       (rw (seats-seam front o back, o_is) at leads) own outs all fine alone are p
       (sym (length-map (map kind front) sits ∙ length-map front kind)) in
       let there : runs.Leads m log' w' now (seats came) = rw (seats-seam front (Some (u, length log')) back) leads' in
@@ -194,9 +170,8 @@ module _ {W V C L A X S : Type 0} (m : Machine W V C L A) (seat_of : X → Seat 
   -- an idle party may leave
   pub leave : (v : Numbered X) → seat_of v.0 ≡ Idle → (s : ℕ × S) (log : Schedule) (before after : List (Numbered X))
       → Run log s (before ++ v ∷ after) → Run log s (before ++ after)
-  leave v idle s log before after is =
-      let (came, vs_are, ran) = as_ran log s (before ++ v ∷ after) is in
-      let (front, back, came_is, place, are, rest) = split 0 came before v.0 v.1 v.2 after vs_are in
+  leave v idle s log before after is = let (came, vs_are, ran) = as_ran log s (before ++ v ∷ after) is in
+      let (front, back, came_is, place, are, rest) = split 0 came before v after vs_are in
       let (w, value, s_is, leads, rested) = rw came_is at ran in
       as_run log s (before ++ after) (front ++ None ∷ back) (cc (present_from-append 0 v.1 front (None ∷ back) place))
       (w, value, s_is, rw (seats-seam front None back) (rw (seats-seam front (Some (v.0, v.2)) back, idle) at leads), goes log 0 front (v.0, v.2) back rested)

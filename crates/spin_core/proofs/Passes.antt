@@ -1,8 +1,8 @@
 -- What a party with a number learns by a step, and by one step after another.
-use Rattle.std.proofs.Common.{◌≡◌, ℕ, zero, suc, ◌+◌, ◌==◌, if◌then◌else◌, Bool, false, Option, Some, None, List, [], ◌∷◌, ◌++◌, length, replicate, refl, sym, ap, ◌∙◌, arith, eq-eqb, zero-add}
-use mathlib.Core.List.{IsPrefix}
+use Rattle.std.proofs.Common.{◌≡◌, ℕ, ◌+◌, false, Option, Some, None, List, [], ◌∷◌, ◌++◌, length, replicate, refl, sym, ap, ◌∙◌, arith, eq-eqb}
 use Rattle.std.proofs.Math.Seq.{drop-append_seam}
-use Rattle.std.proofs.lemmas.List.{append_assoc, map-append}
+use Rattle.std.proofs.lemmas.List.{append_assoc, map-append, replicate-append-replicate}
+use Rattle.std.proofs.lemmas.List.Elements.{filter-append}
 use Rattle.std.proofs.Math.Nat.{add_assoc}
 use Rattle.spin_model.specs.declared.schedule.Move.{Move}
 use Rattle.spin_model.specs.declared.schedule.Move.TheVariants.{Step}
@@ -13,18 +13,13 @@ use Rattle.spin_model.specs.Schedules.{State, Entry, after, at_first, happens}
 use Rattle.spin_core.specs.declared.trace.Watch.{Watch}
 use Rattle.spin_model.specs.declared.place.Seat.{Seat}
 use Rattle.spin_core.specs.Run.{outcomes}
-use Rattle.spin_core.specs.Own.{Numbered, what, by_party, entries_by, MadeNone, Tells}
-use Rattle.spin_core.specs.Passes.{mark_of, MayBe, IsNumber, Course, Nothing, Waits, Ends, Begins, IsCall, Says, IsStep, outcomes_by, Did, Made}
+use Rattle.spin_core.specs.Own.{Numbered, what, by_party, entries_by, Tells}
+use Rattle.spin_core.specs.Passes.{mark_of, Course, Waits, Ends, Begins, IsCall, Says, IsStep, outcomes_by, Did, Made}
 use Rattle.spin_core.specs.Cell.{Ways, Moved}
 use Rattle.spin_core.specs.Traced.{Watches, Named}
 use Rattle.spin_core.specs.declared.trace.Trace.{Trace}
 use Rattle.spin_model.proofs.Schedules.{after-append}
-use Rattle.spin_core.proofs.Owns.{picked, by-append}
-
-module _ {C V : Type 0} where
-  own_of : (p : ℕ) (own : List (Move C V)) → entries_by p (by_party p own) ≡ by_party p own
-  own_of p [] = refl
-  own_of p (move ∷ own) = rw (eq-eqb p p refl, own_of p own)
+use Rattle.spin_core.proofs.Owns.{by_of}
 
 -- R accepts moves of P followed by moves of Q
 abbrev pub Joins : (V C A : Type 0) → Course V C A → Course V C A → Course V C A → Type 0
@@ -36,25 +31,16 @@ module _ {W V C L A : Type 0} (m : Machine W V C L A) where
 
   by-both : (p : ℕ) (s : State W V C L) (xs ys : Schedule) → outcomes_by m p s (xs ++ ys) ≡ outcomes_by m p s xs ++ outcomes_by m p (after m s xs) ys
   by-both p s [] ys = refl
-  by-both p s (x ∷ xs) ys =
-      let h = happens m s x.0 x.1 in
-      picked h.outcome (outcomes_by m p h.next (xs ++ ys)) (outcomes_by m p h.next xs) (outcomes_by m p (after m h.next xs) ys)
-      (by-both p h.next xs ys) (x.0 == p)
+  by-both p s (x ∷ xs) ys = grind (arith, by-both p (happens m s x.0 x.1).next xs ys)
 
   -- entries of others have no outcomes for the party
-  unasked : (p : ℕ) (s : State W V C L) (x : Entry C V) (xs : Schedule) (b : Bool) → (if b then x ∷ entries_by p xs else entries_by p xs) ≡ [] → (entries_by p xs ≡ [] → (s' : State W V C L) → outcomes_by m p s' xs ≡ [])
-      → (if b then (happens m s x.0 x.1).outcome ∷ outcomes_by m p (happens m s x.0 x.1).next xs else outcomes_by m p (happens m s x.0 x.1).next xs) ≡ []
-  unasked p s x xs b e rest = grind (arith, rest)
-
   by-others : (p : ℕ) (xs : Schedule) → entries_by p xs ≡ [] → (s : State W V C L) → outcomes_by m p s xs ≡ []
   by-others p [] none s = refl
-  by-others p (x ∷ xs) none s = unasked p s x xs (x.0 == p) none (by-others p xs)
+  by-others p (x ∷ xs) none s = grind (arith, by-others p xs)
 
   by-own : (p : ℕ) (s : State W V C L) (own : List (Move C V)) → outcomes_by m p s (by_party p own) ≡ outcomes m s (by_party p own)
   by-own p s [] = refl
-  by-own p s (move ∷ own) =
-      let h = happens m s p move in
-      rw (eq-eqb p p refl, by-own p h.next own)
+  by-own p s (move ∷ own) = rw (eq-eqb p p refl, by-own p (happens m s p move).next own)
 
   -- the party's outcomes over both parts of what follows the trace a
   came_both : (p : ℕ) (s : State W V C L) (a more more' : Schedule) (outs outs' : List (Outcome A V)) → outcomes_by m p (after m s a) more ≡ outs
@@ -65,46 +51,39 @@ module _ {W V C L A : Type 0} (m : Machine W V C L A) where
   did_both : (p : ℕ) (a b c : Schedule) (own own' : List (Move C V)) (outs outs' : List (Outcome A V)) → Did m p a b own outs
       → Did m p b c own' outs' → Did m p a c (own ++ own') (outs ++ outs')
   did_both p a b c own own' outs outs' (more, least, is, mine, played, came) (more', least', is', mine', played', came') =
-      let swap : (k : ℕ) → least + least' + k ≡ least' + (least + k) = λ k. omega arith in let whole = append_assoc a more more' in
-      let both : entries_by p (more ++ more') ≡ by_party p (own ++ own') =
-      rw (by-append p more more', mine, mine') (sym (map-append (λ move. (p, move)) own own')) in
+      let swap : (k : ℕ) → least + least' + k ≡ least' + (least + k) = λ k. omega arith in
+      let its : entries_by p (more ++ more') ≡ by_party p (own ++ own') = rw (filter-append, mine, mine', map-append) in
       let comes : (k : ℕ) → outcomes_by m p (after m (at_first m (least + least' + k)) a) (more ++ more') ≡ outs ++ outs' =
       λ k. came_both p (at_first m (least + least' + k)) a more more' outs outs'
       (rw (← add_assoc least least' k) at (came (least' + k))) (rw (← swap k, is) at (came' (least + k))) in
-      (more ++ more', least + least', cc (whole), both, (λ k. rw (swap k) (played' (least + k))), comes)
+      (more ++ more', least + least', cc (append_assoc a more more'), its, (λ k. rw (swap k) (played' _)), comes)
 
   module _ {X : Type 0} where
-    same_number : (p q : ℕ) (view : Option (Numbered X)) → IsNumber p view → MayBe q view → q ≡ p
-    same_number p q view is may = grind arith
-
     -- if R accepts moves of P followed by moves of Q, a party that follows P and then Q follows R
     pub made_both : (u v w : Option (Numbered X)) (a b c : Schedule) (P Q R : Course V C A) → Joins V C A P Q R
         → Made m u a v b P → Made m v b w c Q → Made m u a w c R
     made_both u v w a b c P Q R joins (p, may, is, own, outs, did, so) (q, may', is', own', outs', did', so') =
-        let same : q ≡ p = same_number p q v is may' in
+        let same : q ≡ p = grind arith in
         (p, may, rw same at is', own ++ own', outs ++ outs', did_both p a b c own own' outs outs' did (rw same at did'), joins own own' outs outs' so so')
 
   module _ {X S : Type 0} (seat_of : X → Seat C L) (words_of : W → ℕ × S) where
-    -- the party has made no entry since it knew `old`
-    none_between : (view : Option (Numbered X)) (p : ℕ) (old log : Schedule) (known : IsPrefix old log) → mark_of view ≡ length old → MadeNone m seat_of words_of log p view → MayBe p view × (entries_by p known.0 ≡ [])
-    none_between None p old log known knew none = (tt, rw (← drop-append_seam old known.0, ← knew, known.1) none)
-    none_between (Some u) p old log known knew none = (none.0, rw (← drop-append_seam old known.0, ← knew, known.1) none.1)
-
     -- What a step tells a party that knew all entries up to its last step: the party's moves, and that it now knows
     -- all entries up to this step.
     pub learns : (says : Says V C A X) (named : Type 0) (view : Option (Numbered X)) (before now : Watch (Entry C V)) (n : ℕ) (v : Numbered X)
         → mark_of view ≡ length before.entries → Watches named before now (Tells m seat_of words_of says view) n v
         → Made m view before.entries (Some v) now.entries (λ own outs. says own outs n v.0) × (mark_of (Some v) ≡ length now.entries)
     learns says named view before now n v knew (same, (log, es, known, is, (own, outs, es_is, mark, none, mine, said))) =
-        let p : ℕ = v.1 in let apart = none_between view p before.entries log known knew none in let between : Schedule = known.0 in
-        let here : before.entries ++ between ≡ log = known.1 in
-        let came : (k : ℕ) → outcomes_by m p (after m (at_first m (mine.1 + k)) before.entries) (between ++ by_party p own) ≡ outs = λ k.
+        let p : ℕ = v.1 in let old : Schedule = before.entries in let (between, here) = known in
+        let steps : Schedule = by_party p own in let whole = append_assoc old between steps in
+        -- the party has made no entry since it knew `old`
+        let apart : entries_by p between ≡ [] = rw (← drop-append_seam old between, ← knew, here) none.1 in
+        let came : (k : ℕ) → outcomes_by m p (after m (at_first m (mine.1 + k)) old) (between ++ steps) ≡ outs = λ k.
         let start : State W V C L = at_first m (mine.1 + k) in
-        came_both p start before.entries between (by_party p own) [] outs (by-others p between apart.1 (after m start before.entries))
+        came_both p start old between steps [] outs (by-others p between apart (after m start old))
         (rw (here, by-own p (after m start log) own, ← es_is) (mine.4 k)) in
-        let whole = append_assoc before.entries between (by_party p own) in let did : Did m p before.entries now.entries own outs =
-        (between ++ by_party p own, mine.1, cc (whole), rw (by-append p between (by_party p own), apart.1) (own_of p own), rw is mine.3, came) in
-        ((p, apart.0, refl, own, outs, did, said), mark ∙ ap length (sym is))
+        let its : entries_by p (between ++ steps) ≡ steps = rw (filter-append, apart, by_of p p own, eq-eqb p p refl) in
+        let did : Did m p old now.entries own outs = (between ++ steps, mine.1, cc (whole), its, rw is mine.3, came) in
+        ((p, none.0, refl, own, outs, did, said), mark ∙ ap length (sym is))
 
 -- the rule says that the trace has this name
 pub may_know : {E S V R : Type 0} (holds : ℕ → Trace E S → List V → Type 0) (ways : Ways R V (Trace E S)) (name : ℕ) → ((n : ℕ) (t : Trace E S) (vs : List V) → holds n t vs → t.name ≡ name) → (known : ℕ) → name ≡ known → Named holds ways known
@@ -129,21 +108,14 @@ module _ {W V C L A X S : Type 0} (m : Machine W V C L A) (seat_of : X → Seat 
 
 -- How one course of a call follows another.
 
-replicate-sum : {X : Type 0} (i j : ℕ) (x : X) → replicate (i + j) x ≡ replicate i x ++ replicate j x
-replicate-sum zero j x = ap (λ n. replicate n x) (zero-add j)
-replicate-sum (suc i) j x = let e : suc i + j ≡ suc (i + j) = omega arith in rw (e, replicate-sum i j x)
-
 -- i steps, followed by j steps and an end, are i + j steps and this end
 pub after_steps : {X : Type 0} (x : X) (i j : ℕ) (xs ys end : List X) → xs ≡ replicate i x → ys ≡ replicate j x ++ end → xs ++ ys ≡ replicate (i + j) x ++ end
-after_steps x i j xs ys end is are = cc (append_assoc (replicate i x) (replicate j x) end, replicate-sum i j x)
+after_steps x i j xs ys end is are = rw (is, are, ← append_assoc, replicate-append-replicate)
 
 module _ {V C A : Type 0} where
-  pub nothing_then : (P : Course V C A) → Joins V C A Nothing P P
-  nothing_then P own own' outs outs' none so = rw (none.0, none.1) so
-
   pub waits_on : Joins V C A Waits Waits Waits
   waits_on own own' outs outs' (i, is, comes) (j, is', comes') =
-      (i + j, cc (replicate-sum {X = Move C V} i j Step), cc (replicate-sum {X = Outcome A V} i j GoingOn))
+      (i + j, rw (is, is', replicate-append-replicate), rw (comes, comes', replicate-append-replicate))
 
   pub waits_out : (a : A) → Joins V C A Waits (Ends a) (Ends a)
   waits_out a own own' outs outs' (i, is, comes) (j, is', comes') =

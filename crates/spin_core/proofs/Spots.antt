@@ -36,12 +36,9 @@ module _ {K W V C L A X : Type 0} (model : K → Machine W V C L A) (p q : Spot 
 
   -- a course, and then another; the later one is in the same lock, and so runs the same model
   pub both : (r : Spot K X (Entry C V)) (P Q R : Course V C A) → Joins V C A P Q R → Since model P p q → Since model Q q r → Since model R p r
-  both r P Q R joins first next = (
-    passes.made_both (model p.0) p.1 q.1 r.1 p.2.entries q.2.entries r.2.entries P Q R joins first.0
-        (rw first.2 at next.0),
-    next.1 ∙ first.1,
-    next.2 ∙ first.2,
-  )
+  both r P Q R joins first next = let m = model p.0 in let then = rw first.2 at next.0 in
+      let made = passes.made_both m p.1 q.1 r.1 p.2.entries q.2.entries r.2.entries P Q R joins first.0 then in
+      (made, next.1 ∙ first.1, next.2 ∙ first.2)
 
 -- The steps of a call, one after another.
 module _ {K W V C L A X : Type 0} (model : K → Machine W V C L A) (c : C) (p q : Spot K X (Entry C V)) where
@@ -58,12 +55,10 @@ module _ {K W V C L A X : Type 0} (model : K → Machine W V C L A) (c : C) (p q
 
   module _ (r : Spot K X (Entry C V)) (first : IsIn model c p q) where
     pub stays_in : Since model (IsStep true c GoingOn) q r → IsIn model c p r
-    stays_in =
-        both model p q r (Begins c Waits) (IsStep true c GoingOn) (Begins c Waits)
+    stays_in = both model p q r (Begins c Waits) (IsStep true c GoingOn) (Begins c Waits)
         (passes.begun c Waits (IsStep true c GoingOn) Waits (λ own own' outs outs' w s. passes.waits_on own own' outs outs' w (1, s.0, s.1))) first
 
     pub is_answered : (a : A) → Since model (IsStep true c (Answered a None)) q r → HasCalled model c a p r
-    is_answered a =
-        both model p q r (Begins c Waits) (IsStep true c (Answered a None)) (IsCall c a)
+    is_answered a = both model p q r (Begins c Waits) (IsStep true c (Answered a None)) (IsCall c a)
         (passes.begun c Waits (IsStep true c (Answered a None)) (Ends a)
         (λ own own' outs outs' w s. passes.waits_out a own own' outs outs' w (0, s.0, s.1))) first

@@ -1,6 +1,8 @@
 -- A trace whose parties know which entries are their own. A party's *number* is its place among all parties that ever
 -- joined. Its *mark* is the length of the trace after its last step. The party has made no entry from there on.
-use Rattle.std.specs.Prelude.{◌≡◌, ℕ, suc, ◌≤◌, Option, Some, None, List, [], ◌∷◌, ◌++◌, length, map, drop, ◌==◌, if◌then◌else◌}
+use Rattle.std.specs.Prelude.{◌≡◌, ℕ, suc, ◌≤◌, Option, Some, None, List, [], ◌∷◌, ◌++◌, length, map, drop, ◌==◌}
+use Rattle.std.specs.Option.{IfSome, option_map}
+use Rattle.std.specs.List.{filter}
 use Rattle.spin_model.specs.declared.place.Seat.{Seat}
 use Rattle.spin_model.specs.declared.schedule.Move.{Move}
 use Rattle.spin_model.specs.declared.schedule.Outcome.{Outcome}
@@ -15,8 +17,15 @@ Numbered X = X × ℕ × ℕ
 
 -- what the party is, whatever its number
 abbrev pub what : {X : Type 0} → Option (Numbered X) → Option X
-what None = None
-what (Some u) = Some u.0
+what view = option_map (λ u. u.0) view
+
+-- how long the trace was after the party's last step
+abbrev pub mark_of : {X : Type 0} → Option (Numbered X) → ℕ
+mark_of view = elim view [ None ↦ 0 | Some u ↦ u.2 ]
+
+-- the party has the number p, or no number yet
+abbrev pub MayBe : {X : Type 0} → ℕ → Option (Numbered X) → Type 0
+MayBe p view = IfSome view (λ u. p ≡ u.1)
 
 -- the parties that have not left, from place k on
 abbrev pub present_from : {X : Type 0} → ℕ → List (Option (X × ℕ)) → List (Numbered X)
@@ -25,8 +34,7 @@ present_from k (None ∷ us) = present_from (suc k) us
 present_from k (Some u ∷ us) = (u.0, k, u.1) ∷ present_from (suc k) us
 
 abbrev pub kind : {X : Type 0} → Option (X × ℕ) → Option X
-kind None = None
-kind (Some u) = Some u.0
+kind o = option_map (λ u. u.0) o
 
 -- these moves, as entries of the party p
 abbrev pub by_party : {C V : Type 0} → ℕ → List (Move C V) → List (Entry C V)
@@ -34,15 +42,14 @@ by_party p own = map (λ move. (p, move)) own
 
 -- of these entries, those that the party p made
 abbrev pub entries_by : {C V : Type 0} → ℕ → List (Entry C V) → List (Entry C V)
-entries_by p [] = []
-entries_by p (e ∷ es) = if e.0 == p then e ∷ entries_by p es else entries_by p es
+entries_by p es = filter (λ e. e.0 == p) es
 
 -- Each party that has not left has made no entry from its mark on. Parties with numbers beyond the list have made
 -- none.
 abbrev pub Rested : {C V X : Type 0} → List (Entry C V) → ℕ → List (Option (X × ℕ)) → Type 0
 Rested schedule k [] = (q : ℕ) → k ≤ q → entries_by q schedule ≡ []
-Rested schedule k (None ∷ us) = Rested schedule (suc k) us
-Rested schedule k (Some u ∷ us) = ((u.1 ≤ length schedule) × (entries_by k (drop u.1 schedule) ≡ [])) × Rested schedule (suc k) us
+Rested schedule k (o ∷ us) =
+    IfSome o (λ u. (u.1 ≤ length schedule) × (entries_by k (drop u.1 schedule) ≡ [])) × Rested schedule (suc k) us
 
 module _ {W V C L A X S : Type 0} (m : Machine W V C L A) (seat_of : X → Seat C L) (words_of : W → ℕ × S) where
   -- The schedule leads to these words, and to the views of all parties that have not left. None of its entries is
@@ -53,8 +60,7 @@ module _ {W V C L A X S : Type 0} (m : Machine W V C L A) (seat_of : X → Seat 
 
   -- the party has made no entry after its last step; a new party has made none at all
   abbrev pub MadeNone : List (Entry C V) → ℕ → Option (Numbered X) → Type 0
-  MadeNone log p None = entries_by p log ≡ []
-  MadeNone log p (Some u) = (p ≡ u.1) × (entries_by p (drop u.2 log) ≡ [])
+  MadeNone log p view = MayBe p view × (entries_by p (drop (mark_of view) log) ≡ [])
 
   -- What a step tells: the party's number and its new mark; that the party made no entry between its last step and
   -- this one; its moves in this step, with their outcomes; and what `says` states of these moves.

@@ -1,5 +1,6 @@
 -- What a party with a number knows of its own calls, and of the trace, from one call to the next.
-use Rattle.std.specs.Prelude.{◌≡◌, ℕ, ◌+◌, Bool, true, false, Option, Some, None, List, [], ◌∷◌, ◌++◌, replicate, ◌==◌, if◌then◌else◌}
+use Rattle.std.specs.Prelude.{◌≡◌, ℕ, ◌+◌, Bool, true, false, Option, None, List, [], ◌∷◌, ◌++◌, replicate, ◌==◌, if◌then◌else◌}
+use Rattle.std.specs.Option.{MatchOption, unwrap_or}
 use Rattle.spin_model.specs.declared.answer.Answer.{Answer}
 use Rattle.spin_model.specs.declared.schedule.Move.{Move}
 use Rattle.spin_model.specs.declared.schedule.Move.TheVariants.{Begin, Step, Write}
@@ -8,31 +9,16 @@ use Rattle.spin_model.specs.declared.schedule.Outcome.TheVariants.{Begun, GoingO
 use Rattle.spin_model.specs.Machines.{Machine}
 use Rattle.spin_model.specs.Schedules.{State, Entry, after, at_first, happens}
 use Rattle.spin_core.specs.Run.{IsPlayed}
-use Rattle.spin_core.specs.Own.{Numbered, by_party, entries_by}
-
--- how long the trace was after the party's last step
-abbrev pub mark_of : {X : Type 0} → Option (Numbered X) → ℕ
-mark_of None = 0
-mark_of (Some u) = u.2
-
--- the party has the number p, or no number yet
-abbrev pub MayBe : {X : Type 0} → ℕ → Option (Numbered X) → Type 0
-MayBe p None = Unit {0}
-MayBe p (Some u) = p ≡ u.1
+use Rattle.spin_core.specs.Own.{Numbered, MayBe, by_party, entries_by}
+pub use Rattle.spin_core.specs.Own.{mark_of}
 
 -- the party has this number
 abbrev pub IsNumber : {X : Type 0} → ℕ → Option (Numbered X) → Type 0
-IsNumber p None = ⊥
-IsNumber p (Some u) = p ≡ u.1
+IsNumber p view = MatchOption view ⊥ (λ u. p ≡ u.1)
 
--- the party's view; a new party has the idle view
-abbrev pub stands : {X : Type 0} → X → Option X → X
-stands idle None = idle
-stands idle (Some v) = v
-
--- the party is in no call, and holds nothing
+-- the party is in no call, and holds nothing: it is new, or has the idle view
 abbrev pub IsOut : {X : Type 0} → X → Option X → Type 0
-IsOut idle view = stands idle view ≡ idle
+IsOut idle view = unwrap_or view idle ≡ idle
 
 -- the outcome of a move in a lock of values of type V
 abbrev pub Ending : Type 0 → Type 0

@@ -53,7 +53,7 @@ first_after id view vs w len marks late alone order i j v u at_i at_j holds star
 
 within : {T : Type 0} (schedule : List (Done T)) (k : ℕ) (came : List (Option (View × ℕ))) (i : ℕ) (v : Numbered View) → Rested schedule k came → slice_get (present_from k came) i ≡ Some v → v.2 ≤ length schedule
 within schedule k [] i v rest at = absurd (cc (at))
-within schedule k (None ∷ us) i v rest at = within schedule (suc k) us i v rest at
+within schedule k (None ∷ us) i v rest at = within schedule (suc k) us i v rest.1 at
 within schedule k (Some u ∷ us) zero v rest at = let same : (u.0, k, u.1) ≡ v = cc (at) in subst (λ (x : Numbered View). x.2 ≤ length schedule) same rest.0.0
 within schedule k (Some u ∷ us) (suc i) v rest at = within schedule (suc k) us i v rest.1 at
 

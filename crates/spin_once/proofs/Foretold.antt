@@ -251,7 +251,7 @@ none_told q (e ∷ es) is = none_by (e.0 == q) refl e.1 (will_fail es e.0) is (�
 
 rested_marked : (log : List Made) (k : ℕ) (came : List Came) → Rested log k came → Rested (foretold log) k (map (marked log) came)
 rested_marked log k [] is = λ q ge. none_told q log (is q ge)
-rested_marked log k (None ∷ came) is = rested_marked log (suc k) came is
+rested_marked log k (None ∷ came) is = (tt, rested_marked log (suc k) came is.1)
 rested_marked log k (Some u ∷ came) is = ((fewer u.1 log, ap (entries_by k) (cut u.1 log) ∙ none_told k (drop u.1 log) is.0.1), rested_marked log (suc k) came is.1)
 
 pub is_run : (given : Option (Unit {0})) (log : List Made) (s : ℕ × Unit {0}) (parties : List (Numbered View)) → IsRun (m given) seat_of words_of log s parties → IsRun (t given) place_of words_of (foretold log) s (map (counted log) parties)

@@ -1,10 +1,11 @@
 -- What a step tells a party that knows the lock's history, and how the steps of a call add up to the call.
 use Rattle.std.proofs.Common.{◌≡◌, ℕ, Bool, true, false, Some, None, List, ◌==◌, if◌then◌else◌, sym, ap, ◌∙◌, subst}
 use Rattle.std.specs.Prelude.{Result, Ok, Err}
+use Rattle.std.specs.Option.{unwrap_or}
 use mathlib.Core.Logic.{inr}
 use Rattle.spin_core.specs.Cell.{Moved, use_of}
 use Rattle.spin_core.specs.Own.{Numbered, what}
-use Rattle.spin_core.specs.Passes.{Course, Ending, IsOut, stands, Nothing, WritesSome, IsCall, step_by}
+use Rattle.spin_core.specs.Passes.{Course, Ending, IsOut, Nothing, WritesSome, IsCall, step_by}
 use Rattle.spin_core.specs.Spots.{spot, Since, Stepped, IsIn, HasCalled}
 use Rattle.spin_core.specs.Traced.{Watches, Named, MayKnow, Found}
 use Rattle.spin_core.specs.declared.cell.Permit.{Permit}
@@ -94,7 +95,8 @@ module _ {T : Type 0} (p q r : Spot T) (next served : ℕ) (first : Stepped mode
 
   pub is_refused : is_free next served ≡ false → HasCalled model TryLock Refused p r × IsOut Idle (what r.1)
   is_refused busy =
-      let step = goes_by false busy in (is_answered model TryLock p q r began Refused step.0, ap (stands Idle) step.1)
+      let step = goes_by false busy in
+      (is_answered model TryLock p q r began Refused step.0, ap (λ o. unwrap_or o Idle) step.1)
 
   module _ (free : is_free next served ≡ true) where
     tries : IsIn model TryLock p r
@@ -103,7 +105,8 @@ module _ {T : Type 0} (p q r : Spot T) (next served : ℕ) (first : Stepped mode
     pub is_tried : (o : Result (Grant T) (Account T)) → Attempts next r o → Tries p o
     is_tried (Ok grant) so = (is_answered model TryLock p r (here grant.account) tries Granted so.0.0, tt)
     is_tried (Err now) so =
-        let step = so.1 in (tt, (is_answered model TryLock p r (here now) tries Refused step.0, ap (stands Idle) step.1))
+        let step = so.1 in
+        (tt, (is_answered model TryLock p r (here now) tries Refused step.0, ap (λ o. unwrap_or o Idle) step.1))
 
 -- the store of a holder that leaves the value `x`
 pub releases : {T : Type 0} (me : Account T) (it : Party T) (now : Watch (Made T)) → it.key ≡ me.permit.key → (x : T) (number : ℕ)
@@ -119,5 +122,6 @@ pub released_behind : {T : Type 0} (x : T) (p q r : Spot T) → Since model Noth
 released_behind {T} x p q r none so =
     let at : Releases x (p.0, q.1, q.2) r = subst (λ (k : Key T). Releases x (k, q.1, q.2) r) none.2 so in
     let course : Course T TicketCall (Answer T) = WritesSome (λ y. p.0.0.told ≡ true → y ≡ x) (IsCall Release Done) in
-    let made = passes.made_both (model p.0) p.1 q.1 r.1 p.2.entries q.2.entries r.2.entries Nothing course course (passes.nothing_then course) none.0 at.0.0 in
+    let made = passes.made_both (model p.0) p.1 q.1 r.1 p.2.entries q.2.entries r.2.entries Nothing course course
+    (λ own own' outs outs' nothing so. rw (nothing.0, nothing.1) so) none.0 at.0.0 in
     ((made, at.0.1 ∙ none.1, at.0.2), at.1)
