@@ -1,9 +1,9 @@
 -- A party with nothing in the plain lock may leave. Those behind it move up by one place, and nothing else changes.
-use Rattle.std.proofs.Common.{◌≡◌, ℕ, suc, pred, cond, nat_lt, ◌-◌, ◌==◌, not, ◌&&◌, List, [], ◌∷◌, ◌++◌, map, length, filter, Some, refl, sym, ap, ◌∙◌, arith}
+use Rattle.std.proofs.Common.{◌≡◌, ℕ, suc, pred, cond, nat_lt, ◌+◌, ◌-◌, ◌==◌, not, ◌&&◌, List, [], ◌∷◌, ◌++◌, map, length, filter, Some, refl, sym, ap, ◌∙◌, arith}
 use Rattle.std.proofs.lemmas.List.{length-map}
-use Rattle.std.proofs.lemmas.List.Sums.{sum_by-cons}
-use Rattle.spin_step.specs.Plain.{Plain, Kind, Holder, holder, Ticket, ticket, weight, flag_word, rw_word, fair_word, next_word, serving_word}
-use Rattle.spin_step.specs.Parties.{Entries, entries, no_entries, none_entered, first_alone_entered}
+use Rattle.std.proofs.lemmas.List.Folds.{fold-map}
+use Rattle.spin_step.specs.Plain.{Plain, Kind, Holder, holder, Ticket, ticket, flag_word, fair_word, serving_word}
+use Rattle.spin_step.specs.Parties.{Entries, entries, no_entries, none_entered}
 use Rattle.spin_step.specs.Tickets.{numbered_from}
 use Rattle.spin_step.proofs.Exclusive.{exclusive-like}
 use Rattle.spin_step.proofs.Sums.{sum_kinds}
@@ -52,8 +52,7 @@ entries-up : (k q : ℕ) (s : Plain) → entries k s ≡ no_entries → entries 
 entries-up k q s none =
     let hs = renames (λ h. h.party) (holder_up k) k q (λ h. refl) s.holders (ap (λ e. e.holders) none) in
     let ts = renames (λ t. t.party) (ticket_up k) k q (λ t. refl) s.tickets (ap (λ e. e.tickets) none) in
-    let qs = renames (λ p. p) (up k) k q (λ p. refl) s.starvers (ap (λ e. e.starvers) none) in
-    rw (hs, ts, qs) refl
+    let qs = renames (λ p. p) (up k) k q (λ p. refl) s.starvers (ap (λ e. e.starvers) none) in rw (hs, ts, qs)
 
 part-up : (k p : ℕ) (x : Part) → entries_up k (entries_of p x) ≡ entries_of (up k p) x
 part-up k p x = grind arith
@@ -61,15 +60,11 @@ part-up k p x = grind arith
 -- Moving up changes only the names.
 
 pub sum-up : (k : ℕ) (f : Kind → ℕ) (hs : List Holder) → sum_kinds f (map (holder_up k) hs) ≡ sum_kinds f hs
-sum-up k f [] = refl
-sum-up k f (h ∷ hs) = omega (arith, sum-up k f hs, sum_by-cons (λ (g : Holder). f g.kind) h hs, sum_by-cons (λ (g : Holder). f g.kind) (holder_up k h) (map (holder_up k) hs))
+sum-up k f hs = fold-map (λ s h. s + f h.kind) (holder_up k) 0 hs
 
 none_entered-up : (k : ℕ) (ts : List Ticket) → none_entered (map (ticket_up k) ts) ≡ none_entered ts
 none_entered-up k [] = refl
 none_entered-up k (t ∷ ts) = ap (λ b. not t.entered && b) (none_entered-up k ts)
-
-first_alone-up : (k : ℕ) (ts : List Ticket) → first_alone_entered (map (ticket_up k) ts) ≡ first_alone_entered ts
-first_alone-up k ts = grind (arith, none_entered-up)
 
 numbered-up : (k n : ℕ) (ts : List Ticket) → numbered_from n ts → numbered_from n (map (ticket_up k) ts)
 numbered-up k n [] numbers = tt
@@ -85,12 +80,6 @@ flag_word-up k s = length-map s.holders (holder_up k)
 pub fair_word-up : NamesNobody fair_word
 fair_word-up k s = omega (arith, length-map s.holders (holder_up k), length-map s.starvers (up k))
 
-pub rw_word-up : NamesNobody rw_word
-rw_word-up k s = sum-up k weight s.holders
-
-pub next_word-up : NamesNobody next_word
-next_word-up k s = refl
-
 pub serving_word-up : NamesNobody serving_word
 serving_word-up k s = ap (λ n. s.next - n) (length-map s.tickets (ticket_up k))
 
@@ -99,7 +88,8 @@ no_word-up k s = refl
 
 in_order-up : (k : ℕ) (s : Plain) → IsInOrder s → IsInOrder (moved_up k s)
 in_order-up k s order = record {
-  exclusive = exclusive-like s (moved_up k s) (λ f. sum-up k f s.holders) (first_alone-up k s.tickets ∙ order.exclusive.one_entered) order.exclusive;
+  exclusive = exclusive-like s (moved_up k s) (λ f. sum-up k f s.holders)
+      (grind (arith, none_entered-up, order.exclusive.one_entered)) order.exclusive;
   numbered = (
     omega (arith, length-map s.tickets (ticket_up k), order.numbered.0),
     rw (serving_word-up k s) (numbered-up k (serving_word s) s.tickets order.numbered.1),

@@ -1,22 +1,20 @@
 -- A mutex whose trace is a schedule of its model: how the steps of its parties keep the rule, and what they tell.
 use Rattle.std.proofs.Common.{arith, ◌≡◌, ℕ, Bool, true, false, List, [], Option, Some, None, length, sym, ap, ◌∙◌}
 use mathlib.Core.Logic.{inr}
-use Rattle.spin_core.specs.Cell.{Use, off, writes, alone, Ways, no_fact, use_of, Meets, Moved, Rests}
+use Rattle.spin_core.specs.Cell.{Use, off, writes, alone, Ways, no_fact, use_of, Meets, Moved, Rests, OnWord, AllowsTo}
 use Rattle.spin_core.specs.Own.{Numbered, Runs, Tells, what}
 use Rattle.spin_core.specs.Passes.{IsOut, Ending, Says, IsCall, WritesSome, step_by, leaves_by, mark_of}
 use Rattle.spin_core.specs.Spots.{Spot, Releases}
-use Rattle.spin_core.specs.Run.{OnWord, AreMoves, sits}
-use Rattle.spin_core.specs.Traced.{Watches, Named, MayKnow, Found}
+use Rattle.spin_core.specs.Run.{AreMoves, sits}
+use Rattle.spin_core.specs.Traced.{Watches, Named, MayKnow, Found, TracesTo}
 use Rattle.spin_core.specs.Values.{Leaves, IsLast, last}
 use Rattle.spin_core.specs.declared.tie.Opening.{Opening}
 use Rattle.spin_core.specs.declared.trace.Trace.{Trace}
 use Rattle.spin_core.specs.declared.trace.Watch.{Watch}
 use Rattle.spin_core.proofs.Passes as passes
 use Rattle.spin_core.proofs.Spots as spots
-use Rattle.spin_core.proofs.Passes.{Learnt}
 use Rattle.spin_core.proofs.Plays.{Lock, Holds, idle_rests}
 use Rattle.spin_core.proofs.Ties as tie
-use Rattle.spin_core.proofs.Ties.{AllowsTo, TracesTo}
 use Rattle.spin_core.proofs.Values.{steps_leave, write_leaves, owed, found, gave, wrote}
 use Rattle.spin_model.specs.declared.answer.Answer.{Answer}
 use Rattle.spin_model.specs.declared.place.Seat.{Seat}
@@ -58,7 +56,7 @@ module _ {W V C L X S : Type 0} (lock : Mutex W V C L X S) where
   Told = Tells model seat_of words_of
 
   abbrev pub Keeps : Option (Numbered X) → Option V → OnWord S → Says V C (Answer V) X → Type 0
-  Keeps view shown g says = TracesTo view shown g Rule own_ways (Told says view)
+  Keeps view shown g says = TracesTo Rule own_ways view shown g (Told says view)
 
   -- these moves write nothing, or what a writer leaves
   abbrev pub Leaving : Option X → Option V → Says V C (Answer V) X → Type 0
@@ -68,7 +66,7 @@ module _ {W V C L X S : Type 0} (lock : Mutex W V C L X S) where
   Moves view g = AreMoves model seat_of words_of view g
 
   abbrev Allowed : Option X → OnWord S → (ℕ → X → Type 0) → Type 0
-  Allowed view g then = AllowsTo view None g (Holds plain) plain_ways then
+  Allowed view g then = AllowsTo (Holds plain) plain_ways view None g then
 
   -- For a party that is out:
 
@@ -110,8 +108,7 @@ module _ {W V C L X S : Type 0} (lock : Mutex W V C L X S) where
   -- A step keeps the rule if the plain lock allows it and the model has moves for it.
   module _ (view : Option (Numbered X)) (shown : Option V) (g : OnWord S) where
     pub keeps : (then : ℕ → X → Type 0) (says : Says V C (Answer V) X) → Leaving (what view) shown says
-        → Moves (what view) g then says → Allowed (what view) g then
-        → Keeps view shown g says
+        → Moves (what view) g then says → Allowed (what view) g then → Keeps view shown g says
     keeps then says leaves moves =
         tie.traces model seat_of words_of (Holds plain) opening.name V alone uses (last opening) view shown g then says moves
         (λ own outs n u said t word p. owed opening own t word p (use_of uses (what view)) (uses u) shown (leaves own outs n u said))
@@ -127,8 +124,7 @@ module _ {W V C L X S : Type 0} (lock : Mutex W V C L X S) where
 
     pub releases : (x : V) (c : C) (a : Answer V) → use_of uses (what view) ≡ writes → shown ≡ Some x → (then : ℕ → X → Type 0)
         → Moves (what view) g then (leaves_by (λ y. y ≡ x) c a idle) → Allowed (what view) g then → Keeps view shown g (leaves_by (λ y. Unit {0}) c a idle)
-    releases x c a held here then moves allowed =
-        let exact = leaves_by (λ y. y ≡ x) c a idle in
+    releases x c a held here then moves allowed = let exact = leaves_by (λ y. y ≡ x) c a idle in
         tie.tells_less model seat_of words_of view exact (leaves_by (λ y. Unit {0}) c a idle)
         (λ own outs n u (stays, (y, is, by)). (stays, (y, tt, by))) Rule own_ways shown g
         (keeps then exact (leaving (what view) shown x c a held here) moves allowed)
@@ -164,19 +160,17 @@ module _ {K W V C L X S : Type 0} (lock : K → Mutex W V C L X S) (c : C) (a : 
 
   -- the party is out after the step
   pub ends_out : (w : Option (Numbered X)) → Step (λ y. Unit {0}) w → IsOut idle (what w)
-  ends_out None moved = absurd moved
-  ends_out (Some v) moved = moved.1.4.6.0
+  ends_out w moved = grind arith
 
   pub released : named → q.0 ≡ p.0 → mark_of p.1 ≡ length p.2.entries → (shown shown' : Option V) (x : V) → use_of uses (what p.1) ≡ writes
       → shown ≡ Some x → Found (own_ways (lock p.0)) p.1 q.1 shown shown' q.2 → Step (λ y. Unit {0}) q.1
       → Releases (λ k. (lock k).model) (λ k. (lock k).opening) c a x p q
   released is_named same knew shown shown' x held here known moved =
       let is = leaves (lock p.0) p.1 q.1 shown shown' q.2 x known held (out_off (lock p.0) (what q.1) (ends_out q.1 moved)) here in
-      let means : (own : List (Move C V)) (outs : List (Ending V)) (n : ℕ) (u : X) → leaves_by (IsIt x) c a idle own outs n u
-      → (u ≡ idle) × WritesSome (IsIt x) (IsCall c a) own outs =
-      λ own outs n u (stays, (y, so, (rest, comes, is, are, s))). (stays, (y, so, (rest, comes, is, are, passes.whole c a rest comes s))) in
-      let course = λ (n : ℕ). WritesSome (IsIt x) (IsCall c a) in
-      ((spots.took (λ k. (lock k).model) seat_of words_of p q same knew is_named n _ (λ n. idle) course means (exactly is q.1 moved)).0, is)
+      let says : Says V C (Answer V) X = leaves_by (IsIt x) c a idle in
+      let all = spots.took (λ k. (lock k).model) seat_of words_of p q same knew is_named n says (λ n. idle)
+      (λ n. WritesSome (IsIt x) (IsCall c a)) (λ own outs n u (stays, (y, so, (rest, comes, is, are, s))).
+      (stays, (y, so, (rest, comes, is, are, passes.whole c a rest comes s)))) (exactly is q.1 moved) in (all.0, is)
     where
       exactly : IsLast opening q.2.entries x → (w : Option (Numbered X)) → Step (λ y. Unit {0}) w → Step (IsIt x) w
       exactly is None made = absurd made

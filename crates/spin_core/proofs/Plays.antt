@@ -7,7 +7,7 @@ use prog.Atomic.{either}
 use Rattle.spin_step.specs.Plain.{Plain, Change, Kind, Ask, gets, releases, apply, is_open, fresh, ticket_limit}
 use Rattle.spin_step.specs.Steps.{Decides}
 use Rattle.spin_step.specs.Parties.{party_of, apply_some, IsOpenStep, entries_after, no_entries}
-use Rattle.spin_core.specs.Cell.{Use, Way, Ways, no_fact, Limits, Going, Meets, Allows, AllowsSecond, Rests, Stands, after, readers_of, writers_of, use_of, off, words}
+use Rattle.spin_core.specs.Cell.{Use, Way, Ways, no_fact, Limits, Going, Meets, OnWord, by_first, AllowsTo, Allows, Rests, after, readers_of, writers_of, off, words}
 use Rattle.spin_core.specs.Views.{Part, idle as nothing, holds, entries_of, Knows, HasPart, IsLockOf, Encodes}
 use Rattle.spin_step.specs.Orders.{IsInOrder}
 use Rattle.spin_core.proofs.Leaving.{NamesNobody, leaves}
@@ -92,21 +92,23 @@ module _ {V S : Type 0} (lock : Lock V S) where
   by_exchange view won lost s p n m expected new hit miss =
       dite (ℕ_discrete n expected) (λ e. rw (eq-eqb n expected e) (won, hit e, refl)) (λ ne. rw (ne_eqb n expected ne) (lost, miss, refl))
 
-  -- if in this lock the party reaches these words and a view that satisfies P, the step to these words is allowed
-  arrives : (view : Option V) (id : ℕ) (vs : List V) (s : Plain) (n : ℕ) (m : S) (P : V → Type 0) → Stands id view vs → s.cap ≡ cap → IsInOrder s → IsLockOf part vs s
-      → (w : V) × Reaches view w s (number part id view vs) n m × P w
-      → (w : V) × Going way (use_of uses view) (uses w) None (readers_of uses vs) (Meets Holds ways n m (after id view vs w)) × P w
-  arrives view id vs s n m P at room order is (w, made, so) =
+  -- a step on a word: in each lock the party gets a view that satisfies `says`
+  pub allows_on : (view : Option V) (g : OnWord S) (says : ℕ → V → Type 0)
+      → ((s : Plain) (p : ℕ) (vs : List V) → s.cap ≡ cap → IsInOrder s → IsLockOf part vs s
+      → HasPart s p (part_before part view) → let now : ℕ × S = (first s, second s) in g.1 now < words
+      → (w : V) × Reaches view w s p (g.0 now).0 (g.0 now).1 × says (g.1 now) w) → AllowsTo Holds ways view None g says
+  allows_on view g says makes id n m vs meets at small =
+      let (s, room, order, is, n_is, m_is) = meets.0 in let p : ℕ = number part id view vs in rw (n_is, m_is) (
+      let (w, made, so) = makes s p vs room order is (own_part part id view vs s at is) (rw (n_is, m_is) at small) in
       let next = apply_some s made.step in let room' = cap-kept s made.step ∙ room in
-      let order' = in_order-kept s (number part id view vs) made.step order made.is_open in
+      let order' = in_order-kept s p made.step order made.is_open in
       let is' = lock_after part id view vs w s made.step at order is made.is_open made.entries made.knows in
-      (w, lock.goes _ (uses w) _ _ ((next, room', order', is', made.first_is, made.second_is), lock.fits (after id view vs w) next room' order' is'), so)
+      let fits = lock.fits (after id view vs w) next room' order' is' in
+      (w, lock.goes _ (uses w) _ _ ((next, room', order', is', made.first_is, made.second_is), fits), so))
 
-  -- a step on the first word: in each lock the party gets a view that satisfies `says`
+  -- the same for a step on the first word
   pub allows_among : (view : Option V) (f : ℕ → ℕ) (says : ℕ → V → Type 0) → EachOf view (λ s p. (w : V) × Reaches view w s p (f (first s)) (second s) × says (first s) w) → Allows Holds ways view f says
-  allows_among view f says makes id n m vs meets at small =
-      let (s, room, order, is, n_is, m_is) = meets.0 in rw (n_is, m_is) (arrives view id vs s (f (first s)) (second s) (says (first s)) at room order is
-      (makes s (number part id view vs) vs room order is (own_part part id view vs s at is) (rw n_is at small)))
+  allows_among view f = allows_on view (by_first f)
 
   -- the same for a step that need not know the other parties
   pub allows : (view : Option V) (f : ℕ → ℕ) (says : ℕ → V → Type 0) → Each view (λ s p. (w : V) × Reaches view w s p (f (first s)) (second s) × says (first s) w) → Allows Holds ways view f says
@@ -186,19 +188,8 @@ module _ {V : Type 0} (lock : Lock V (Unit {0})) where
         → Allows (Holds lock) (ways lock) (Some v) (λ n. (n + (2 ^ 64 - weight k)) % 2 ^ 64) (λ n w. Weighs (weight k) n × (w ≡ idle))
     leaves_at was = allows lock (Some v) _ _ (λ s p room order has.
         let stands = is_holder-from_entries p k s.holders (ap (λ e. e.holders) (has.0 ∙ was p)) in let c = releases p k in
-        let small = bounded s room order in let less = sum-less weight p k s.holders stands in (
-          idle,
-          by_step lock (Some v) idle s c _ tt stands
-              (ap (entries_after s (Some c)) (was p) ∙ (release-own s p k ∙ sym (ap (entries_of p) lock.is_idle.0))) (rw lock.is_idle.0 tt)
-              (omega (arith, less, small, sums s, sums (apply s c))) refl,
-          ((omega (arith, less, small, sums s), small), refl),
-        ))
-
--- For a lock of two words: the same for a step on the second
-module _ {V : Type 0} (lock : Lock V ℕ) where
-  open lock use {part, first, second}
-
-  pub allows_second : (view : Option V) (f : ℕ → ℕ) (says : ℕ → V → Type 0) → Each lock view (λ s p. (w : V) × Reaches lock view w s p (first s) (f (second s)) × says (second s) w) → AllowsSecond (Holds lock) (ways lock) view f says
-  allows_second view f says makes id n m vs meets at small =
-      let (s, room, order, is, n_is, m_is) = meets.0 in rw (n_is, m_is) (arrives lock view id vs s (first s) (f (second s)) (says (second s)) at room order is
-      (makes s (number part id view vs) room order (own_part part id view vs s at is)))
+        let small = bounded s room order in let less = sum-less weight p k s.holders stands in
+        let made = by_step lock (Some v) idle s c ((first s + (2 ^ 64 - weight k)) % 2 ^ 64) tt stands
+        (ap (entries_after s (Some c)) (was p) ∙ (release-own s p k ∙ sym (ap (entries_of p) lock.is_idle.0)))
+        (rw lock.is_idle.0 tt) (omega (arith, less, small, sums s, sums (apply s c))) refl in
+        (idle, made, ((omega (arith, less, small, sums s), small), refl)))

@@ -1,67 +1,45 @@
 -- A lock's rule together with its trace of numbered parties. A step keeps both if it keeps the rule and consists of
 -- moves of the model.
-use Rattle.std.proofs.Common.{arith, ◌≡◌, ℕ, ◌<◌, ◌++◌, ◌∷◌, map, length, Option, Some, None, List, [], refl}
-use Rattle.std.specs.Prelude.{sum_by}
+use Rattle.std.proofs.Common.{arith, ◌≡◌, ℕ, ◌+◌, ◌++◌, ◌∷◌, map, length, Option, Some, List, [], refl}
 use Rattle.atomic_table.proofs.Lists.{at_map}
 use Rattle.std.proofs.lemmas.List.{map-append, map-set}
-use Rattle.std.proofs.lemmas.List.Sums.{sum_by-cons}
+use Rattle.std.proofs.lemmas.List.Folds.{fold-map}
 use Rattle.spin_core.specs.declared.trace.Trace.{Trace}
-use Rattle.spin_core.specs.Cell.{Way, Ways, no_fact, Use, use_of, Rests, reading, writing, Limits, Going, Knowledge, Owed, Carrying, Meets, Stands, readers_of, writers_of, after, words}
-use Rattle.spin_core.specs.Traced.{grown_at}
+use Rattle.spin_core.specs.Cell.{Way, Ways, no_fact, Use, use_of, Rests, reading, writing, Limits, Knowledge, Owed, Meets, Stands, readers_of, writers_of, after, OnWord, AllowsTo}
+use Rattle.spin_core.specs.Traced.{grown_at, TracesTo}
 use Rattle.spin_model.specs.declared.place.Seat.{Seat}
 use Rattle.spin_model.specs.declared.place.Seat.TheVariants.{Idle}
 use Rattle.spin_model.specs.declared.schedule.Move.{Move}
 use Rattle.spin_model.specs.declared.schedule.Outcome.{Outcome}
 use Rattle.spin_model.specs.Machines.{Machine}
 use Rattle.spin_model.specs.Schedules.{Entry}
-use Rattle.spin_core.specs.Run.{OnWord, AreMoves}
+use Rattle.spin_core.specs.Run.{AreMoves}
 use Rattle.spin_core.specs.Passes.{Says}
 use Rattle.spin_core.specs.Own.{Numbered, by_party, what, Tells, Runs}
 use Rattle.spin_core.proofs.CellWays.{going_map, carrying_of}
 use Rattle.spin_core.proofs.Owns as owns
-
--- What a step on a word must show. On the first word this is `AllowsAt`, or `Traces` with a trace; on the second it is `AllowsSecondAt` or
--- `TracesSecond`.
-module _ {Y V S : Type 0} (view : Option V) (shown : Option Y) (g : OnWord S) where
-  abbrev pub AllowsTo : (ℕ → S → List V → Type 0) → Ways Y V S → (ℕ → V → Type 0) → Type 0
-  AllowsTo holds ways then = (id n : ℕ) (m : S) (vs : List V) → Meets holds ways n m vs → Stands id view vs → g.1 (n, m) < words
-      → (w : V) × Going ways.0 (use_of ways.1 view) (ways.1 w) shown (readers_of ways.1 vs)
-      (Meets holds ways (g.0 (n, m)).0 (g.0 (n, m)).1 (after id view vs w)) × then (g.1 (n, m)) w
-
-  abbrev pub TracesTo : {E : Type 0} → (ℕ → Trace E S → List V → Type 0) → Ways Y V (Trace E S) → (List E → List E → ℕ → V → Type 0) → Type 0
-  TracesTo {E} holds ways told = (id n : ℕ) (t : Trace E S) (vs : List V) → Meets holds ways n t vs → Stands id view vs → g.1 (n, t.word) < words
-      → (w : V) × (es : List E) × Going ways.0 (use_of ways.1 view) (ways.1 w) shown (readers_of ways.1 vs)
-      (Carrying ways.2 t (grown_at t (g.0 (n, t.word)).1 es) (use_of ways.1 view) (ways.1 w) shown
-      (Meets holds ways (g.0 (n, t.word)).0 (grown_at t (g.0 (n, t.word)).1 es) (after id view vs w)))
-      × told t.entries es (g.1 (n, t.word)) w
 
 module _ {X : Type 0} where
   -- the parties without their numbers
   abbrev all : List (Numbered X) → List X
   all vs = map (λ v. v.0) vs
 
-  sums : (g : X → ℕ) (vs : List (Numbered X)) → sum_by g (all vs) ≡ sum_by (λ v. g v.0) vs
-  sums g [] = refl
-  sums g (v ∷ vs) = omega (arith, sum_by-cons g v.0 (all vs), sums g vs, sum_by-cons (λ w. g w.0) v vs)
-
   stands : (id : ℕ) (view : Option (Numbered X)) (vs : List (Numbered X)) → Stands id view vs → Stands id (what view) (all vs)
-  stands id None vs at = tt
-  stands id (Some u) vs at = at_map (λ (v : Numbered X). v.0) vs id u at
+  stands id view vs at = grind (arith, at_map (λ (v : Numbered X). v.0) vs id)
 
   same_after : (id : ℕ) (view : Option (Numbered X)) (vs : List (Numbered X)) (w : Numbered X) → all (after id view vs w) ≡ after id (what view) (all vs) w.0
-  same_after id None vs w = map-append (λ (v : Numbered X). v.0) vs (w ∷ [])
-  same_after id (Some u) vs w = map-set (λ (v : Numbered X). v.0) vs id w
+  same_after id view vs w = grind (arith, map-append (λ (v : Numbered X). v.0), map-set (λ (v : Numbered X). v.0))
 
   pub same_use : (f : X → Use) (view : Option (Numbered X)) → use_of f (what view) ≡ use_of (λ v. f v.0) view
   same_use f view = grind arith
 
   module _ (f : X → Use) (vs : List (Numbered X)) where
     pub as_many_read : readers_of f (all vs) ≡ readers_of (λ v. f v.0) vs
-    as_many_read = sums (λ x. reading (f x)) vs
+    as_many_read = fold-map (λ s x. s + reading (f x)) (λ v. v.0) 0 vs
 
     same_limits : {Y : Type 0} (way : Way Y)
         → Limits way (readers_of f (all vs)) (writers_of f (all vs)) ≡ Limits way (readers_of (λ v. f v.0) vs) (writers_of (λ v. f v.0) vs)
-    same_limits way = rw (as_many_read, sums (λ x. writing (f x)) vs)
+    same_limits way = rw (as_many_read, fold-map (λ s x. s + writing (f x)) (λ (v : Numbered X). v.0) 0 vs)
 
 module _ {W V C L A X S : Type 0} (m : Machine W V C L A) (seat_of : X → Seat C L) (words_of : W → ℕ × S) (holds : ℕ → S → List X → Type 0) (name : ℕ) (Y : Type 0) (way : Way Y) (f : X → Use) (know : Knowledge (Trace (Entry C V) S) Y) where
   abbrev Of : ℕ → Trace (Entry C V) S → List (Numbered X) → Type 0
@@ -84,7 +62,8 @@ module _ {W V C L A X S : Type 0} (m : Machine W V C L A) (seat_of : X → Seat 
   pub traces : (view : Option (Numbered X)) (shown : Option Y) (g : OnWord S) (then : ℕ → X → Type 0) (says : Says V C A X)
       → AreMoves m seat_of words_of (what view) g then says
       → ((own : List (Move C V)) (outs : List (Outcome A V)) (n : ℕ) (u : X) → says own outs n u → Owing (use_of f (what view)) (f u) shown own)
-      → AllowsTo (what view) shown g holds ways then → TracesTo view shown g Of own_ways (Tells m seat_of words_of says view)
+      → AllowsTo holds ways (what view) shown g then
+      → TracesTo Of own_ways view shown g (Tells m seat_of words_of says view)
   traces view shown g then says moves owes allows id n t vs meets at small =
       let (u, going, so) = allows id n t.word (all vs) (meets.0.1, rw (same_limits f vs way) meets.1) (stands id view vs at) small in
       let (p, own, outs, (run, none, mine, said)) = owns.step m seat_of words_of view g then says moves id (n, t.word) t.entries vs meets.0.2 at u so in
@@ -108,7 +87,8 @@ module _ {W V C L A X S : Type 0} (m : Machine W V C L A) (seat_of : X → Seat 
     (less : (own : List (Move C V)) (outs : List (Outcome A V)) (n : ℕ) (u : X) → says own outs n u → says' own outs n u) where
   pub tells_less : {Y : Type 0} (holds : ℕ → Trace (Entry C V) S → List (Numbered X) → Type 0)
       (used : Ways Y (Numbered X) (Trace (Entry C V) S)) (shown : Option Y) (g : OnWord S)
-      → TracesTo view shown g holds used (Tells m seat_of words_of says view) → TracesTo view shown g holds used (Tells m seat_of words_of says' view)
+      → TracesTo holds used view shown g (Tells m seat_of words_of says view)
+      → TracesTo holds used view shown g (Tells m seat_of words_of says' view)
   tells_less holds used shown g tells id n t vs meets at small =
       let (w, es, going, (own, outs, is, mark, none, mine, said)) = tells id n t vs meets at small in
       (w, es, going, (own, outs, is, mark, none, mine, less own outs (g.1 (n, t.word)) w.0 said))

@@ -1,6 +1,6 @@
 -- The raw cell as plain data: its parties, how each may use the value, and what a step must show of the rule.
 use Rattle.std.specs.Prelude.{◌≡◌, ℕ, zero, suc, ◌+◌, ◌*◌, ◌<◌, ◌≤◌, Bool, true, false, List, [], ◌∷◌, ◌++◌, Option, Some, None, slice_set, sum_by}
-use Rattle.std.specs.Option.{IfSome}
+use Rattle.std.specs.Option.{IfSome, MatchOption}
 use mathlib.Core.Option.{some}
 use lib.ListN.{get_elem?}
 
@@ -30,19 +30,16 @@ Ways X V S = Way X × (V → Use) × Knowledge S X
 
 -- counts 1 for a party that reads
 abbrev pub reading : Use → ℕ
-reading reads = 1
-reading _ = 0
+reading u = elim u [ reads ↦ 1 | _ ↦ 0 ]
 
 -- counts 1 for a party that writes
 abbrev pub writing : Use → ℕ
-writing writes = 1
-writing _ = 0
+writing u = elim u [ writes ↦ 1 | _ ↦ 0 ]
 
 module _ {V : Type 0} (f : V → Use) where
   -- the use of a permit's party; a permit that has taken no step has no view, and does not use the value
   abbrev pub use_of : Option V → Use
-  use_of None = off
-  use_of (Some v) = f v
+  use_of view = elim view [ None ↦ off | Some v ↦ f v ]
 
   abbrev pub readers_of : List V → ℕ
   readers_of vs = sum_by (λ v. reading (f v)) vs
@@ -77,28 +74,23 @@ module _ {X : Type 0} where
 
   -- the way is `fixes`: a party that reads the value may read it for ever
   abbrev pub Fixes : Way X → Type 0
-  Fixes (fixes fact) = Unit {0}
-  Fixes _ = ⊥
+  Fixes way = elim way [ fixes fact ↦ Unit {0} | _ ↦ ⊥ ]
 
   -- in the way `fixes` a new cell may have these views, of parties that have no permit; in the other ways it has none
   abbrev pub IsNew : {V : Type 0} → Way X → List V → Type 0
-  IsNew (fixes fact) vs = Unit {0}
-  IsNew _ vs = vs ≡ []
+  IsNew way vs = elim way [ fixes fact ↦ Unit {0} | _ ↦ vs ≡ [] ]
 
   -- several parties may read the value at once
   abbrev pub IsShared : Way X → Type 0
-  IsShared alone = ⊥
-  IsShared _ = Unit {0}
+  IsShared way = elim way [ alone ↦ ⊥ | _ ↦ Unit {0} ]
 
   -- in this way any value may replace one that nobody uses
   abbrev pub Frees : Way X → Type 0
-  Frees (fixes fact) = (read : Bool) (x : X) → fact read x
-  Frees _ = Unit {0}
+  Frees way = elim way [ fixes fact ↦ (read : Bool) (x : X) → fact read x | _ ↦ Unit {0} ]
 
   -- the known fact, if there is one, holds of the value x and the `Second` m
   abbrev pub IsKnown : {S : Type 0} → Knowledge S X → S → X → Type 0
-  IsKnown no_fact m x = Unit {0}
-  IsKnown (knows φ) m x = φ m x
+  IsKnown k m x = elim k [ no_fact ↦ Unit {0} | knows φ ↦ φ m x ]
 
   -- A holds; if there is a known fact and nobody writes, that fact holds too
   abbrev pub Knowing : {S : Type 0} → Knowledge S X → S → ℕ → X → Type 0 → Type 0
@@ -107,8 +99,7 @@ module _ {X : Type 0} where
 
   -- A holds; if there is a known fact, that fact holds of every value
   abbrev pub Freeing : {S : Type 0} → Knowledge S X → Type 0 → Type 0
-  Freeing no_fact A = A
-  Freeing {S} (knows φ) A = ((m : S) (x : X) → φ m x) × A
+  Freeing {S} k A = elim k [ no_fact ↦ A | knows φ ↦ ((m : S) (x : X) → φ m x) × A ]
 
   -- What a step must show if the known fact is φ before it and ψ after it. A party that stops writing shows ψ of the
   -- value that it leaves. A party that writes on shows nothing. Any other party shows that φ implies ψ.
@@ -128,13 +119,11 @@ module _ {X : Type 0} where
 
   -- what a step must show of the known fact, if the step changes the `Second` from m to m'
   abbrev pub Owed : {S : Type 0} → Knowledge S X → S → S → Use → Use → Option X → Type 0
-  Owed no_fact m m' u v shown = Unit {0}
-  Owed (knows φ) m m' u v shown = Carries (φ m) (φ m') u v shown
+  Owed k m m' u v shown = elim k [ no_fact ↦ Unit {0} | knows φ ↦ Carries (φ m) (φ m') u v shown ]
 
   -- A holds; if there is a known fact, the step from m to m' also shows what `Carries` asks
   abbrev pub Carrying : {S : Type 0} → Knowledge S X → S → S → Use → Use → Option X → Type 0 → Type 0
-  Carrying no_fact m m' u v shown A = A
-  Carrying (knows φ) m m' u v shown A = Carries (φ m) (φ m') u v shown × A
+  Carrying k m m' u v shown A = elim k [ no_fact ↦ A | knows φ ↦ Carries (φ m) (φ m') u v shown × A ]
 
   -- What a step must show in the way `fixes`, while r parties read. A party that begins to read shows that somebody reads already. A party
   -- that stops writing shows the fact of the value that it leaves.
@@ -151,8 +140,7 @@ module _ {X : Type 0} where
 
   -- a party that was shown the value `before` is now shown the same value; a party that was shown none is now shown some value
   abbrev pub SameValue : Option X → Option X → Type 0
-  SameValue None after = (x : X) × (after ≡ Some x)
-  SameValue (Some x) after = after ≡ Some x
+  SameValue before after = elim before [ None ↦ (x : X) × (after ≡ Some x) | Some x ↦ after ≡ Some x ]
 
   abbrev pub Shows : Use → Option X → Option X → Type 0
   Shows off before after = after ≡ None
@@ -172,6 +160,32 @@ module _ {X : Type 0} where
   abbrev pub Keeps : {V S : Type 0} → Ways X V S → Option V → Option V → Option X → Option X → Type 0
   Keeps ways view new before after = Preserves ways.0 (use_of ways.1 view) (use_of ways.1 new) before after
 
+module _ {V : Type 0} where
+  -- the party has this view, or has no view yet
+  abbrev pub Stands : ℕ → Option V → List V → Type 0
+  Stands id view vs = IfSome view (λ v. get_elem? vs id ≡ some v)
+
+  -- the views after the party got a new one
+  abbrev pub after : ℕ → Option V → List V → V → List V
+  after id view vs w = elim view [ None ↦ vs ++ w ∷ [] | Some v ↦ slice_set vs id w ]
+
+  -- the party may leave: it does not use the value, and the rule also holds without its view
+  abbrev pub Rests : {S : Type 0} → (ℕ → S → List V → Type 0) → (V → Use) → Option V → Type 0
+  Rests {S} holds f view = IfSome view (λ v. (f v ≡ off)
+      × ((n : ℕ) (m : S) (before behind : List V) → holds n m (before ++ v ∷ behind) → holds n m (before ++ behind)))
+
+-- a step on one of the words of a cell: the words after it, and the number that it finds
+abbrev pub OnWord : Type 0 → Type 0
+OnWord S = (ℕ × S → ℕ × S) × (ℕ × S → ℕ)
+
+-- a step that applies f to the first word
+abbrev pub by_first : {S : Type 0} → (ℕ → ℕ) → OnWord S
+by_first f = (λ s. (f s.0, s.1), λ s. s.0)
+
+-- a step that applies f to the second word
+abbrev pub by_second : (ℕ → ℕ) → OnWord ℕ
+by_second f = (λ s. (s.0, f s.1), λ s. s.1)
+
 module _ {X V S : Type 0} (holds : ℕ → S → List V → Type 0) (ways : Ways X V S) where
   -- the rule holds of the words and the views, and the uses are within the limits
   abbrev pub Meets : ℕ → S → List V → Type 0
@@ -186,50 +200,28 @@ module _ {X V S : Type 0} (holds : ℕ → S → List V → Type 0) (ways : Ways
   abbrev pub Opens : ℕ → S → X → Type 0
   Opens n m x = (vs : List V) × IsNew ways.0 vs × Meets n m vs × Knowing ways.2 m (writers_of ways.1 vs) x (Fixed ways.0 (readers_of ways.1 vs) (writers_of ways.1 vs) x)
 
+  -- What a step on a word must show. `shown` is the value that the step's party is shown, if any. Whatever the words
+  -- and the views are, the party has a next view that keeps the rule.
+  abbrev pub AllowsTo : Option V → Option X → OnWord S → (ℕ → V → Type 0) → Type 0
+  AllowsTo view shown g then = (id n : ℕ) (m : S) (vs : List V) → let s = g.0 (n, m) in let found = g.1 (n, m) in
+      Meets n m vs → Stands id view vs → found < words
+      → (w : V) × Going ways.0 (use_of ways.1 view) (ways.1 w) shown (readers_of ways.1 vs)
+      (Meets s.0 s.1 (after id view vs w)) × then found w
+
+  -- a step that applies f to the first word
+  abbrev pub AllowsAt : Option V → Option X → (ℕ → ℕ) → (ℕ → V → Type 0) → Type 0
+  AllowsAt view shown f then = AllowsTo view shown (by_first f) then
+
+  -- the same if the party is shown no value, as in the ways `alone` and `lends`
+  abbrev pub Allows : Option V → (ℕ → ℕ) → (ℕ → V → Type 0) → Type 0
+  Allows view f then = AllowsAt view None f then
+
 -- Where the rule held under the old key it holds under the new one. Each view uses the value as under the old key.
 -- Several parties may share the value only if they might do so under the old key.
 module _ {X V S : Type 0} (holds : ℕ → S → List V → Type 0) (ways : Ways X V S) (holds' : ℕ → S → List V → Type 0) (ways' : Ways X V S) where
   abbrev pub Lends : Type 0
   Lends = (IsShared ways'.0 → IsShared ways.0) × ((v : V) → ways'.1 v ≡ ways.1 v) × ((n : ℕ) (m : S) (x : X) → Starts holds ways n m x → Starts holds' ways' n m x)
 
-module _ {V : Type 0} where
-  -- the party has this view, or has no view yet
-  abbrev pub Stands : ℕ → Option V → List V → Type 0
-  Stands id None vs = Unit {0}
-  Stands id (Some v) vs = get_elem? vs id ≡ some v
-
-  -- the views after the party got a new one
-  abbrev pub after : ℕ → Option V → List V → V → List V
-  after id None vs w = vs ++ w ∷ []
-  after id (Some v) vs w = slice_set vs id w
-
-  -- the party may leave: it does not use the value, and the rule also holds without its view
-  abbrev pub Rests : {S : Type 0} → (ℕ → S → List V → Type 0) → (V → Use) → Option V → Type 0
-  Rests holds f None = Unit {0}
-  Rests {S} holds f (Some v) = (f v ≡ off) × ((n : ℕ) (m : S) (before behind : List V) → holds n m (before ++ v ∷ behind) → holds n m (before ++ behind))
-
--- What a step that applies f to a word must show. `shown` is the value that the step's party is shown, if any.
--- Whatever the words and the views are, the party has a next view that keeps the rule.
-module _ {X V S : Type 0} (holds : ℕ → S → List V → Type 0) (ways : Ways X V S) (view : Option V) where
-  -- a step on the first word
-  abbrev pub AllowsAt : Option X → (ℕ → ℕ) → (ℕ → V → Type 0) → Type 0
-  AllowsAt shown f then = (id n : ℕ) (m : S) (vs : List V) → Meets holds ways n m vs → Stands id view vs → n < words
-      → (w : V) × Going ways.0 (use_of ways.1 view) (ways.1 w) shown (readers_of ways.1 vs) (Meets holds ways (f n) m (after id view vs w)) × then n w
-
-  -- the same if the party is shown no value, as in the ways `alone` and `lends`
-  abbrev pub Allows : (ℕ → ℕ) → (ℕ → V → Type 0) → Type 0
-  Allows f then = AllowsAt None f then
-
--- a step on the second word, if there is one
-module _ {X V : Type 0} (holds : ℕ → ℕ → List V → Type 0) (ways : Ways X V ℕ) (view : Option V) where
-  abbrev pub AllowsSecondAt : Option X → (ℕ → ℕ) → (ℕ → V → Type 0) → Type 0
-  AllowsSecondAt shown f then = (id n m : ℕ) (vs : List V) → Meets holds ways n m vs → Stands id view vs → m < words
-      → (w : V) × Going ways.0 (use_of ways.1 view) (ways.1 w) shown (readers_of ways.1 vs) (Meets holds ways n (f m) (after id view vs w)) × then m w
-
-  abbrev pub AllowsSecond : (ℕ → ℕ) → (ℕ → V → Type 0) → Type 0
-  AllowsSecond f then = AllowsSecondAt None f then
-
 -- the party now has a view of which P holds
 abbrev pub Moved : {V : Type 0} → (V → Type 0) → Option V → Type 0
-Moved P None = ⊥
-Moved P (Some v) = P v
+Moved P view = MatchOption view ⊥ P

@@ -10,31 +10,15 @@ use Rattle.spin_model.specs.declared.schedule.Outcome.{Outcome}
 use Rattle.spin_model.specs.declared.schedule.Outcome.TheVariants.{Skipped}
 use Rattle.spin_model.specs.Machines.{Machine}
 use Rattle.spin_model.specs.Schedules.{State, Entry, after, at_first, happens}
+pub use Rattle.spin_core.specs.Cell.{OnWord, by_first, by_second}
 
 -- the move begins a call, is a step of one, or writes a value
 abbrev pub is_of_call : {C V : Type 0} → Move C V → Bool
-is_of_call (Begin c) = true
-is_of_call Step = true
-is_of_call Weak = true
-is_of_call (Write v) = true
-is_of_call _ = false
+is_of_call m = elim m [ Begin c ↦ true | Step ↦ true | Weak ↦ true | Write v ↦ true | _ ↦ false ]
 
 -- the move was not skipped
 abbrev pub is_played : {V A : Type 0} → Outcome A V → Bool
-is_played Skipped = false
-is_played _ = true
-
--- a step on one of the words of a lock: the words after it, and the number that it finds
-abbrev pub OnWord : Type 0 → Type 0
-OnWord S = (ℕ × S → ℕ × S) × (ℕ × S → ℕ)
-
--- a step that applies f to the first word
-abbrev pub by_first : {S : Type 0} → (ℕ → ℕ) → OnWord S
-by_first f = (λ s. (f s.0, s.1), λ s. s.0)
-
--- a step that applies f to the second word
-abbrev pub by_second : (ℕ → ℕ) → OnWord ℕ
-by_second f = (λ s. (s.0, f s.1), λ s. s.1)
+is_played o = elim o [ Skipped ↦ false | _ ↦ true ]
 
 module _ {W V C L A : Type 0} (m : Machine W V C L A) where
   -- the outcomes of a schedule's entries
@@ -54,8 +38,7 @@ module _ {W V C L A : Type 0} (m : Machine W V C L A) where
   module _ {X S : Type 0} (seat_of : X → Seat C L) (words_of : W → ℕ × S) where
     -- the party's seat in the model; a party that has left is idle
     abbrev pub sits : Option X → Seat C L
-    sits None = Idle
-    sits (Some v) = seat_of v
+    sits view = elim view [ None ↦ Idle | Some v ↦ seat_of v ]
 
     -- the schedule leads to these words and this value, with each party in its seat; all further seats are idle
     abbrev pub LeadsTo : List (Entry C V) → W → Option V → List (Option X) → Type 0

@@ -4,7 +4,7 @@ use Rattle.std.specs.Prelude.{◌≡◌, ◌⊎◌, ℕ, ◌<◌, List, [], ◌+
 use mathlib.Core.List.{IsPrefix}
 use Rattle.spin_core.specs.declared.trace.Trace.{Trace}
 use Rattle.spin_core.specs.declared.trace.Watch.{Watch}
-use Rattle.spin_core.specs.Cell.{Use, Knowledge, no_fact, knows, Ways, Going, Carrying, Learns, Meets, Stands, after, use_of, readers_of, words}
+use Rattle.spin_core.specs.Cell.{Use, Knowledge, no_fact, knows, Ways, Going, Carrying, Learns, Meets, Stands, OnWord, by_first, by_second, after, use_of, readers_of, words}
 
 module _ {E S : Type 0} where
   -- the trace with these entries appended
@@ -40,19 +40,23 @@ module _ {X V E S : Type 0} (holds : ℕ → Trace E S → List V → Type 0) (w
   abbrev pub MayKnow : Watch E → Type 0
   MayKnow seen = (seen.entries ≡ []) ⊎ Named seen.name
 
-  -- What a step that applies f to the first word must show. Whatever the words, the trace and the views are, there
-  -- are a next view for the party and entries to append that keep the rule.
-  abbrev pub Traces : Option V → Option X → (ℕ → ℕ) → (List E → List E → ℕ → V → Type 0) → Type 0
-  Traces view shown f told = (id n : ℕ) (t : Trace E S) (vs : List V) → Meets holds ways n t vs → Stands id view vs → n < words
+  -- What a step on a word must show. Whatever the words, the trace and the views are, there are a next view for the
+  -- party and entries to append that keep the rule.
+  abbrev pub TracesTo : Option V → Option X → OnWord S → (List E → List E → ℕ → V → Type 0) → Type 0
+  TracesTo view shown g told = (id n : ℕ) (t : Trace E S) (vs : List V) → let s = g.0 (n, t.word) in
+      let found = g.1 (n, t.word) in Meets holds ways n t vs → Stands id view vs → found < words
       → (w : V) × (es : List E) × Going ways.0 (use_of ways.1 view) (ways.1 w) shown (readers_of ways.1 vs)
-      (Carrying ways.2 t (grown t es) (use_of ways.1 view) (ways.1 w) shown (Meets holds ways (f n) (grown t es) (after id view vs w))) × told t.entries es n w
+      (Carrying ways.2 t (grown_at t s.1 es) (use_of ways.1 view) (ways.1 w) shown
+      (Meets holds ways s.0 (grown_at t s.1 es) (after id view vs w))) × told t.entries es found w
 
--- the same for a step on the second word
+  -- a step that applies f to the first word
+  abbrev pub Traces : Option V → Option X → (ℕ → ℕ) → (List E → List E → ℕ → V → Type 0) → Type 0
+  Traces view shown f told = TracesTo view shown (by_first f) told
+
+-- a step that applies f to the second word
 module _ {X V E : Type 0} (holds : ℕ → Trace E ℕ → List V → Type 0) (ways : Ways X V (Trace E ℕ)) where
   abbrev pub TracesSecond : Option V → Option X → (ℕ → ℕ) → (List E → List E → ℕ → V → Type 0) → Type 0
-  TracesSecond view shown f told = (id n : ℕ) (t : Trace E ℕ) (vs : List V) → Meets holds ways n t vs → Stands id view vs → t.word < words
-      → (w : V) × (es : List E) × Going ways.0 (use_of ways.1 view) (ways.1 w) shown (readers_of ways.1 vs)
-      (Carrying ways.2 t (grown_at t (f t.word) es) (use_of ways.1 view) (ways.1 w) shown (Meets holds ways n (grown_at t (f t.word) es) (after id view vs w))) × told t.entries es t.word w
+  TracesSecond view shown f told = TracesTo holds ways view shown (by_second f) told
 
 -- A lock that does not use its trace: its rule ignores the trace, and its steps append nothing.
 module _ {V E : Type 0} where

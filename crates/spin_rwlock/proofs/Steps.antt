@@ -31,7 +31,7 @@ use Rattle.spin_core.specs.declared.trace.Trace.{Trace}
 use Rattle.spin_step.specs.Orders.{IsInOrder}
 use Rattle.spin_step.proofs.Sums.{by_kinds, all_kinds, sum-turned, length-with_kind}
 use Rattle.spin_step.proofs.Holders.{is_holder-from_entries}
-use Rattle.spin_core.proofs.Leaving.{rw_word-up, no_word-up}
+use Rattle.spin_core.proofs.Leaving.{sum-up, no_word-up}
 use Rattle.spin_core.proofs.Owners.{OfReaders, readers_or_writer}
 use Rattle.spin_core.proofs.Plays as plays
 use Rattle.spin_core.proofs.Plays.{Lock, ways, allows, allows_among, by_step, by_none, Weighs, less_by, looks_at, gets_at, exchanges_at, leaves_at, begins}
@@ -65,7 +65,7 @@ rw-lock = record {
   first = rw_word;
   second = no_word;
   fits = readers_or_writer part kind reader_limit (omega arith) (omega arith);
-  names_nobody = (rw_word-up, no_word-up);
+  names_nobody = (λ k s. sum-up k weight s.holders, no_word-up);
 }
 
 -- The word and the holders

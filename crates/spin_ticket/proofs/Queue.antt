@@ -15,12 +15,12 @@ use Rattle.spin_core.specs.Views.{idle, entries_of, queues}
 use Rattle.spin_core.proofs.Views.{part_before}
 use Rattle.spin_core.specs.declared.trace.Trace.{Trace}
 use Rattle.spin_core.specs.declared.trace.Watch.{Watch}
-use Rattle.spin_core.proofs.Leaving.{next_word-up, serving_word-up}
+use Rattle.spin_core.proofs.Leaving.{serving_word-up}
 use Rattle.spin_core.proofs.Mutexes as mutexes
 use Rattle.spin_core.proofs.Mutexes.{Mutex, as_new, steps}
 use Rattle.spin_core.proofs.Owners.{OfTickets, one_ticket}
 use Rattle.spin_core.proofs.Plays as plays
-use Rattle.spin_core.proofs.Plays.{Lock as CellLock, ways, Reaches, allows, allows_second, by_step, by_grant, by_none, by_exchange, allows_among}
+use Rattle.spin_core.proofs.Plays.{Lock as CellLock, ways, Reaches, allows, allows_on, by_step, by_grant, by_none, by_exchange, allows_among}
 use Rattle.spin_core.proofs.Ties as tie
 use Rattle.spin_core.specs.Run.{by_first, by_second}
 use Rattle.spin_core.specs.Values.{Leaves}
@@ -53,7 +53,7 @@ queue = record {
   first = next_word;
   second = serving_word;
   fits = one_ticket part kind 0;
-  names_nobody = (next_word-up, serving_word-up);
+  names_nobody = (λ k s. refl, serving_word-up);
 }
 
 -- the party gets the view that `to` gives for the number found
@@ -194,7 +194,8 @@ module _ {T : Type 0} (key : Key T) where
       subst (λ k. KeepsSecond view shown (λ m. m) (step_by true Lock (answers_turn k) (entered k))) (sym (ap number_of is))
       (mutexes.in_call (mutex key) view shown (by_second (λ k. k)) (ap (use_of use_of_view) is) true Lock (answers_turn number) (entered number)
       (rw is (await_moves key number))
-      (rw is (allows_second queue (Some (Waiting number)) (λ k. k) (Comes (entered number)) (λ s p room order has.
+      (rw is (allows_on queue (Some (Waiting number)) (by_second (λ k. k)) (Comes (entered number))
+      (λ s p vs room order among has small.
       let turn = enters_in_turn s p (serving_word s) number order.numbered refl (ap (λ e. e.tickets) has.0) in
       (entered number (serving_word s), enters_if number s p (serving_word s == number) turn, refl)))))
 
@@ -214,7 +215,8 @@ module _ {T : Type 0} (key : Key T) where
       subst (λ k. KeepsSecond view shown (λ m. m) (step_by true TryLock (answers_free k) (freed k))) (sym (ap number_of is))
       (mutexes.in_call (mutex key) view shown (by_second (λ k. k)) (ap (use_of use_of_view) is) true TryLock (answers_free next) (freed next)
       (rw is (try_look_moves key next))
-      (rw is (allows_second queue (Some (LoadedNext next)) (λ k. k) (Comes (freed next)) (λ s p room order has.
+      (rw is (allows_on queue (Some (LoadedNext next)) (by_second (λ k. k)) (Comes (freed next))
+      (λ s p vs room order among has small.
       (freed next (serving_word s), frees_if next s p (is_free next (serving_word s)) refl, refl)))))
 
   -- the exchange of `try_lock`: if it succeeds, the next number was the served one, so nobody was in the queue
@@ -237,7 +239,7 @@ module _ {T : Type 0} (key : Key T) where
   looks view shown out =
       let v : Option View = what view in
       mutexes.begins (mutex key) view shown (by_second (λ k. k)) out IsLocked goes_on LoadedServing (look_moves key)
-      (allows_second queue v (λ k. k) (Comes LoadedServing) (λ s p room order has.
+      (allows_on queue v (by_second (λ k. k)) (Comes LoadedServing) (λ s p vs room order among has small.
       let k = serving_word s in (LoadedServing k, by_none queue v (LoadedServing k) s p (nothing v out p) (omega arith), refl)))
 
   pub compares : (view : Option (Numbered View)) (shown : Option T) (served : ℕ) → what view ≡ Some (LoadedServing served)
@@ -259,7 +261,8 @@ module _ {T : Type 0} (key : Key T) where
       (mutexes.keeps (mutex key) view shown (by_second (λ k. k)) (Finds number) (finds number)
       (λ own outs n u said. subst (λ (z : Use × Use). Leaves z.0 z.1 shown own)
       (λ i. (sym (ap (use_of use_of_view) is) i, sym (ap use_of_view said.0.2) i)) tt) (rw is (find_moves key number))
-      (rw is (allows_second queue (Some (Entered number)) (λ k. k) (Finds number) (λ s p room order has.
+      (rw is (allows_on queue (Some (Entered number)) (by_second (λ k. k)) (Finds number)
+      (λ s p vs room order among has small.
       let served = entered_is_served s p number order.numbered order.exclusive.one_entered (ap (λ e. e.tickets) has.0) in
       (Entered number, by_none queue (Some (Entered number)) (Entered number) s p refl tt, (served.1, omega (arith, order.within_limit, order.numbered.0, first-length p true s.tickets served.0, served.1), refl))))))
 
@@ -270,7 +273,7 @@ module _ {T : Type 0} (key : Key T) where
       let from : Option View = Some (Entered number) in
       mutexes.releases (mutex key) view shown (by_second (λ _. next)) x Release Done (ap (use_of use_of_view) is) here (Comes gone)
       (rw (is, more) (serve_moves key x number))
-      (rw is (allows_second queue from (λ _. next) (Comes gone) (λ s p room order has.
+      (rw is (allows_on queue from (by_second (λ _. next)) (Comes gone) (λ s p vs room order among has small.
       let first = entered_is_served s p number order.numbered order.exclusive.one_entered (ap (λ e. e.tickets) has.0) in
       let gives = subst (λ n. Gives s (serves p) serving_word n) (sym more) (ticket_serve-gives s p number order.numbered.0 first.1) in
       (Idle, by_step queue from Idle s (serves p) s.next next first.0 refl tt refl (gives first.0), refl))))
