@@ -15,7 +15,7 @@ use Rattle.spin_core.proofs.Passes as passes
 use Rattle.spin_core.proofs.Spots as spots
 use Rattle.spin_core.proofs.Plays.{Lock, Holds, idle_rests}
 use Rattle.spin_core.proofs.Ties as tie
-use Rattle.spin_core.proofs.Values.{steps_leave, write_leaves, owed, found, gave, wrote}
+use Rattle.spin_core.proofs.Values.{step_leaves, write_leaves, owed, found, gave, wrote}
 use Rattle.spin_model.specs.declared.answer.Answer.{Answer}
 use Rattle.spin_model.specs.declared.place.Seat.{Seat}
 use Rattle.spin_model.specs.declared.place.Seat.TheVariants.{Idle}
@@ -96,7 +96,7 @@ module _ {W V C L X S : Type 0} (lock : Mutex W V C L X S) where
   -- a step of a call, by a party that does not use the value
   pub steps : (view : Option X) (shown : Option V) → use_of uses view ≡ off → (goes_on : Bool) (c : C) (end : ℕ → Ending V) (to : ℕ → X)
       → Leaving view shown (step_by goes_on c end to)
-  steps view shown unused goes_on c end to own outs n u said = steps_leave (use_of uses view) (uses u) shown unused goes_on c (end n) own outs said.1
+  steps view shown unused goes_on c end to own outs n u said = rw unused (step_leaves goes_on c (end n) own outs said.1)
 
   -- The holder writes the value that it leaves, and is out afterwards.
 

@@ -26,10 +26,6 @@ module _ {C V : Type 0} where
   pub write_leaves : {A : Type 0} (x : V) (goes_on : Bool) (c : C) (end : Outcome A V) (own : List (Move C V)) (outs : List (Outcome A V)) → Writes x (IsStep goes_on c end) own outs → (v : V) → left own v ≡ x
   write_leaves x goes_on c end own outs (rest, comes, is, came, step) v = rw is (step_leaves goes_on c end rest comes step x)
 
-  -- so the moves of a step of a call are as `Leaves` says of a party that did not use the value before
-  pub steps_leave : {A : Type 0} (u u' : Use) (shown : Option V) → u ≡ off → (goes_on : Bool) (c : C) (end : Outcome A V) (own : List (Move C V)) (outs : List (Outcome A V)) → IsStep goes_on c end own outs → Leaves u u' shown own
-  steps_leave u u' shown is goes_on c end own outs step = rw is (step_leaves goes_on c end own outs step)
-
   module _ (opening : Opening V) where
     module _ {S : Type 0} (own : List (Move C V)) (t : Trace (Entry C V) S) (word : S) (p : ℕ) where
       -- what moves must show, if they write as `Leaves` says
