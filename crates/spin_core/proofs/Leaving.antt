@@ -90,10 +90,8 @@ in_order-up : (k : ℕ) (s : Plain) → IsInOrder s → IsInOrder (moved_up k s)
 in_order-up k s order = record {
   exclusive = exclusive-like s (moved_up k s) (λ f. sum-up k f s.holders)
       (grind (arith, none_entered-up, order.exclusive.one_entered)) order.exclusive;
-  numbered = (
-    omega (arith, length-map s.tickets (ticket_up k), order.numbered.0),
-    rw (serving_word-up k s) (numbered-up k (serving_word s) s.tickets order.numbered.1),
-  );
+  numbered = let numbers = numbered-up k (serving_word s) s.tickets order.numbered.1 in
+      (omega (arith, length-map s.tickets (ticket_up k), order.numbered.0), rw (serving_word-up k s) numbers);
   within_limit = order.within_limit;
   holders_fit = omega (arith, length-map s.holders (holder_up k), order.holders_fit);
   starvers_fit = omega (arith, length-map s.starvers (up k), order.starvers_fit);
