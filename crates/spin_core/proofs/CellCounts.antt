@@ -9,18 +9,15 @@ use lib.ListN.{get_elem?}
 use Rattle.spin_core.specs.Cell.{Stands, after}
 
 -- the party with the view v is at place id, with others before it and behind it
-abbrev pub Around : {X : Type 0} → ℕ → X → List X → Type 0
-Around id v vs = (before : List _) × (behind : List _) × (vs ≡ before ++ v ∷ behind) × (id ≡ length before)
-
-pub around : {X : Type 0} (vs : List X) (id : ℕ) (v : X) → get_elem? vs id ≡ some v → Around id v vs
+pub around : {X : Type 0} (vs : List X) (id : ℕ) (v : X) → get_elem? vs id ≡ some v
+    → (before : List X) × (behind : List X) × (vs ≡ before ++ v ∷ behind) × (id ≡ length before)
 around [] id v at = absurd (some-ne-none v (sym at))
 around (x ∷ xs) zero v at = ([], xs, ap (λ y. y ∷ xs) (some-injective x v at), refl)
 around (x ∷ xs) (suc id) v at = let r = around xs id v at in (x ∷ r.0, r.1, ap (λ ys. x ∷ ys) r.2, ap suc r.3)
 
 -- what one party adds to a sum
 abbrev pub part_of : {V : Type 0} → (V → ℕ) → Option V → ℕ
-part_of g None = 0
-part_of g (Some v) = g v
+part_of g view = elim view [ None ↦ 0 | Some v ↦ g v ]
 
 module _ {V : Type 0} (g : V → ℕ) where
   pub none : ((v : V) → g v ≡ 0) → (vs : List V) → sum_by g vs ≡ 0
@@ -31,10 +28,8 @@ module _ {V : Type 0} (g : V → ℕ) where
   without before behind v = omega (arith, sum_by-append g before (v ∷ behind), sum_by-append g before behind, sum_by-cons g v behind)
 
   -- the sum is the party's part plus a rest, which does not change when the party gets another view
-  abbrev pub Splits : ℕ → Option V → List V → Type 0
-  Splits id view vs = (k : ℕ) × (sum_by g vs ≡ k + part_of g view) × ((w : V) → sum_by g (after id view vs w) ≡ k + g w)
-
-  pub splits : (id : ℕ) (view : Option V) (vs : List V) → Stands id view vs → Splits id view vs
+  pub splits : (id : ℕ) (view : Option V) (vs : List V) → Stands id view vs
+      → (k : ℕ) × (sum_by g vs ≡ k + part_of g view) × ((w : V) → sum_by g (after id view vs w) ≡ k + g w)
   splits id None vs h = (sum_by g vs, omega arith, λ w. omega (arith, sum_by_push g vs w))
   splits id (Some v) vs h =
       let (us, ws, is, at) = around vs id v h in let now : (w : V) → after id (Some v) vs w ≡ us ++ w ∷ ws = λ w. cc (set-append_seam us v ws w) in

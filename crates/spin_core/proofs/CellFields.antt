@@ -121,18 +121,6 @@ module _ {M : Type 1} {𝓤 : Ura M} (𝓛 : Logic 𝓤) (m ms : Member) (V Y K 
   At x = part_at R full_share x b (o + offset R)
 
   module _ (L : Lawful 𝓛 R) (LS : Lawful 𝓛 S) (P : Fml) (to : ‵ P ⊩ ‵ Opened) (from : (k : Knows) (s : All) → ‵ (Fields s) ⊛ ‵ (fact (Rule s)) ⊩ ‵ P) where
-    abbrev Mark : Fml
-    Mark = part_at (row_of pm) full_share tt b (o + 0)
-
-    abbrev First : ℕ → Fml
-    First n = part_at (row_of flag) full_share n b (o + 0)
-
-    abbrev Second : S.Denot → Fml
-    Second y = part_at S full_share y b (o + second_at S R)
-
-    abbrev Back : SProp 𝓤
-    Back = PartsBack 𝓛 full_share [] ks b o
-
     abbrev joined : All → SProp 𝓤
     joined s = (⟦ standing_words (s.0, s.1) ⟧ ∗ ⟦ At s.2 ⟧ ∗ ⟦ fact (Rule s) ⟧) -∗ ⟦ P ⟧
 
@@ -142,10 +130,11 @@ module _ {M : Type 1} {𝓤 : Ura M} (𝓛 : Logic 𝓤) (m ms : Member) (V Y K 
     abbrev pub Apart : Knows × All → Item 𝓤
     Apart z = ‵ (standing_words (z.1.0, z.1.1)) ⊛ ‵ (At z.1.2) ⊛ ‵ (fact (Rule z.1)) ⊛ raw Joins
 
-    joins : (k : Knows) → ‵ Mark ⊛ raw Back ⊩ raw Joins
+    joins : (k : Knows) → ‵ (part_at (row_of pm) full_share tt b (o + 0)) ⊛ raw (PartsBack 𝓛 full_share [] ks b o)
+        ⊩ raw Joins
     joins k = script ∵ each ! joined (λ s. let a : Denots (rows_of ks) = data_of s in
         assume ! (‵ (standing_words (s.0, s.1)) ⊛ ‵ (At s.2) ⊛ ‵ (fact (Rule s))) $ split3 ! $ fsplit ! $
-        use1 𝓛 (‵ (First s.0)) (word_in 𝓛 b (o + 0) s.0) $ nothing ! $
+        use1 𝓛 (‵ (part_at (row_of flag) full_share s.0 b (o + 0))) (word_in 𝓛 b (o + 0) s.0) $ nothing ! $
         -- context: [nothing; the first word; the second; the value; the rule; the marker; the way back]
         move ! (2 ∷ 0 ∷ []) $ fjoin ! $ move ! (2 ∷ 0 ∷ []) $ fjoin ! $ move ! (3 ∷ 1 ∷ 0 ∷ []) $ fjoin3 ! $ move ! (2 ∷ []) $
         use1 𝓛 (raw (⟦ parts_at full_share ks zero a b o ⟧ -∗ ⟦ Fields s ⟧)) (all_e 𝓤 (λ (u : Denots (rows_of ks)). ⟦ parts_at full_share ks zero u b o ⟧ -∗ ⟦ part_at Data full_share u b o ⟧) a) $
@@ -153,9 +142,10 @@ module _ {M : Type 1} {𝓤 : Ura M} (𝓛 : Logic 𝓤) (m ms : Member) (V Y K 
 
     pub fields_out : ‵ P ⊩ some Apart
     fields_out = script ∵ cite _ to $ fpick ! (λ k. fpick ! (λ s. fsplit ! $
-        use1 𝓛 ((‵ Mark ⊛ ‵ (First s.0) ⊛ ‵ (At s.2) ⊛ ‵ (Second s.1) ⊛ ‵ ftrue) ⊛ raw Back)
-        (Struct-parts 𝓛 full_share [] ks (Struct-Lawful 𝓛 (denote.Struct.Declared.shape (marker.the_type Both)) tt, (u64-laws.lawful 𝓛, (L, (LS, tt)))) (data_of s) b o) $ split ! $ split3 ! $
-        move ! (1 ∷ []) $ use1 𝓛 (‵ (word b (o + 0) s.0)) (word_out 𝓛 b (o + 0) s.0) $ move ! (2 ∷ []) $ split3 ! $
+        use1 𝓛 (‵ (parts_at full_share ks zero (data_of s) b o) ⊛ raw (PartsBack 𝓛 full_share [] ks b o))
+        (Struct-parts 𝓛 full_share [] ks (Struct-Lawful 𝓛 (denote.Struct.Declared.shape (marker.the_type Both)) tt,
+        (u64-laws.lawful 𝓛, (L, (LS, tt)))) (data_of s) b o) $ split ! $ fsplit3 ! $ move ! (1 ∷ []) $
+        use1 𝓛 (‵ (word b (o + 0) s.0)) (word_out 𝓛 b (o + 0) s.0) $ move ! (2 ∷ []) $ fsplit3 ! $
         -- context: [the value; the second word; nothing; the first word; the marker; the way back; the rule]
         move ! (3 ∷ 1 ∷ []) $ fjoin ! $ move ! (3 ∷ 4 ∷ []) $ cite _ (joins k) $ having ! Apart (k, s) $ keep ! (1 ∷ 2 ∷ 4 ∷ 0 ∷ []) $ done !))
 

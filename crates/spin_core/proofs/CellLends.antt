@@ -1,5 +1,5 @@
 -- What a `&` to a permit owns: the value, as far as the permit's party may lend it. Assumes `Logic`.
---     Lends-tracked     if P owns the value as `tracked`, a borrow of P lends the value
+--     Lends-tracked     if P owns the value as a writer does, a borrow of P lends the value
 --     permit_laws, Lends-permit     the laws of a `&` to a permit
 --     writer_laws, Lends-writer     the laws of a `&` to a write permit
 use Rattle.std.proofs.Common.{arith, ◌≡◌, ℕ, ◌+◌, List, [], ◌∷◌, ◌++◌, refl, sym, Option, Some, None}
@@ -7,7 +7,7 @@ use seplogic.Ra.Ura.{Ura}
 use base.Share
 use base.Fraction.{full_share}
 use base.Stored.{Gv}
-use base.Logic.{apply∗, never_e, id⊢}
+use base.Logic.{all, never_e, id⊢}
 use base.Fml.{Lft, Share, Incl, Incl-refl, Incl-trans, Fml, ftrue, ffalse, fsep, fseps, fex, fwand, fupd, fdead, fobs, fbor, flft, finv}
 use base.Before.{before}
 use contract.BorrowLft.{meet_⊑_left, meet_⊑_right, ⊑_meet}
@@ -28,8 +28,10 @@ use denote.Steps.{nothing}
 use denote.Struct.Lending.{Lends, Lends-false, Lends-nothing}
 use Rattle.core.proofs.cell.Borrows.{by_one, unnest_before}
 use Rattle.spin_core.specs.Cell.{Use, off, reads, writes, Way, fixes, Fixes, Seen, Ways, use_of}
-use Rattle.spin_core.specs.CellMemory.{offset, Known, Id, round_code, tag, Part, piece, reader, shown, named, tracked, right, stand, inner, kept, permit_owns, permit_shares, reader_shares, writer_at, writer_owns, writer_shares}
+use Rattle.spin_core.specs.CellMemory.{offset, Known, Id, round_code, tag, Part, piece, reader, shown, named, right, stand, inner, permit_at, permit_owns, permit_shares, reader_shares, writer_owns, writer_shares}
 use Rattle.spin_core.proofs.CellParts.{piece_in, piece_cut}
+use Rattle.spin_core.proofs.CellThrough.{Back, Cut, again, cuts}
+use Rattle.spin_core.proofs.CellWalks.{permit_in, has_value}
 use Rattle.spin_core.proofs.Signs.{signs}
 use Rattle.spin_core.proofs.Lemmas.{script, cite, settled, having}
 
@@ -55,7 +57,10 @@ module _ {M : Type 1} {𝓤 : Ura M} (𝓛 : Logic 𝓤) where
   open (signs 𝓛) use {◌⊩◌, ◌⊢◌, ◌∗◌, ◌-∗◌, ⟦◌⟧}
 
   -- ---- a party that owns the value as `tracked`, like a writer
-  module _ (R : RattleType) (b o : ℕ) (β : Lft) (x : R.Denot) (P : Fml) where
+  module _ (R : RattleType) (b o : ℕ) (β : Lft) (x : R.Denot) (Pen : R.Denot → Fml) where
+    abbrev P : Fml
+    P = Pen x
+
     abbrev At : Fml
     At = part_at R full_share x b (o + offset R)
 
@@ -65,22 +70,19 @@ module _ {M : Type 1} {𝓤 : Ura M} (𝓛 : Logic 𝓤) where
     abbrev N : Id → Fml
     N t = named R b o t
 
-    abbrev Tr : Id → Fml
-    Tr t = tracked R b o t x
-
-    abbrev pub Gives : Id → Item 𝓤
-    Gives t = ‵ (before β t.life) ⊛ ‵ (Tr t) ⊛ raw (⟦ Tr t ⟧ -∗ ⟦ P ⟧)
-
-    again : (ν : Lft) (t : Id) → raw (⟦ Tr t ⟧ -∗ ⟦ P ⟧) ⊩ ‵ (fwand (fsep (fdead ν) (fseps (Ob t ∷ fbor t.life (N t) ∷ []))) (fupd P))
+    closes : (ν : Lft) (t : Id) → raw (all 𝓤 (Back 𝓛 R β b o Pen t))
+        ⊩ ‵ (fwand (fsep (fdead ν) (fseps (Ob t ∷ fbor t.life (N t) ∷ []))) (fupd P))
     unfolding fseps
-    again ν t = script ∵ assume ! (‵ (fsep (fdead ν) (fsep (Ob t) (fsep (fbor t.life (N t)) ftrue)))) $ settled ! ⟦ P ⟧ $
-        fsplit ! $ drop ! $ fsplit3 ! $ fjoin ! $ keep ! (0 ∷ 2 ∷ []) $ by ! (apply∗ 𝓤 ⟦ Tr t ⟧ ⟦ P ⟧)
+    closes ν t = script ∵ assume ! (‵ (fsep (fdead ν) (fsep (Ob t) (fsep (fbor t.life (N t)) ftrue)))) $
+        settled ! ⟦ P ⟧ $ fsplit ! $ drop ! $ fsplit3 ! $ fjoin ! $ keep ! (2 ∷ 0 ∷ []) $
+        by ! (again 𝓛 R β b o Pen t x).prf
 
-    pub Lends-at : ‵ P ⊩ some Gives → (ν : Lft) → Incl ν β → (q : Share) → ‵ (fbor ν P) ⊛ ‵ (flft ν q) ⊩ later (‵ (fbor ν At) ⊛ ‵ (flft ν q))
+    Lends-at : ‵ P ⊩ some (Cut 𝓛 R β b o Pen x) → (ν : Lft) → Incl ν β → (q : Share)
+        → ‵ (fbor ν P) ⊛ ‵ (flft ν q) ⊩ later (‵ (fbor ν At) ⊛ ‵ (flft ν q))
     unfolding fseps
     Lends-at opens ν inc q = script ∵ updating ! $ bor_open ! tt $ move ! (1 ∷ []) $
-        cite _ opens $ pick ! (λ t. split3 ! $ move ! (1 ∷ []) $ fsplit ! $ move ! (3 ∷ []) $
-        cite _ (again ν t) $ nothing ! $ move ! (2 ∷ 3 ∷ 0 ∷ []) $ fjoin3 ! $
+        cite _ opens $ pick ! (λ t. split3 ! $ move ! (2 ∷ []) $ split ! $ move ! (1 ∷ 3 ∷ 0 ∷ []) $
+        cite _ (closes ν t) $ nothing ! $ move ! (2 ∷ 3 ∷ 0 ∷ []) $ fjoin3 ! $
         move ! (3 ∷ 0 ∷ 1 ∷ []) $ obor_alter ! tt (Ob t ∷ fbor t.life (N t) ∷ []) $ use1 𝓛 (‵ (fbor ν (Ob t)) ⊛ ‵ (fbor ν (fbor t.life (N t))) ⊛ ‵ ftrue) (id⊢ 𝓤 _) $ split3 ! $
         move ! (4 ∷ []) $ use1 𝓛 (‵ (before ν t.life)) (before_shorten 𝓛 β ν t.life inc) $ keep ! (0 ∷ 2 ∷ 4 ∷ 1 ∷ []) $
         use3 𝓛 (later (‵ (fbor ν (N t)) ⊛ ‵ (flft ν q))) (unnest_before 𝓛 ν t.life q (N t)) $ await ! tt $ split ! $ move ! (1 ∷ []) $
@@ -88,7 +90,8 @@ module _ {M : Type 1} {𝓤 : Ura M} (𝓛 : Logic 𝓤) where
         use3 𝓛 (later (‵ (Ob t) ⊛ ‵ (fbor ν At) ⊛ ‵ (flft ν (Share.right q)))) (settles 𝓛 (mem R) ν ((ν, Share.right q) ∷ []) (Incl-refl ν) t.value x b (o + offset R)) $ await ! tt $ split3 ! $
         move ! (3 ∷ 0 ∷ []) $ obor_close ! tt $ drop ! $ move ! (0 ∷ 2 ∷ []) $ use2 𝓛 (‵ (flft ν q)) (𝓛.lfts.lft_join ν q) $ now ! $ move ! (1 ∷ 0 ∷ []) $ done !)
 
-    pub Lends-tracked : (l : Lft) → Incl l β → Shares 𝓛 R l → ‵ P ⊩ some Gives → Lends 𝓛 P (within β (shown R b o x)) l
+    Lends-tracked : (l : Lft) → Incl l β → Shares 𝓛 R l → ‵ P ⊩ some (Cut 𝓛 R β b o Pen x)
+        → Lends 𝓛 P (within β (shown R b o x)) l
     Lends-tracked l le s opens κ ts inc sp =
         let ν : Lft = κ ++ β in let sm : Incl (span ts) ν = ⊑_meet (span ts) κ β sp (Incl-trans inc le) in
         qed 𝓛 (‵ (fbor κ P) ∷ raw (lfts 𝓛 ts) ∷ []) ∵ updating ! $ use1 𝓛 (‵ (fbor ν P)) (𝓛.bors.bor_shorten κ ν P (meet_⊑_left κ β)) $
@@ -100,29 +103,10 @@ module _ {M : Type 1} {𝓤 : Ura M} (𝓛 : Logic 𝓤) where
     abbrev Knows : Type 0
     Knows = Known ways Y S R
 
-    abbrev Inv : ℕ → ℕ → Id → Fml
-    Inv b o t = fbor t.life (inner R b o t c S holds ways)
-
     -- ---- a writer
-    module _ (b o : ℕ) (view : V) (x : R.Denot) where
-      abbrev W : Fml
-      W = writer_owns Y R c S holds ways β (block_ptr b o) view x
-
-      abbrev Sure : Type 0
-      Sure = ways.1 view ≡ writes
-
-      abbrev Wr : Id → Fml
-      Wr = writer_at Y R c S holds ways β b o view x
-
-      writer_gives : ‵ W ⊩ some (Gives R b o β x W)
-      writer_gives = script ∵ fpick ! (λ k. fpick ! (λ e. fpick ! (λ t. fsplit3 ! $ fsplit ! $
-          use1 𝓛 (‵ (before β t.life) ⊛ ‵ (before β t.life)) (before_dup 𝓛 β t.life) $ split ! $ move ! (0 ∷ 4 ∷ []) $
-          having ! (Gives R b o β x W) t $ types.Kit.frame ! $ types.Kit.frame ! $ assume ! (‵ (tracked R b o t x)) $
-          move ! (1 ∷ 2 ∷ []) $ fjoin ! $ move ! (0 ∷ 2 ∷ 1 ∷ []) $ fjoin3 ! $
-          fpack ! Id Wr t $ fpack ! Sure (λ _. fex Id Wr) e $ fpack ! Knows (λ _. fex Sure (λ _. fex Id Wr)) k $ done !)))
-
     pub Lends-writer : (l : Lft) → Incl l β → Shares 𝓛 R l → (p : Ptr) (view : V) (x : R.Denot) → Lends 𝓛 (writer_owns Y R c S holds ways β p view x) (writer_shares Y R c S holds ways β p view x) l
-    Lends-writer l le s (block_ptr b o) view x = Lends-tracked R b o β x (writer_owns Y R c S holds ways β (block_ptr b o) view x) l le s (writer_gives b o view x)
+    Lends-writer l le s (block_ptr b o) view x = Lends-tracked R b o β x
+        (writer_owns Y R c S holds ways β (block_ptr b o) view) l le s (cuts 𝓛 Y R c S holds ways β b o view x)
     Lends-writer l le s null_ptr view x = Lends-false 𝓛 (writer_shares Y R c S holds ways β null_ptr view x) l
 
     -- A value that is shown for the lifetimes n and `t.life` is shown for ν too, if ν lies within n and within the
@@ -138,37 +122,30 @@ module _ {M : Type 1} {𝓤 : Ura M} (𝓛 : Logic 𝓤) where
         use1 𝓛 (‵ (before μ t.life)) (before_shorten 𝓛 β μ t.life (Incl-trans (meet_⊑_right a ν) inc)) $
         use2 𝓛 (‵ (V' μ)) (moves_before 𝓛 V' K μ t.life) $ move ! (1 ∷ 0 ∷ []) $ use2 𝓛 (‵ (V' ν)) (moves 𝓛 V' K ν a) $ done !
 
-    -- a party that reads is shown a value
-    shows_none : (b o : ℕ) (view : Option V) → use_of ways.1 view ≡ reads → (k : Item 𝓤) → ‵ (permit_owns Y R c S holds ways β (block_ptr b o) view None) ⊩ k
-    shows_none b o view is k = script ∵
-        fpick ! (λ k. fpick ! (λ t. fsplit3 ! $ move ! (2 ∷ []) $
-        rewrite ! 0 (λ (u : Use). ‵ (right R b o t ways.0 u None)) is refl $ keep ! (0 ∷ []) $ by ! (never_e 𝓤 _)))
-
     -- ---- a permit whose party is off, reads or writes
     module _ (b o : ℕ) (view : Option V) where
-      abbrev owned_at : Use → Option R.Denot → Id → Fml
-      owned_at u x t = fsep (kept R b o t c S holds ways β) (fsep (stand R b o t c view) (right R b o t ways.0 u x))
-
       abbrev Owned : Use → Option R.Denot → Fml
-      Owned u x = fex Knows (λ _. fex Id (owned_at u x))
+      Owned u x = fex Knows (λ _. fex Id (permit_at Y R c S holds ways β b o view u x))
 
       module _ (L : RowLaws R) (x : R.Denot) (ν : Lft) (inc : Incl ν β) where
-        abbrev P : Fml
-        P = Owned reads (Some x)
+        abbrev Own : Fml
+        Own = Owned reads (Some x)
 
         abbrev V' : Lft → Fml
         V' = shown R b o x
 
         reads_again : (k : Knows) (t : Id) (a : ℕ) (e : Share) → Part ways.0 x e
-            → ‵ (before β t.life) ⊛ ‵ (finv (Inv b o t)) ⊛ ‵ (stand R b o t c view) ⊛ ‵ (tag t.round e (round_code R (a, x)))
-            ⊛ ‵ (V' (a ∷ t.life)) ⊩ ‵ (fwand (fsep (fdead ν) (fseps (flft (a ∷ []) e ∷ []))) (fupd P))
+            → ‵ (before β t.life) ⊛ ‵ (finv (fbor t.life (inner R b o t c S holds ways))) ⊛ ‵ (stand c t.views view)
+            ⊛ ‵ (tag t.round e (round_code R (a, x))) ⊛ ‵ (V' (a ∷ t.life))
+            ⊩ ‵ (fwand (fsep (fdead ν) (fseps (flft (a ∷ []) e ∷ []))) (fupd Own))
         unfolding fseps
         reads_again k t a e n = script ∵ assume ! (‵ (fsep (fdead ν) (fsep (flft (a ∷ []) e) ftrue))) $
-            settled ! ⟦ P ⟧ $ fsplit3 ! $ move ! (1 ∷ 6 ∷ []) $ fjoin ! $ cite _ (piece_in 𝓛 R t.round ways.0 (a, x) e n) $ move ! (0 ∷ 6 ∷ []) $ fjoin ! $
-            fpack ! ℕ (λ u. fsep (piece R ways.0 t.round (u, x)) (V' (u ∷ t.life))) a $ move ! (5 ∷ 0 ∷ []) $ fjoin ! $ move ! (3 ∷ 4 ∷ []) $ fjoin ! $ fjoin ! $
-            fpack ! Id (owned_at reads (Some x)) t $ fpack ! Knows (λ _. fex Id (owned_at reads (Some x))) k $ keep ! (0 ∷ []) $ done !
+            settled ! ⟦ Own ⟧ $ fsplit3 ! $ move ! (1 ∷ 6 ∷ []) $ fjoin ! $
+            cite _ (piece_in 𝓛 R t.round ways.0 (a, x) e n) $ move ! (0 ∷ 6 ∷ []) $ fjoin ! $
+            fpack ! ℕ (λ u. fsep (piece R ways.0 t.round (u, x)) (V' (u ∷ t.life))) a $ move ! (3 ∷ 4 ∷ []) $ fjoin ! $
+            keep ! (0 ∷ 4 ∷ 1 ∷ []) $ by ! (permit_in 𝓛 Y R c S holds ways β b o view reads (Some x) k t).prf
 
-        pub lends_shown : (q : Share) → ‵ (fbor ν P) ⊛ ‵ (flft ν q) ⊩ later (‵ (fex Knows (λ _. V' ν)) ⊛ ‵ (flft ν q))
+        pub lends_shown : (q : Share) → ‵ (fbor ν Own) ⊛ ‵ (flft ν q) ⊩ later (‵ (fex Knows (λ _. V' ν)) ⊛ ‵ (flft ν q))
         unfolding fseps
         lends_shown q = script ∵ updating ! $ bor_open ! tt $ move ! (1 ∷ []) $ fpick ! (λ k. fpick ! (λ t. fsplit3 ! $
             fsplit ! $ move ! (3 ∷ []) $ fpick ! (λ u. fsplit ! $ fpick ! (λ e. fpick ! (λ n. fsplit ! $
@@ -202,19 +179,16 @@ module _ {M : Type 1} {𝓤 : Ura M} (𝓛 : Logic 𝓤) where
     abbrev pub IsShown : ℕ → ℕ → Option R.Denot → R.Denot → Item 𝓤
     IsShown b o v x = given ((v ≡ Some x) × Seen ways.0 x) (‵ (shown R b o x β))
 
-    known_seen : (way : Way R.Denot) (x : R.Denot) (e : Share) → Part way x e → Seen way x
-    known_seen way x e known = grind arith
-
     shown_by : RowLaws R → (b o : ℕ) (t : Id) (x : R.Denot)
         → ‵ (before β t.life) ⊛ ‵ (reader R b o t ways.0 x) ⊩ later (given (Seen ways.0 x) (‵ (shown R b o x β)))
     shown_by L b o t x = script ∵ updating ! $ move ! (1 ∷ []) $ fpick ! (λ n. fsplit ! $ fpick ! (λ e. fpick ! (λ known. fsplit ! $
         -- context: [the token of n; the tag; what is shown; `before β t.life`]
         bor_new ! tt β $ bor_fracture ! tt (λ r. flft (n ∷ []) r) e $ move ! (3 ∷ 4 ∷ 0 ∷ []) $
-        cite _ (shows_for L b o t x β (Incl-refl β) n) $ now ! $ check ! (known_seen ways.0 x e known) $ keep ! (0 ∷ []) $ done !)))
+        cite _ (shows_for L b o t x β (Incl-refl β) n) $ now ! $ check ! (grind arith) $ keep ! (0 ∷ []) $ done !)))
 
     pub shown_on : RowLaws R → (b o : ℕ) (view : Option V) (v : Option R.Denot) → use_of ways.1 view ≡ reads
         → ‵ (permit_owns Y R c S holds ways β (block_ptr b o) view v) ⊩ later (some (IsShown b o v))
-    shown_on L b o view None is = shows_none b o view is _
+    shown_on L b o view None is = has_value 𝓛 Y R c S holds ways β b o view is (λ t. refl) _
     shown_on L b o view (Some x) is = script ∵ updating ! $ fpick ! (λ k. fpick ! (λ t. fsplit3 ! $ fsplit ! $ move ! (3 ∷ []) $
         rewrite ! 0 (λ (u : Use). ‵ (right R b o t ways.0 u (Some x))) is refl $ move ! (1 ∷ 0 ∷ []) $
         cite _ (shown_by L b o t x) $ await ! tt $ learn ! (λ known.
@@ -235,13 +209,13 @@ module _ {M : Type 1} {𝓤 : Ura M} (𝓛 : Logic 𝓤) where
 
     pub shown_to : RowLaws R → (b o : ℕ) (view : Option V) (v : Option R.Denot) → use_of ways.1 view ≡ reads
         → Fixes ways.0 → ‵ (permit_owns Y R c S holds ways β (block_ptr b o) view v) ⊩ later (some (IsShownTo b o view v))
-    shown_to L b o view None is fixed = shows_none b o view is _
-    shown_to L b o view (Some x) is fixed = let Rd : Id → Fml = λ t. reader R b o t ways.0 x in let At : Id → Fml = owned_at b o view (use_of ways.1 view) (Some x) in
-        script ∵ updating ! $ fpick ! (λ k. fpick ! (λ t. fsplit3 ! $ fsplit ! $ move ! (3 ∷ []) $
-        rewrite ! 0 (λ (u : Use). ‵ (right R b o t ways.0 u (Some x))) is refl $ cite _ (reader_cut L b o t ways.0 fixed x) $ move ! (2 ∷ []) $
+    shown_to L b o view None is fixed = has_value 𝓛 Y R c S holds ways β b o view is (λ t. refl) _
+    shown_to L b o view (Some x) is fixed = script ∵ updating ! $ fpick ! (λ k. fpick ! (λ t.
+        let Right : Use → Item 𝓤 = λ u. ‵ (right R b o t ways.0 u (Some x)) in fsplit3 ! $ fsplit ! $ move ! (3 ∷ []) $
+        rewrite ! 0 Right is refl $ cite _ (reader_cut L b o t ways.0 fixed x) $ move ! (2 ∷ []) $
         use1 𝓛 (‵ (before β t.life) ⊛ ‵ (before β t.life)) (before_dup 𝓛 β t.life) $ split ! $ move ! (0 ∷ 2 ∷ []) $
         cite _ (shown_by L b o t x) $ await ! tt $ learn ! (λ known.
         -- context: [what is shown; `before β t.life`; the reader; the invariant; the view]
-        move ! (2 ∷ []) $ rewrite ! 0 (λ (u : Use). ‵ (right R b o t ways.0 u (Some x))) (sym is) refl $ move ! (4 ∷ 0 ∷ []) $ fjoin ! $ move ! (2 ∷ 3 ∷ []) $ fjoin ! $ fjoin ! $
-        fpack ! Id At t $ fpack ! Knows (λ _. fex Id At) k $ move ! (1 ∷ []) $ now ! $
+        move ! (2 ∷ []) $ rewrite ! 0 Right (sym is) refl $ move ! (2 ∷ 3 ∷ []) $ fjoin ! $ move ! (0 ∷ 3 ∷ 1 ∷ []) $
+        cite _ (permit_in 𝓛 Y R c S holds ways β b o view (use_of ways.1 view) (Some x) k t) $ move ! (1 ∷ []) $ now ! $
         having ! (IsShownTo b o view (Some x)) x $ check ! (refl, known) $ done !)))

@@ -10,7 +10,7 @@ use base.FractionLaws.{Counts, counts_some, Counts-op, Counts-all, not-OpDef-ful
 use base.Stored.{Gv, coded×, coded_ℕ}
 use base.SetCodes.{coded, SetCoded-set}
 use base.Logic.{SProp, guard, guard_i, id⊢, via, snd∗}
-use base.Fml.{GName, Share, Fml, fex, flft}
+use base.Fml.{Lft, GName, Share, Fml, fex, flft}
 use types.Logic.{Logic}
 use types.Kit.{‵, ◌⊛◌, given, ◌$◌, ◌∵◌, !, by, move, split, fsplit, fjoin, fpick, fpack, learn, check, use1, use2, done}
 use types.Owned.{own_sum, own_join, own_step}
@@ -21,11 +21,13 @@ use Rattle.spin_core.specs.CellMemory.{Round, round_code, tag, share, parts, Par
 use Rattle.spin_core.proofs.Signs.{signs}
 use Rattle.spin_core.proofs.Lemmas.{script, lemma, update, cite}
 
+-- what two shares of one value are together
+pub sum : (g : Gv) (r e f : Share) → r ∈ Share.op e f → ◌∈◌ {α = Share × Gv} (r, g) (halved.op (e, g) (f, g))
+sum g r e f m = let A = SetCoded-set (coded itself) in
+    Prod.mk-mem-op Share.op (Ag.op A) {a = e} {a' = f} {x = r} {b = g} {b' = g} {y = g} m (Ag.idem A g)
+
 module _ {M : Type 1} {𝓤 : Ura M} (𝓛 : Logic 𝓤) (R : RattleType) (γ : GName) where
   open (signs 𝓛) use {◌⊩◌, ◌⊫◌, ◌⊢◌, ◌∗◌, ⟦◌⟧}
-
-  sum : (g : Gv) (r e f : Share) → r ∈ Share.op e f → ◌∈◌ {α = Share × Gv} (r, g) (halved.op (e, g) (f, g))
-  sum g r e f m = Prod.mk-mem-op Share.op (Ag.op (SetCoded-set (coded itself))) {a = e} {a' = f} {x = r} {b = g} {b' = g} {y = g} m (Ag.idem (SetCoded-set (coded itself)) g)
 
   -- some share of the round that satisfies P
   abbrev Some : (Share → Type 0) → Round R → Fml
@@ -37,12 +39,17 @@ module _ {M : Type 1} {𝓤 : Ura M} (𝓛 : Logic 𝓤) (R : RattleType) (γ : 
   pub parts_in : (s : Round R) (k : ℕ) (e : Share) → Counts 63 e k → ‵ (share R γ s e) ⊩ ‵ (parts R γ s k)
   parts_in s k = some_in (λ r. Counts 63 r k) s
 
+  cut : (s : Round R) (r e f : Share) → r ∈ Share.op e f → ‵ (share R γ s r) ⊩ ‵ (share R γ s e) ⊛ ‵ (share R γ s f)
+  cut s r e f m = let g : Gv = round_code R s in let μ : Lft = s.0 ∷ [] in
+      script ∵ fsplit ! $ use1 𝓛 (‵ (flft μ e) ⊛ ‵ (flft μ f)) (𝓛.lfts.lft_cut μ r e f m) $ split ! $ move ! (2 ∷ []) $
+      use1 𝓛 (‵ (tag γ e g) ⊛ ‵ (tag γ f g)) (𝓛.algebras.own_cut halved γ (e, g) (f, g) (r, g) (sum g r e f m)) $
+      split ! $ move ! (3 ∷ 1 ∷ []) $ fjoin ! $ move ! (2 ∷ 1 ∷ []) $ fjoin ! $ done !
+
   pub parts_cut : (s : Round R) (k i j : ℕ) → 0 < i → 0 < j → i + j ≡ k → k ≤ 2 ^ 63 → ‵ (parts R γ s k) ⊩ ‵ (parts R γ s i) ⊛ ‵ (parts R γ s j)
-  parts_cut s k i j pi pj total fits = let g : Gv = round_code R s in let e = counts_some 63 i pi (omega arith) in let f = counts_some 63 j pj (omega arith) in
-      script ∵ fpick ! (λ r. fpick ! (λ c. let m = Counts-op 63 e.0 f.0 r i j k e.1 f.1 c total in fsplit ! $
-      use1 𝓛 (‵ (flft (s.0 ∷ []) e.0) ⊛ ‵ (flft (s.0 ∷ []) f.0)) (𝓛.lfts.lft_cut (s.0 ∷ []) r e.0 f.0 m) $ split ! $ move ! (2 ∷ []) $
-      use1 𝓛 (‵ (tag γ e.0 g) ⊛ ‵ (tag γ f.0 g)) (𝓛.algebras.own_cut halved γ (e.0, g) (f.0, g) (r, g) (sum g r e.0 f.0 m)) $ split ! $
-      move ! (3 ∷ 1 ∷ []) $ fjoin ! $ cite _ (parts_in s j f.0 f.1) $ move ! (2 ∷ 1 ∷ []) $ fjoin ! $ cite _ (parts_in s i e.0 e.1) $ done !))
+  parts_cut s k i j pi pj total fits =
+      let e = counts_some 63 i pi (omega arith) in let f = counts_some 63 j pj (omega arith) in
+      script ∵ fpick ! (λ r. fpick ! (λ c. cite _ (cut s r e.0 f.0 (Counts-op 63 e.0 f.0 r i j k e.1 f.1 c total)) $
+      cite _ (parts_in s i e.0 e.1) $ move ! (1 ∷ []) $ cite _ (parts_in s j f.0 f.1) $ move ! (1 ∷ []) $ done !))
 
   glued : (s : Round R) (i j : ℕ) (r : Share) → Counts 63 r (i + j) → ‵ (parts R γ s i) ⊛ ‵ (parts R γ s j) ⊩ ‵ (share R γ s r)
   glued s i j r c = let g : Gv = round_code R s in
@@ -73,33 +80,21 @@ module _ {M : Type 1} {𝓤 : Ura M} (𝓛 : Logic 𝓤) (R : RattleType) (γ : 
       use2 𝓛 (given (s ≡ u) (‵ (tag γ e g) ⊛ ‵ (tag γ f h))) (own_sum 𝓛 halved γ (e, g) (f, h) (guard 𝓤 (s ≡ u) Z) (λ x m. guard_i 𝓤 (s ≡ u) Z ((coded× coded_ℕ R.coded).inj s u m.0.1))) $
       learn ! (λ same. check ! same $ split ! $ move ! (2 ∷ 1 ∷ []) $ fjoin ! $ move ! (2 ∷ 1 ∷ []) $ fjoin ! $ done !)
 
-  some_agree : (P Q : Share → Type 0) (s u : Round R) → ‵ (Some P s) ⊛ ‵ (Some Q u) ⊩ given (s ≡ u) (‵ (Some P s) ⊛ ‵ (Some Q u))
-  some_agree P Q s u = script ∵
-      fpick ! (λ e. fpick ! (λ is. move ! (1 ∷ []) $ fpick ! (λ f. fpick ! (λ it. move ! (1 ∷ []) $
-      cite _ (shares_agree s u e f) $ learn ! (λ same. check ! same $ split ! $
+  pub some_agree : (P Q : Share → Type 0) (s u : Round R)
+      → ‵ (Some P s) ⊛ ‵ (Some Q u) ⊩ given (s ≡ u) (‵ (Some P s) ⊛ ‵ (Some Q u))
+  some_agree P Q s u = script ∵ fpick ! (λ e. fpick ! (λ is. move ! (1 ∷ []) $ fpick ! (λ f. fpick ! (λ it.
+      move ! (1 ∷ []) $ cite _ (shares_agree s u e f) $ learn ! (λ same. check ! same $ split ! $
       cite _ (some_in P s e is) $ move ! (1 ∷ []) $ cite _ (some_in Q u f it) $ move ! (1 ∷ []) $ done !)))))
-
-  -- so i parts and j parts are of one round
-  pub parts_agree : (s u : Round R) (i j : ℕ) → ‵ (parts R γ s i) ⊛ ‵ (parts R γ u j) ⊩ given (s ≡ u) (‵ (parts R γ s i) ⊛ ‵ (parts R γ u j))
-  parts_agree s u i j = some_agree (λ r. Counts 63 r i) (λ r. Counts 63 r j) s u
 
   -- ---- the part of a round that one reader has
   pub piece_in : (way : Way R.Denot) (s : Round R) (e : Share) → Part way s.1 e → ‵ (share R γ s e) ⊩ ‵ (piece R way γ s)
   piece_in way s = some_in (Part way s.1) s
 
-  pub pieces_agree : (way : Way R.Denot) (s u : Round R) → ‵ (piece R way γ s) ⊛ ‵ (piece R way γ u) ⊩ given (s ≡ u) (‵ (piece R way γ s) ⊛ ‵ (piece R way γ u))
-  pieces_agree way s u = some_agree (Part way s.1) (Part way u.1) s u
-
-  halved_share : (s : Round R) (e : Share) → ‵ (share R γ s e) ⊩ ‵ (share R γ s (Share.left e)) ⊛ ‵ (share R γ s (Share.right e))
-  halved_share s e = let g : Gv = round_code R s in let l : Share = Share.left e in let r : Share = Share.right e in
-      script ∵ fsplit ! $ use1 𝓛 (‵ (flft (s.0 ∷ []) l) ⊛ ‵ (flft (s.0 ∷ []) r)) (𝓛.lfts.lft_split (s.0 ∷ []) e) $ split ! $ move ! (2 ∷ []) $
-      use1 𝓛 (‵ (tag γ l g) ⊛ ‵ (tag γ r g)) (𝓛.algebras.own_cut halved γ (l, g) (r, g) (e, g) (sum g e l r (Share.halves e))) $ split ! $ move ! (3 ∷ 1 ∷ []) $ fjoin ! $ move ! (2 ∷ 1 ∷ []) $ fjoin ! $ done !
-
   pub piece_cut : (fact : Bool → R.Denot → Type 0) (s : Round R)
       → ‵ (piece R (fixes fact) γ s) ⊩ given (fact true s.1) (‵ (piece R (fixes fact) γ s) ⊛ ‵ (piece R (fixes fact) γ s))
   piece_cut fact s = let way : Way R.Denot = fixes fact in script ∵ fpick ! (λ e. fpick ! (λ known. check ! known $
-      cite _ (halved_share s e) $ cite _ (piece_in way s (Share.left e) known) $ move ! (1 ∷ []) $
-      cite _ (piece_in way s (Share.right e) known) $ done !))
+      cite _ (cut s e (Share.left e) (Share.right e) (Share.halves e)) $ cite _ (piece_in way s (Share.left e) known) $
+      move ! (1 ∷ []) $ cite _ (piece_in way s (Share.right e) known) $ done !))
 
   pub renames : (g h : Gv) → ‵ (tag γ full_share g) ⊫ ‵ (tag γ full_share h)
   renames g h = update (own_step 𝓛 halved γ (full_share, g) (full_share, h) (λ f d. absurd (not-OpDef-full_share f.0 d.0)))

@@ -23,9 +23,10 @@ use types.Kit.{‵, raw, ◌⊛◌, given, ◌$◌, ◌∵◌, !, qed, by, move,
 use types.Kit as Kit
 use Rattle.atomic_table.specs.Seated.{itself, halved, seen}
 use Rattle.spin_core.specs.Cell.{Stands, after}
-use Rattle.spin_core.specs.CellMemory.{unused, roster}
+use Rattle.spin_core.specs.CellMemory.{unused, roster, stand}
+use Rattle.spin_core.proofs.CellParts.{sum}
 use Rattle.spin_core.proofs.Signs.{signs}
-use Rattle.spin_core.proofs.Lemmas.{lemma, cite, updates, renew, settled, having}
+use Rattle.spin_core.proofs.Lemmas.{lemma, update, cite, updates, renew, settled, having}
 
 module _ {M : Type 1} {𝓤 : Ura M} (𝓛 : Logic 𝓤) {V : Type 0} (cv : Coded V) (γ : GName) where
   open (signs 𝓛) use {◌⊩◌, ◌⊫◌, ◌⊢◌, ◌∗◌, ⟦◌⟧}
@@ -42,19 +43,15 @@ module _ {M : Type 1} {𝓤 : Ura M} (𝓛 : Logic 𝓤) {V : Type 0} (cv : Code
   abbrev Whole : ℕ → Gv → Fml
   Whole k g = entry halved γ k (full_share, g)
 
-  two_parts : (g : Gv) → ◌∈◌ {α = Share × Gv} (full_share, g) (halved.op (quarter, g) (three_quarters, g))
-  two_parts g = Prod.mk-mem-op Share.op (Ag.op (SetCoded-set (coded itself))) {a = quarter} {a' = three_quarters} {x = full_share} {b = g} {b' = g} {y = g} Share.quarters (Ag.idem (SetCoded-set (coded itself)) g)
-
   -- a whole entry gets a view, and is split in two parts
   resets : (k : ℕ) (g : Gv) (u : V) → ‵ (Whole k g) ⊫ ‵ (L k u) ⊛ ‵ (R k u)
   resets k g u = let B : Share × Gv → Type 0 = λ x. Path (Share × Gv) x (full_share, c u) in let F : Share × Gv → SProp 𝓤 = λ x. guard 𝓤 (B x) ⟦ entry halved γ k x ⟧ in let Z : SProp 𝓤 = ⟦ L k u ⟧ ∗ ⟦ R k u ⟧ in
-      record {
-        prf = via 𝓤 (upd 𝓤 (ex 𝓤 F)) (entry_set halved 𝓛 γ k (full_share, g) B ∣ ((full_share, c u), refl) ∣₁ (λ f d. absurd (not-OpDef-full_share f.0 d.0)))
-            (upd_mono 𝓤 {P = ex 𝓤 F} {Q = Z}
-            (ex_e 𝓤 F (λ x. guard_e 𝓤 (B x) ⟦ entry halved γ k x ⟧
-            (λ e. subst (λ (y : Share × Gv). ⟦ entry halved γ k y ⟧ ⊢ Z) (sym e)
-            (entry_cut halved 𝓛 γ k (quarter, c u) (three_quarters, c u) (full_share, c u) (two_parts (c u)))))));
-      }
+      update (via 𝓤 (upd 𝓤 (ex 𝓤 F)) (entry_set halved 𝓛 γ k (full_share, g) B ∣ ((full_share, c u), refl) ∣₁
+      (λ f d. absurd (not-OpDef-full_share f.0 d.0)))
+      (upd_mono 𝓤 {P = ex 𝓤 F} {Q = Z} (ex_e 𝓤 F (λ x. guard_e 𝓤 (B x) ⟦ entry halved γ k x ⟧
+      (λ e. subst (λ (y : Share × Gv). ⟦ entry halved γ k y ⟧ ⊢ Z) (sym e)
+      (entry_cut halved 𝓛 γ k (quarter, c u) (three_quarters, c u) (full_share, c u)
+      (sum (c u) full_share quarter three_quarters Share.quarters)))))))
 
   joined : (k : ℕ) (w v : V) → ‵ (L k w) ⊛ ‵ (R k v) ⊩ given (w ≡ v) (‵ (Whole k (c w)))
   joined k w v = let F : Share × Gv → SProp 𝓤 = λ x. guard 𝓤 (x ∈ halved.op (quarter, c w) (three_quarters, c v)) ⟦ entry halved γ k x ⟧ in let Z : SProp 𝓤 = guard 𝓤 (w ≡ v) ⟦ Whole k (c w) ⟧ in
@@ -81,13 +78,8 @@ module _ {M : Type 1} {𝓤 : Ura M} (𝓛 : Logic 𝓤) {V : Type 0} (cv : Code
       renew (Kit.some (Moved k (w ∷ ws) (suc i) j v next)) _ (moves ws (suc k) i j v next (omega arith)) $
       pick ! (λ at. split ! $ settled ! _ $ having ! (Moved k (w ∷ ws) (suc i) j v next) at $ move ! (2 ∷ 0 ∷ []) $ Kit.join ! $ done !)
 
-  -- what a party owns of its view
-  abbrev Stand : Option V → Fml
-  Stand None = ftrue
-  Stand (Some v) = fex ℕ (λ i. R i v)
-
   abbrev Joined : ℕ → List V → V → Kit.Item 𝓤
-  Joined k vs u = ‵ (roster c γ k (vs ++ u ∷ [])) ⊛ ‵ (Stand (Some u))
+  Joined k vs u = ‵ (roster c γ k (vs ++ u ∷ [])) ⊛ ‵ (stand c γ (Some u))
 
   -- a new party takes the first unused entry
   joins : (vs : List V) (k : ℕ) (u : V) → ‵ (roster c γ k vs) ⊫ Joined k vs u
@@ -100,11 +92,11 @@ module _ {M : Type 1} {𝓤 : Ura M} (𝓛 : Logic 𝓤) {V : Type 0} (cv : Code
 
   -- the roster and the party's view, after the party got the view `next` at its place z.0
   abbrev pub Placed : (view : Option V) (vs : List V) → ((id : ℕ) → Stands id view vs → V) → (id : ℕ) × Stands id view vs → Kit.Item 𝓤
-  Placed view vs next z = ‵ (roster c γ 0 (after z.0 view vs (next z.0 z.1))) ⊛ ‵ (Stand (Some (next z.0 z.1)))
+  Placed view vs next z = ‵ (roster c γ 0 (after z.0 view vs (next z.0 z.1))) ⊛ ‵ (stand c γ (Some (next z.0 z.1)))
 
   -- a party has a place among the views, or takes the place after the last one; at its place it gets any view
   pub places : (view : Option V) (vs : List V) (next : (id : ℕ) → Stands id view vs → V)
-      → ‵ (roster c γ 0 vs) ⊛ ‵ (Stand view) ⊫ Kit.some (Placed view vs next)
+      → ‵ (roster c γ 0 vs) ⊛ ‵ (stand c γ view) ⊫ Kit.some (Placed view vs next)
   places None vs next = updates ∵ renew (Kit.some (Placed None vs next)) _ (joins vs 0 (next 0 tt)) $ settled ! _ $
       having ! (Placed None vs next) (0, tt) $ keep ! (0 ∷ 1 ∷ []) $ done !
   places (Some v) vs next = updates ∵ move ! (1 ∷ []) $ fpick ! (λ id. move ! (1 ∷ 0 ∷ []) $

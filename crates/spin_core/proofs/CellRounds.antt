@@ -2,7 +2,6 @@
 use Rattle.std.proofs.Common.{ℕ, zero, suc, ◌+◌, ◌-◌, ◌^◌, ◌<◌, Bool, false, [], ◌∷◌, ◌++◌, Option, Some, None}
 use seplogic.Ra.Ura.{Ura}
 use base.Fraction.{full_share}
-use base.Logic.{via, upd, upd_mono}
 use base.FractionLaws.{Counts-all}
 use base.Fml.{Lft, Share, Incl, Incl-trans, Fml, ffalse, fsep, fex, fbor, flft, fdead, fobs}
 use contract.BorrowLft.{meet_⊑_left, meet_⊑_right, ⊑_meet}
@@ -14,10 +13,10 @@ use denote.RattleType.{RattleType}
 use denote.Memory.{part_at, mem}
 use denote.Shares.{Shares, settles}
 use Rattle.spin_core.specs.Cell.{Use, writes, Way, lends, fixes, Fixed}
-use Rattle.spin_core.specs.CellMemory.{Id, idle, round_code, share, parts, remains, resting, offset, shown, named, tracked, waits, shared, right}
+use Rattle.spin_core.specs.CellMemory.{Id, idle, round_code, share, parts, remains, resting, lying, state, offset, shown, named, tracked, waits, shared, right}
 use Rattle.spin_core.proofs.CellParts.{parts_in, parts_but, piece_in, renames}
 use Rattle.spin_core.proofs.Signs.{signs}
-use Rattle.spin_core.proofs.Lemmas.{script, lemma, update, cite, updates, renew, settled}
+use Rattle.spin_core.proofs.Lemmas.{script, lemma, cite, updates, renew, settled}
 
 module _ {M : Type 1} {𝓤 : Ura M} (𝓛 : Logic 𝓤) (R : RattleType) (b o : ℕ) (t : Id) where
   open 𝓛 use {H, A}
@@ -26,18 +25,11 @@ module _ {M : Type 1} {𝓤 : Ura M} (𝓛 : Logic 𝓤) (R : RattleType) (b o :
   abbrev α : Lft
   α = t.life
 
-  abbrev At : R.Denot → Fml
-  At x = part_at R full_share x b (o + offset R)
-
-  abbrev Ob : R.Denot → Fml
-  Ob x = fobs t.value (R.coded.code x)
-
   abbrev pub begun : R.Denot → ℕ → Fml
   begun x a = fsep (flft (a ∷ []) full_share) (shared R b o t (a, x))
 
   abbrev pub next : Option R.Denot → Fml
-  next None = ffalse
-  next (Some x) = fex ℕ (begun x)
+  next v = elim v [ None ↦ ffalse | Some x ↦ fex ℕ (begun x) ]
 
   -- What a party has of the value during a step. In the ways `lends` and `fixes` others may read after a writer's step.
   -- So a writer begins the next round before its step, and has begun it during the step.
@@ -49,13 +41,14 @@ module _ {M : Type 1} {𝓤 : Ura M} (𝓛 : Logic 𝓤) (R : RattleType) (b o :
   -- a borrow of the value can be turned into a new lifetime for which the value is shared
   pub begins : (l : Lft) → Shares 𝓛 R l → (x : R.Denot) (μ : Lft) (s : Share) (τ : Lft) (r : Share) → Incl μ α → Incl τ l
       → ‵ (tracked R b o t x) ⊛ ‵ (flft μ s) ⊛ ‵ (flft τ r) ⊩ later (‵ (fex ℕ (begun x)) ⊛ ‵ (flft μ s) ⊛ ‵ (flft τ r))
-  begins l shares x μ s τ r i j = let e : ℕ = o + offset R in
-      script ∵ updating ! $ fsplit ! $ lft_new ! tt (λ a.
+  begins l shares x μ s τ r i j = let e : ℕ = o + offset R in script ∵ updating ! $ fsplit ! $ lft_new ! tt (λ a.
       let ts : Toks = (a ∷ [], full_share) ∷ (μ, s) ∷ (τ, r) ∷ [] in let more : Lft = μ ++ τ in
       let sp : Incl (span ts) (a ∷ α) = ⊑_meet (a ∷ more) (a ∷ []) α (meet_⊑_left (a ∷ []) more) (Incl-trans (meet_⊑_right (a ∷ []) more) (Incl-trans (meet_⊑_left μ τ) i)) in
       move ! (2 ∷ []) $ use1 𝓛 (later (‵ (fbor (a ∷ α) (named R b o t)) ⊛ ‵ (waits R b o t a))) (𝓛.more.bor_reborrow α (a ∷ α) (named R b o t) (meet_⊑_right (a ∷ []) α)) $ await ! tt $ split ! $
       move ! (2 ∷ 4 ∷ 5 ∷ []) $ types.Kit.group ! 3 $ move ! (3 ∷ 1 ∷ 0 ∷ []) $
-      use3 𝓛 (later (‵ (Ob x) ⊛ ‵ (fbor (a ∷ α) (At x)) ⊛ raw (lfts 𝓛 ts))) (settles 𝓛 (mem R) (a ∷ α) ts sp t.value x b e) $ await ! tt $ split3 ! $ move ! (1 ∷ 2 ∷ []) $
+      use3 𝓛 (later (‵ (fobs t.value (R.coded.code x)) ⊛ ‵ (fbor (a ∷ α) (part_at R full_share x b e))
+      ⊛ raw (lfts 𝓛 ts))) (settles 𝓛 (mem R) (a ∷ α) ts sp t.value x b e) $ await ! tt $ split3 ! $
+      move ! (1 ∷ 2 ∷ []) $
       use2 𝓛 (later (‵ (shown R b o x (a ∷ α)) ⊛ ‵ (flft (a ∷ []) full_share) ⊛ ‵ (flft μ s) ⊛ ‵ (flft τ r))) (shares x (a ∷ α) ts b e (Incl-trans (meet_⊑_right (a ∷ []) more) (Incl-trans (meet_⊑_right μ τ) j)) sp) $ await ! tt $ split3 ! $
       move ! (3 ∷ 0 ∷ 4 ∷ []) $ fjoin3 ! $ move ! (1 ∷ 0 ∷ []) $ fjoin ! $ fpack ! ℕ (begun x) a $ now ! $ keep ! (0 ∷ 1 ∷ []) $ done !)
 
@@ -67,13 +60,16 @@ module _ {M : Type 1} {𝓤 : Ura M} (𝓛 : Logic 𝓤) (R : RattleType) (b o :
   abbrev pub whole : R.Denot → Fml
   whole x = fex ℕ (λ a. fsep (share R t.round (a, x) full_share) (shared R b o t (a, x)))
 
-  renews : (x : R.Denot) → ‵ (idle t.round) ⊛ ‵ (fex ℕ (begun x)) ⊫ ‵ (whole x)
-  renews x = let γ : ℕ = t.round in updates ∵ fpick ! (λ g. move ! (1 ∷ []) $ fpick ! (λ a. fsplit ! $ move ! (2 ∷ []) $
-      renew (‵ (whole x)) _ (renames 𝓛 R γ g (round_code R (a, x))) $ settled ! _ $
-      move ! (1 ∷ 0 ∷ []) $ fjoin ! $ fjoin ! $ fpack ! ℕ (λ c. fsep (share R γ (c, x) full_share) (shared R b o t (c, x))) a $ done !))
-
   pub renewed : (x : R.Denot) (F : Fml) → ‵ (whole x) ⊩ ‵ F → ‵ (idle t.round) ⊛ ‵ (fex ℕ (begun x)) ⊫ ‵ F
-  renewed x F to = update (via 𝓤 (upd 𝓤 ⟦ whole x ⟧) (renews x).prf (upd_mono 𝓤 {P = ⟦ whole x ⟧} {Q = ⟦ F ⟧} to.prf))
+  renewed x F to = let γ : ℕ = t.round in
+      updates ∵ fpick ! (λ g. move ! (1 ∷ []) $ fpick ! (λ a. fsplit ! $ move ! (2 ∷ []) $
+      renew (‵ F) _ (renames 𝓛 R γ g (round_code R (a, x))) $ settled ! _ $ move ! (1 ∷ 0 ∷ []) $ fjoin ! $ fjoin ! $
+      fpack ! ℕ (λ c. fsep (share R γ (c, x) full_share) (shared R b o t (c, x))) a $ cite _ to $ done !))
+
+  pub lies : (way : Way R.Denot) (φ : R.Denot → Type 0) (r : ℕ) (x : R.Denot) → φ x
+      → ‵ (resting R b o t way r x) ⊩ ‵ (state R b o t way φ r 0)
+  lies way φ r x known = script ∵ fpack ! (φ x) (λ _. resting R b o t way r x) known $
+      fpack ! R.Denot (lying R b o t way φ r) x $ done !
 
   -- a whole round, without one part for each of r readers, is the state of the value while these readers read
   pub rests_lent : (r : ℕ) (x : R.Denot) → r < 2 ^ 63 → ‵ (whole x) ⊩ ‵ (resting R b o t lends r x)
@@ -96,11 +92,10 @@ module _ {M : Type 1} {𝓤 : Ura M} (𝓛 : Logic 𝓤) (R : RattleType) (b o :
   readies l shares writes (fixes fact) (Some x) = begins l shares x
   readies l shares _ _ _ = λ μ s τ r i j. lemma (𝓛.laws.⇛_intro _)
 
-  puts_down : (way : Way R.Denot) (v : Option R.Denot) → ‵ (next v) ⊩ later (‵ (right R b o t way writes v))
-  puts_down way None = lemma (𝓛.laws.⇛_intro _)
-  puts_down way (Some x) = script ∵ updating ! $ fpick ! (λ a. cite _ (ends x a) $ await ! tt $ now ! $ done !)
+  puts_down : (x : R.Denot) → ‵ (fex ℕ (begun x)) ⊩ later (‵ (tracked R b o t x))
+  puts_down x = script ∵ updating ! $ fpick ! (λ a. cite _ (ends x a) $ await ! tt $ now ! $ done !)
 
   pub settles_down : (u : Use) (way : Way R.Denot) (v : Option R.Denot) → ‵ (held u way v) ⊩ later (‵ (right R b o t way u v))
-  settles_down writes lends v = puts_down lends v
-  settles_down writes (fixes fact) v = puts_down (fixes fact) v
+  settles_down writes lends (Some x) = puts_down x
+  settles_down writes (fixes fact) (Some x) = puts_down x
   settles_down _ _ v = lemma (𝓛.laws.⇛_intro _)

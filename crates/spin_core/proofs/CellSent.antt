@@ -13,75 +13,64 @@ use denote.Param.Send.{IsSend, IsSync, part_keyless, whole-keyless}
 use Rattle.core.proofs.atomic.Sent.{chain-Keyless}
 use Rattle.atomic_table.specs.Seated.{halved}
 use Rattle.spin_core.specs.Cell.{Use, off, reads, writes, Way, alone, lends, fixes, Ways, IsKnown, use_of, IsShared}
-use Rattle.spin_core.specs.CellMemory.{offset, second_at, Common, Sends, Known, Id, Round, roster, remains, named, tracked, resting, missing, state, right, stand, kept, cell_shares, permit_owns, permit_shares, reader_shares, writer_owns, writer_shares}
+use Rattle.spin_core.specs.CellMemory.{offset, second_at, Common, Sends, Known, Id, Round, roster, remains, named, resting, state, right, stand, kept, cell_shares, permit_owns, permit_shares, reader_shares, writer_owns, writer_shares}
 
 roster_keyless : {V : Type 0} (c : V → Gv) (ρ k : ℕ) (vs : List V) → Keyless (roster c ρ k vs)
 roster_keyless c ρ k [] = λ g. entries_keyless halved ρ k (λ _. (full_share, g))
 roster_keyless c ρ k (v ∷ vs) = (entry_keyless halved ρ k _, roster_keyless c ρ (suc k) vs)
 
-stand_keyless : (R : RattleType) (b o : ℕ) (t : Id) {V : Type 0} (c : V → Gv) (view : Option V) → Keyless (stand R b o t c view)
-stand_keyless R b o t c None = tt
-stand_keyless R b o t c (Some v) = λ id. entry_keyless halved t.views id _
+stand_keyless : {V : Type 0} (c : V → Gv) (ρ : ℕ) (view : Option V) → Keyless (stand c ρ view)
+stand_keyless c ρ None = tt
+stand_keyless c ρ (Some v) = λ id. entry_keyless halved ρ id _
 
 module _ (R : RattleType) (s : IsSend R) (b o : ℕ) (t : Id) where
   named_keyless : Keyless (named R b o t)
   named_keyless = λ x. (part_keyless R s full_share x b (o + offset R), tt)
-
-  tracked_keyless : (x : R.Denot) → Keyless (tracked R b o t x)
-  tracked_keyless x = (tt, named_keyless)
 
   remains_keyless : (fact : Bool → R.Denot → Type 0) (s : Round R) (r : ℕ) → Keyless (remains R fact t.round s r)
   remains_keyless fact s zero = λ known. (tt, tt)
   remains_keyless fact s (suc r) = λ e known. (tt, tt)
 
   resting_keyless : (way : Way R.Denot) → (IsShared way → Common R) → (r : ℕ) (x : R.Denot) → Keyless (resting R b o t way r x)
-  resting_keyless alone sees r x = tracked_keyless x
+  resting_keyless alone sees r x = (tt, named_keyless)
   resting_keyless lends sees r x = λ a. ((λ e n. (tt, tt)), (tt, (sees tt x b (o + offset R) (a ∷ t.life), named_keyless)))
   resting_keyless (fixes fact) sees r x = λ a. (remains_keyless fact (a, x) r, (tt, (sees tt x b (o + offset R) (a ∷ t.life), named_keyless)))
 
-  missing_keyless : (way : Way R.Denot) → Keyless (missing R b o t way)
-  missing_keyless alone = tt
-  missing_keyless _ = λ g. tt
-
   state_keyless : (way : Way R.Denot) (φ : R.Denot → Type 0) → (IsShared way → Common R) → (r w : ℕ) → Keyless (state R b o t way φ r w)
   state_keyless way φ sees r zero = λ x known. resting_keyless way sees r x
-  state_keyless way φ sees r (suc w) = missing_keyless way
+  state_keyless alone φ sees r (suc w) = tt
+  state_keyless _ φ sees r (suc w) = λ g. tt
 
   right_keyless : (way : Way R.Denot) (u : Use) → (u ≡ reads → Common R) → (x : Option R.Denot) → Keyless (right R b o t way u x)
   right_keyless way reads sees (Some x) = λ a. ((λ e n. (tt, tt)), sees refl x b (o + offset R) (a ∷ t.life))
-  right_keyless way writes sees (Some x) = tracked_keyless x
+  right_keyless way writes sees (Some x) = (tt, named_keyless)
   right_keyless way off sees None = tt
   right_keyless way _ sees _ = tt
 
   module _ {V : Type 0} (c : V → Gv) (S : RattleType) (holds : ℕ → S.Denot → List V → Type 0) (ways : Ways R.Denot V S.Denot) where
     kept_keyless : (IsShared ways.0 → Common R) → Sends S → (κ : Lft) → Keyless (kept R b o t c S holds ways κ)
-    kept_keyless sees sent κ = (
-      (λ νs. chain-Keyless νs κ t.life),
-      λ z. (
-        tt,
-        (
-          whole-keyless (raw_all S.mir) S.own_val sent full_share z.1 b (o + second_at S R),
-          λ vs.
-              (roster_keyless c t.views 0 vs, ((λ _. tt), state_keyless ways.0 (IsKnown ways.2 z.1) sees _ _)),
-        ),
-      ),
-    )
+    kept_keyless sees sent κ = ((λ νs. chain-Keyless νs κ t.life), λ z. (tt, (
+        whole-keyless (raw_all S.mir) S.own_val sent full_share z.1 b (o + second_at S R),
+        λ vs. (roster_keyless c t.views 0 vs, ((λ _. tt), state_keyless ways.0 (IsKnown ways.2 z.1) sees _ _)))))
 
 module _ (Y R : RattleType) {V : Type 0} (c : V → Gv) (S : RattleType) (holds : ℕ → S.Denot → List V → Type 0) (ways : Ways R.Denot V S.Denot) where
   pub cell_keyless : IsSend R → IsSync Y → (p : Ptr) (κ : Lft) → Keyless (cell_shares Y R c S holds ways p κ)
   cell_keyless s y (block_ptr b o) κ = λ known t. kept_keyless R s b o t c S holds ways (λ e. known.0 e y.shared) known.2 κ
   cell_keyless s y null_ptr κ = tt
 
-  pub writer_keyless : IsSend R → IsSync Y → (β : Lft) (p : Ptr) (view : V) (x : R.Denot) → Keyless (writer_owns Y R c S holds ways β p view x)
-  writer_keyless s y β (block_ptr b o) view x = λ known e t. (kept_keyless R s b o t c S holds ways (λ e. known.0 e y.shared) known.2 β, ((λ id. entry_keyless halved t.views id _), tracked_keyless R s b o t x))
-  writer_keyless s y β null_ptr view x = tt
-
   some_reads : (view : Option V) → Known ways Y S R → use_of ways.1 view ≡ reads → Common Y → Common R
   some_reads view known e = grind arith
 
   pub permit_keyless : IsSend R → IsSync Y → (β : Lft) (p : Ptr) (view : Option V) (x : Option R.Denot) → Keyless (permit_owns Y R c S holds ways β p view x)
-  permit_keyless s y β (block_ptr b o) view x = λ known t. (kept_keyless R s b o t c S holds ways (λ e. known.0 e y.shared) known.2 β, (stand_keyless R b o t c view, right_keyless R s b o t ways.0 (use_of ways.1 view) (λ e. some_reads view known e y.shared) x))
+  permit_keyless s y β (block_ptr b o) view x = λ known t. (
+      kept_keyless R s b o t c S holds ways (λ e. known.0 e y.shared) known.2 β, (stand_keyless c t.views view,
+      right_keyless R s b o t ways.0 (use_of ways.1 view) (λ e. some_reads view known e y.shared) x))
   permit_keyless s y β null_ptr view x = tt
+
+  pub writer_keyless : IsSend R → IsSync Y → (β : Lft) (p : Ptr) (view : V) (x : R.Denot)
+      → Keyless (writer_owns Y R c S holds ways β p view x)
+  writer_keyless s y β (block_ptr b o) view x = λ writes. permit_keyless s y β (block_ptr b o) (Some view) (Some x)
+  writer_keyless s y β null_ptr view x = tt
 
   reader_sees : IsSync Y → (β : Lft) (b o : ℕ) (u : Use) → (Known ways Y S R → u ≡ reads → Common Y → Common R) → (x : Option R.Denot) (κ : Lft) → Keyless (reader_shares Y R c S holds ways β b o u x κ)
   reader_sees y β b o reads sees (Some x) κ = λ known. sees known refl y.shared x b (o + offset R) _

@@ -57,8 +57,7 @@ module _ {M : Type 1} {𝓤 : Ura M} (𝓛 : Logic 𝓤) (Er Ur : RattleType) wh
 
   -- what a watch of this trace knew is a prefix of the trace; a watch that knew nothing knows the empty prefix
   knew : (γ : ℕ) (k : List E) (m : Trace E U) → (k ≡ []) ⊎ (m.name ≡ γ) → ‵ (Log m) ⊛ ‵ (Known γ k) ⊩ given (IsPrefix k m.entries) (‵ (Log m))
-  knew γ k m (inl none) = script ∵ move ! (1 ∷ []) $ drop ! $
-      check ! (rw none (m.entries, refl)) $ done !
+  knew γ k m (inl none) = script ∵ move ! (1 ∷ []) $ drop ! $ check ! (rw none (m.entries, refl)) $ done !
   knew γ k m (inr is) = script ∵ rewrite ! 1 (λ (z : ℕ). ‵ (Known z k)) (sym is) refl $
       cite _ (observes_whole 𝓛 Er.coded m.name m.entries k) $
       learn ! (λ p. check ! p $ split ! $ move ! (1 ∷ []) $ drop ! $ done !)
@@ -69,12 +68,10 @@ module _ {M : Type 1} {𝓤 : Ura M} (𝓛 : Logic 𝓤) (Er Ur : RattleType) wh
   unfolding part_of
   shows γ k m es b e may = let m' : Trace E U = grown m es in let Now : Fml = Known m.name (m.entries ++ es) in
       let To : Item 𝓤 = given (IsPrefix k m.entries) (‵ (part_at S full_share m' b e) ⊛ ‵ Now) in updates ∵
-      fpick ! (λ vs. fsplit ! $ move ! (1 ∷ []) $ fsplit ! $ move ! (1 ∷ 3 ∷ []) $
-      cite _ (knew γ k m may) $ learn ! (λ p.
-      renew To _ (appends 𝓛 Er.coded m.name m.entries es) $ settled ! _ $ check ! p $
-      cite _ (shows_whole 𝓛 Er.coded m.name (m.entries ++ es)) $
-      move ! (2 ∷ 0 ∷ []) $ fjoin ! $ move ! (2 ∷ 0 ∷ []) $ fjoin ! $
-      fpack ! (List Val) (λ us. fsep (cell_at full_share S.mir us b e) (S.own_val m' us)) vs $ done !))
+      fpick ! (λ vs. fsplit ! $ move ! (1 ∷ []) $ fsplit ! $ move ! (1 ∷ 3 ∷ []) $ cite _ (knew γ k m may) $
+      learn ! (λ p. renew To _ (appends 𝓛 Er.coded m.name m.entries es) $ settled ! _ $ check ! p $
+      cite _ (shows_whole 𝓛 Er.coded m.name (m.entries ++ es)) $ move ! (2 ∷ 0 ∷ []) $ fjoin ! $ move ! (2 ∷ 0 ∷ []) $
+      fjoin ! $ fpack ! (List Val) (λ us. fsep (cell_at full_share S.mir us b e) (S.own_val m' us)) vs $ done !))
 
   module _ (R : RattleType) (L : RowLaws R) (b o : ℕ) (t : Id) {V : Type 0} (cv : Coded V) (holds : ℕ → Trace E U → List V → Type 0)
       (ways : Ways R.Denot V (Trace E U)) (view : Option V) (v : Option R.Denot) where
@@ -97,7 +94,7 @@ module _ {M : Type 1} {𝓤 : Ura M} (𝓛 : Logic 𝓤) (Er Ur : RattleType) wh
     St = state R b o t way
 
     abbrev Stand : Option V → Fml
-    Stand = stand R b o t cv.code
+    Stand = stand cv.code t.views
 
     abbrev Core : ℕ × Trace E U → Fml
     Core = core R b o t cv.code S holds ways
@@ -181,10 +178,6 @@ module _ {M : Type 1} {𝓤 : Ura M} (𝓛 : Logic 𝓤) (Er Ur : RattleType) wh
     abbrev pub May : ℕ → List E → Type 0
     May γ k = (k ≡ []) ⊎ Named holds ways γ
 
-    name_of : (γ name : ℕ) (k : List E) → May γ k → (Named holds ways γ → name ≡ γ) → (k ≡ []) ⊎ (name ≡ γ)
-    name_of γ name k (inl none) is = inl none
-    name_of γ name k (inr named) is = inr (is named)
-
     module _ (told : List E → List E → ℕ → V → Type 0) where
       -- what the step leaves to its party and its watch
       abbrev pub seen_by : ℕ → List E → ℕ → ℕ × (List E × List E) → Fml
@@ -194,13 +187,11 @@ module _ {M : Type 1} {𝓤 : Ura M} (𝓛 : Logic 𝓤) (Er Ur : RattleType) wh
       abbrev pub watched : ℕ → List E → ℕ → Fml
       watched γ k n = fex (ℕ × (List E × List E)) (seen_by γ k n)
 
-      -- What a step that finds the number k must show. It changes the first word from n₀ to n, and m's word to y.
-      abbrev pub Grows : ℕ → Trace E U → ℕ → U → ℕ → Type 0
-      Grows n₀ m n y k = (id : ℕ) (vs : List V) → Meets holds ways n₀ m vs → Stands id view vs
-          → (w : V) × (es : List E) × Owed (readers_of f vs) m (n, grown_at m y es) (after id view vs w) w × told m.entries es k w
-
-      -- the ghost part of this step, after its new words are in memory
-      pub grows : (γ : ℕ) (k : List E) → May γ k → (n₀ n : ℕ) (m : Trace E U) (y : U) (found : ℕ) → Grows n₀ m n y found
+      -- The ghost part of a step that finds the number `found`, after its new words are in memory. The step changes the
+      -- first word from n₀ to n, and m's word to y.
+      pub grows : (γ : ℕ) (k : List E) → May γ k → (n₀ n : ℕ) (m : Trace E U) (y : U) (found : ℕ)
+          → ((id : ℕ) (vs : List V) → Meets holds ways n₀ m vs → Stands id view vs → (w : V) × (es : List E)
+          × Owed (readers_of f vs) m (n, grown_at m y es) (after id view vs w) w × told m.entries es found w)
           → ‵ (word b (o + 0) n) ⊛ ‵ (Traced (beside m y)) ⊛ ‵ (Core (n₀, m)) ⊛ ‵ Mine ⊛ ‵ (Known γ k) ⊫ ‵ I ⊛ ‵ (watched γ k found)
       grows γ k may n₀ n m y found law = let m' : Trace E U = beside m y in let To : Item 𝓤 = ‵ I ⊛ ‵ (watched γ k found) in updates ∵
           move ! (2 ∷ []) $ fpick ! (λ vs. fsplit ! $ move ! (1 ∷ []) $ fsplit ! $ fpick ! (λ meets. drop ! $ move ! (4 ∷ []) $ fsplit ! $ move ! (3 ∷ 0 ∷ []) $
@@ -209,9 +200,8 @@ module _ {M : Type 1} {𝓤 : Ura M} (𝓛 : Logic 𝓤) (Er Ur : RattleType) wh
           renew To _ (places 𝓛 cv ρ view vs (λ id here. (law id vs meets here).0)) $
           pick ! (λ z. let id = z.0 in let here = z.1 in let r = law id vs meets here in let w : V = r.0 in
           let es : List E = r.1 in let s : ℕ × Trace E U = (n, grown_at m y es) in
-          let us : List V = after id view vs w in let Now : Fml = Known m.name (m.entries ++ es) in
           split ! $ move ! (3 ∷ 2 ∷ []) $ renew To _ (shifts id vs m s w r.2 here meets.1) $ move ! (5 ∷ 6 ∷ []) $
-          renew To _ (shows γ k m' es b at (name_of γ m.name k may (λ named. named n₀ m vs meets))) $
+          renew To _ (shows γ k m' es b at (elim may [ inl none ↦ inl none | inr named ↦ inr (named n₀ m vs meets) ])) $
           learn ! (λ p. split ! $ settled ! _ $ move ! (4 ∷ 5 ∷ 2 ∷ 3 ∷ []) $
           cite _ (leads id vs m s w r.2 (told m.entries es) found r.3) $
           -- context: [the core; what the step leaves; the trace; what the watch knows; the first word]

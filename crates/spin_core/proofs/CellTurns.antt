@@ -3,6 +3,7 @@
 use Rattle.std.proofs.Common.{◌≡◌, ◌≢◌, ℕ, suc, ◌+◌, ◌-◌, ◌^◌, ◌<◌, Bool, zero, [], ◌∷◌, refl, subst, arith, Option, Some, None}
 use seplogic.Ra.Ura.{Ura}
 use base.Fraction.{full_share}
+use base.FractionLaws.{Counts}
 use base.Stored.{Gv}
 use base.Logic.{via, id⊢, never_e, snd∗}
 use base.Fml.{Lft, Fml, ftrue, ffalse, fsep, fex}
@@ -12,24 +13,22 @@ use denote.RattleType.{RattleType, RowLaws}
 use denote.SharingLaws.{contraction}
 use denote.Steps.{nothing}
 use Rattle.atomic_table.specs.Seated.{fact}
-use Rattle.spin_core.specs.Cell.{Going, Preserves, Shows, Finds, Carries, Learns, Use, off, reads, writes, Way, alone, lends, fixes, reading, writing, Limits}
-use Rattle.spin_core.specs.CellMemory.{Id, Round, round_code, tag, parts, piece, remains, idle, offset, shown, shared, resting, lying, state, reader}
+use Rattle.spin_core.specs.Cell.{Going, Preserves, Finds, Carries, Learns, Use, off, reads, writes, Way, alone, lends, fixes, reading, writing, Limits}
+use Rattle.spin_core.specs.CellMemory.{Id, Round, round_code, tag, parts, Part, piece, remains, idle, offset, shown, shared, resting, state, reader}
 use Rattle.spin_core.proofs.CellWays.{going_rest}
-use Rattle.spin_core.proofs.CellParts.{parts_cut, parts_glue, parts_whole, parts_agree, pieces_agree, piece_cut}
-use Rattle.spin_core.proofs.CellRounds.{begun, held, whole, renewed, rests_lent, rests_fixed}
+use Rattle.spin_core.proofs.CellParts.{parts_cut, parts_glue, parts_whole, some_agree, piece_cut}
+use Rattle.spin_core.proofs.CellRounds.{begun, held, whole, renewed, lies, rests_lent, rests_fixed}
 use Rattle.spin_core.proofs.Signs.{signs}
 use Rattle.spin_core.proofs.WalkSteps.{knows}
 use Rattle.spin_core.proofs.Lemmas.{script, lemma, update, cite, updates, renew, settled}
 
 -- the number of readers, if a party with this use joins r readers
 abbrev pub with_reader : Use → ℕ → ℕ
-with_reader reads r = suc r
-with_reader _ r = r
+with_reader u r = elim u [ reads ↦ suc r | _ ↦ r ]
 
 -- the number of writers, if a party with this use joins w writers
 abbrev pub with_writer : Use → ℕ → ℕ
-with_writer writes w = suc w
-with_writer _ w = w
+with_writer u w = elim u [ writes ↦ suc w | _ ↦ w ]
 
 pub one_reader : (u : Use) (r : ℕ) → r + reading u ≡ with_reader u r
 one_reader u r = grind arith
@@ -40,8 +39,7 @@ one_writer u w = grind arith
 module _ {X : Type 0} where
   -- what a party is shown of the value x
   abbrev shown_to : Use → X → Option X
-  shown_to off x = None
-  shown_to _ x = Some x
+  shown_to u x = elim u [ off ↦ None | _ ↦ Some x ]
 
   abbrev Lim : Way X → ℕ → ℕ → Use → Type 0
   Lim way r w u = Limits way (with_reader u r) (with_writer u w)
@@ -58,15 +56,7 @@ module _ {X : Type 0} where
 
   -- what is known of a value that a party gives back, if φ holds of a value that nobody writes
   abbrev Had : (X → Type 0) → Use → X → Type 0
-  Had φ writes x = Unit {0}
-  Had φ _ x = φ x
-
-  shows : (u u' : Use) (x : X) → Shows u' (shown_to u x) (shown_to u' x)
-  shows u u' x = grind arith
-
-  -- a party that already uses the value learns no more than one that begins to use it
-  finds_so : (way : Way X) (u u' : Use) (x : X) → Finds way off u' (shown_to u' x) → Finds way u u' (shown_to u' x)
-  finds_so way u u' x finds = grind arith
+  Had φ u x = elim u [ writes ↦ Unit {0} | _ ↦ φ x ]
 
   writes_so : (way : Way X) (x : X) → Preserves way writes writes (Some x) (Some x)
   writes_so way x = grind arith
@@ -75,8 +65,10 @@ module _ {X : Type 0} where
   rests_so way = grind arith
 
   module _ (φ ψ : X → Type 0) where
-    learns : (u u' : Use) (x : X) → ψ x → Learns ψ u u' (shown_to u x) (shown_to u' x)
-    learns u u' x known = grind arith
+    -- a party that already uses the value learns no more than one that begins to use it
+    shows : (way : Way X) (u u' : Use) (x : X) → Finds way off u' (shown_to u' x) → ψ x
+        → Preserves way u u' (shown_to u x) (shown_to u' x) × Learns ψ u u' (shown_to u x) (shown_to u' x)
+    shows way u u' x finds known = grind arith
 
     -- after a step ψ holds of the value, unless the party writes on
     known_after : (u u' : Use) (x : X) → (u ≡ writes → u' ≢ writes) → Carries φ ψ u u' (shown_to u x) → Had φ u x → ψ x
@@ -100,15 +92,9 @@ module _ {M : Type 1} {𝓤 : Ura M} (𝓛 : Logic 𝓤) (R : RattleType) (L : R
   abbrev Rest : Way X → ℕ → X → Fml
   Rest = resting R b o t
 
-  abbrev V : X → Lft → Fml
-  V = shown R b o
-
   -- a round of which r readers have their parts: the other parts, and what is shared
   abbrev lent : ℕ → Round R → Fml
   lent r s = fsep (parts R γ s (2 ^ 63 - r)) (shared R b o t s)
-
-  abbrev seen_on : (Bool → X → Type 0) → ℕ → Round R → Fml
-  seen_on facts r s = fsep (remains R facts γ s r) (shared R b o t s)
 
   -- a party that uses the value is shown a value: it never has `ffalse`
   never : (P : Fml) (k : Item 𝓤) → ‵ P ⊛ ‵ ffalse ⊫ k
@@ -118,10 +104,6 @@ module _ {M : Type 1} {𝓤 : Ura M} (𝓛 : Logic 𝓤) (R : RattleType) (L : R
   nobody off way P k on = absurd (on refl)
   nobody writes alone P k on = never P k
   nobody _ _ P k on = never P k
-
-  lies : (way : Way X) (φ : X → Type 0) (r : ℕ) (x : X) → φ x → ‵ (Rest way r x) ⊩ ‵ (St way φ r 0)
-  lies way φ r x known =
-      script ∵ fpack ! (φ x) (λ _. Rest way r x) known $ fpack ! X (lying R b o t way φ r) x $ done !
 
   -- ---- a party gives back what it had
   module _ (φ : X → Type 0) (r : ℕ) where
@@ -146,7 +128,7 @@ module _ {M : Type 1} {𝓤 : Ura M} (𝓛 : Logic 𝓤) (R : RattleType) (L : R
     gave_part : (u' : Use) (x : X) → r < 2 ^ 63 → ‵ (St lends φ (suc r) 0) ⊛ ‵ (reader R b o t lends x) ⊩ ‵ (Given lends reads u' (Some x))
     gave_part u' x small = script ∵ fpick ! (λ y. fpick ! (λ known. fpick ! (λ a.
         fsplit ! $ move ! (2 ∷ []) $ fpick ! (λ c. let s : Round R = (a, y) in let u : Round R = (c, x) in fsplit ! $ move ! (2 ∷ 0 ∷ []) $
-        cite _ (parts_agree 𝓛 R γ s u (2 ^ 63 - suc r) 1) $
+        cite _ (some_agree 𝓛 R γ (λ e. Counts 63 e (2 ^ 63 - suc r)) (λ e. Counts 63 e 1) s u) $
         learn ! (λ same. split ! $ rewrite ! 0 (λ (z : Round R). ‵ (parts R γ z (2 ^ 63 - suc r))) same refl $
         cite _ (parts_glue 𝓛 R γ u (2 ^ 63 - suc r) 1 (omega arith) (omega arith)) $
         let more : (2 ^ 63 - suc r) + 1 ≡ 2 ^ 63 - r = omega arith in rewrite ! 0 (λ (k : ℕ). ‵ (parts R γ u k)) more refl $ move ! (2 ∷ []) $
@@ -157,15 +139,12 @@ module _ {M : Type 1} {𝓤 : Ura M} (𝓛 : Logic 𝓤) (R : RattleType) (L : R
     gave_piece : (facts : Bool → X → Type 0) (x : X)
         → ‵ (St (fixes facts) φ (suc r) 0) ⊛ ‵ (reader R b o t (fixes facts) x) ⊩ ‵ (Given (fixes facts) reads reads (Some x))
     gave_piece facts x = let way : Way X = fixes facts in
-        script ∵ fpick ! (λ y. fpick ! (λ known. fpick ! (λ a. fsplit ! $ move ! (2 ∷ []) $
-        fpick ! (λ c. let s : Round R = (a, y) in let u : Round R = (c, x) in fsplit ! $ move ! (2 ∷ 0 ∷ []) $
-        cite _ (pieces_agree 𝓛 R γ way s u) $ learn ! (λ same. split ! $
-        move ! (0 ∷ 3 ∷ []) $ fjoin ! $ rewrite ! 0 (λ (z : Round R). ‵ (seen_on facts (suc r) z)) same refl $
-        fpack ! ℕ (λ e. seen_on facts (suc r) (e, x)) c $
+        let Seen : Round R → Fml = λ z. fsep (remains R facts γ z (suc r)) (shared R b o t z) in
+        script ∵ fpick ! (λ y. fpick ! (λ known. fpick ! (λ a. fsplit ! $ move ! (2 ∷ []) $ fpick ! (λ c.
+        let s : Round R = (a, y) in let u : Round R = (c, x) in fsplit ! $ move ! (2 ∷ 0 ∷ []) $
+        cite _ (some_agree 𝓛 R γ (Part way y) (Part way x) s u) $ learn ! (λ same. split ! $ move ! (0 ∷ 3 ∷ []) $
+        fjoin ! $ rewrite ! 0 (λ (z : Round R). ‵ (Seen z)) same refl $ fpack ! ℕ (λ e. Seen (e, x)) c $
         keep ! (0 ∷ []) $ by ! (gave way reads reads (Some x) x refl (subst (λ (z : Round R). φ z.1) same known)).prf)))))
-
-    abbrev Gives : Way X → Use → Use → Option X → Type 1
-    Gives way u u' v = ‵ (St way φ (with_reader u r) (with_writer u 0)) ⊛ ‵ (Held u way v) ⊫ ‵ (Given way u u' v)
 
   has_room : (way : Way X) (u' : Use) (v : Option X) (r : ℕ) (x : X) (A : Type 0) → Going way off u' v r A → ‵ (Rest way r x) ⊩ ‵ (Rest way (room way u' r) x)
   has_room (fixes facts) reads v zero x A going = absurd (omega (arith, going.1))
@@ -173,7 +152,8 @@ module _ {M : Type 1} {𝓤 : Ura M} (𝓛 : Logic 𝓤) (R : RattleType) (L : R
   has_room _ u' v r x A going = lemma (id⊢ 𝓤 _)
 
   gives : (φ : X → Type 0) (way : Way X) (r : ℕ) (u u' : Use) (v : Option X) (A : Type 0) → (u ≡ writes → u' ≢ writes) → Lim way r 0 u
-      → Going way u u' v (with_reader u r) A → Gives φ r way u u' v
+      → Going way u u' v (with_reader u r) A
+      → ‵ (St way φ (with_reader u r) (with_writer u 0)) ⊛ ‵ (Held u way v) ⊫ ‵ (Given φ r way u u' v)
   gives φ way r off u' (Some x) A turned lim going = never (St way φ r 0) _
   gives φ way r off u' None A turned lim going = updates ∵ settled ! _ $ fpick ! (λ x. fpick ! (λ known.
       cite _ (has_room way u' None r x A going) $ keep ! (0 ∷ []) $ by ! (gave φ r way off u' None x refl known).prf))
@@ -193,43 +173,37 @@ module _ {M : Type 1} {𝓤 : Ura M} (𝓛 : Logic 𝓤) (R : RattleType) (L : R
 
   -- ---- a party takes what it may use
   module _ (ψ : X → Type 0) where
-    abbrev Takes : Way X → ℕ → Use → X → Type 1
-    Takes way r u x = ‵ (Rest way (room way u r) x) ⊩ given (Finds way off u (shown_to u x))
-        (‵ (St way ψ (with_reader u r) (with_writer u 0)) ⊛ ‵ (Held u way (shown_to u x)))
-
     takes_nothing : (way : Way X) (r : ℕ) (x : X) → ψ x → (A : Type 0) → A → ‵ (Rest way r x) ⊩ given A (‵ (St way ψ r 0) ⊛ ‵ ftrue)
     takes_nothing way r x known A a =
-        script ∵ check ! a $ cite _ (lies way ψ r x known) $ nothing ! $ move ! (1 ∷ 0 ∷ []) $ done !
+        script ∵ check ! a $ cite _ (lies 𝓛 R b o t way ψ r x known) $ nothing ! $ move ! (1 ∷ 0 ∷ []) $ done !
 
     -- a reader takes its piece of a round, and the state keeps the rest
     taken : (way : Way X) (r : ℕ) (Rem : Round R → Fml) (x : X) (a : ℕ) → ψ x
         → ‵ (fex ℕ (λ e. fsep (Rem (e, x)) (shared R b o t (e, x)))) ⊩ ‵ (Rest way (suc r) x)
         → ‵ (piece R way γ (a, x)) ⊛ ‵ (Rem (a, x)) ⊛ ‵ (shared R b o t (a, x)) ⊩ ‵ (St way ψ (suc r) 0) ⊛ ‵ (reader R b o t way x)
     taken way r Rem x a known rests = let Lent : ℕ → Fml = λ e. fsep (Rem (e, x)) (shared R b o t (e, x)) in
+        let V : Lft → Fml = shown R b o x in let κ : Lft = a ∷ t.life in
         script ∵ move ! (2 ∷ []) $ fsplit3 ! $ move ! (1 ∷ []) $
-        use1 𝓛 (‵ (V x (a ∷ t.life)) ⊛ ‵ (V x (a ∷ t.life))) (contraction 𝓛 (V x) (L x b (o + offset R)) (a ∷ t.life)) $ split ! $
-        move ! (4 ∷ 0 ∷ []) $ fjoin ! $ fpack ! ℕ (λ e. fsep (piece R way γ (e, x)) (V x (e ∷ t.life))) a $
-        move ! (2 ∷ 1 ∷ 3 ∷ []) $ fjoin3 ! $ move ! (2 ∷ 0 ∷ []) $ fjoin ! $ fpack ! ℕ Lent a $ cite _ rests $
-        cite _ (lies way ψ (suc r) x known) $ done !
+        use1 𝓛 (‵ (V κ) ⊛ ‵ (V κ)) (contraction 𝓛 V (L x b (o + offset R)) κ) $ split ! $ move ! (4 ∷ 0 ∷ []) $
+        fjoin ! $ fpack ! ℕ (λ e. fsep (piece R way γ (e, x)) (V (e ∷ t.life))) a $ move ! (2 ∷ 1 ∷ 3 ∷ []) $ fjoin3 ! $
+        move ! (2 ∷ 0 ∷ []) $ fjoin ! $ fpack ! ℕ Lent a $ cite _ rests $
+        cite _ (lies 𝓛 R b o t way ψ (suc r) x known) $ done !
 
-    takes_part : (r : ℕ) (x : X) → ψ x → suc r < 2 ^ 63 → Takes lends r reads x
-    takes_part r x known small = script ∵ check ! tt $ fpick ! (λ a. fsplit ! $
-        cite _ (parts_cut 𝓛 R γ (a, x) (2 ^ 63 - r) 1 (2 ^ 63 - suc r) (omega arith) (omega arith) (omega arith) (omega arith)) $
-        by ! (taken lends r (λ s. parts R γ s (2 ^ 63 - suc r)) x a known (lemma (id⊢ 𝓤 _))).prf)
-
-    -- a reader takes half of what the earlier readers left
-    takes_piece : (facts : Bool → X → Type 0) (r : ℕ) (x : X) → ψ x → Takes (fixes facts) r reads x
-    takes_piece facts r x known = let way : Way X = fixes facts in script ∵ fpick ! (λ a. fsplit ! $
-        cite _ (piece_cut 𝓛 R γ facts (a, x)) $
-        learn ! (λ so. check ! so $ split ! $ by ! (taken way r (λ s. piece R way γ s) x a known (lemma (id⊢ 𝓤 _))).prf))
-
-    -- each party takes what it may use: a writer takes the whole round
-    takes : (way : Way X) (r : ℕ) (u : Use) (x : X) → ψ x → Lim way r 0 u → Takes way r u x
+    -- Each party takes what it may use. A reader takes one part, or half of what the earlier readers left. A writer
+    -- takes the whole round.
+    takes : (way : Way X) (r : ℕ) (u : Use) (x : X) → ψ x → Lim way r 0 u
+        → ‵ (Rest way (room way u r) x) ⊩ given (Finds way off u (shown_to u x))
+        (‵ (St way ψ (with_reader u r) (with_writer u 0)) ⊛ ‵ (Held u way (shown_to u x)))
     takes alone r off x known lim = takes_nothing alone r x known (Unit {0}) tt
     takes way r off x known lim = takes_nothing way r x known (Unit {0}) tt
     takes alone r reads x known lim = absurd (omega arith)
-    takes lends r reads x known lim = takes_part r x known (omega arith)
-    takes (fixes facts) r reads x known lim = takes_piece facts r x known
+    takes lends r reads x known lim = let small : suc r < 2 ^ 63 = omega arith in script ∵ check ! tt $
+        fpick ! (λ a. fsplit ! $ cite _ (parts_cut 𝓛 R γ (a, x) (2 ^ 63 - r) 1 (2 ^ 63 - suc r) (omega arith)
+        (omega arith) (omega arith) (omega arith)) $
+        by ! (taken lends r (λ s. parts R γ s (2 ^ 63 - suc r)) x a known (lemma (id⊢ 𝓤 _))).prf)
+    takes (fixes facts) r reads x known lim = let way : Way X = fixes facts in
+        script ∵ fpick ! (λ a. fsplit ! $ cite _ (piece_cut 𝓛 R γ facts (a, x)) $ learn ! (λ so. check ! so $
+        split ! $ by ! (taken way r (λ s. piece R way γ s) x a known (lemma (id⊢ 𝓤 _))).prf))
     takes alone r writes x known lim = script ∵ check ! tt $ nothing ! $ done !
     takes lends (suc r) writes x known lim = absurd (omega arith)
     takes lends zero writes x known lim = script ∵ check ! tt $ fpick ! (λ a. fsplit ! $
@@ -249,8 +223,7 @@ module _ {M : Type 1} {𝓤 : Ura M} (𝓛 : Logic 𝓤) (R : RattleType) (L : R
 
   got_in : (way : Way X) (ψ : X → Type 0) (u u' : Use) (v v' : Option X) → Preserves way u u' v v' × Learns ψ u u' v v'
       → ‵ (Held u' way v') ⊩ ‵ (Got way ψ u u' v)
-  got_in way ψ u u' v v' so = script ∵
-      knows ! (Preserves way u u' v v' × Learns ψ u u' v v') so $ fjoin ! $
+  got_in way ψ u u' v v' so = script ∵ knows ! (Preserves way u u' v v' × Learns ψ u u' v v') so $ fjoin ! $
       fpack ! (Option X) (got way ψ u u' v) v' $ done !
 
   -- Before the step φ holds of a value that nobody writes; after it ψ does.
@@ -261,16 +234,13 @@ module _ {M : Type 1} {𝓤 : Ura M} (𝓛 : Logic 𝓤) (R : RattleType) (L : R
 
     -- if nobody else writes, the party gives back what it had, and takes what it may use next
     passes : (u u' : Use) (v : Option X) → (u ≡ writes → u' ≢ writes) → Turns 0 u u' v
-    passes u u' v turned lim going owed =
-        let Before : Fml = St way φ (with_reader u r) (with_writer u 0) in let After : Fml = St way ψ (with_reader u' r) (with_writer u' 0) in
-        let Gave : Fml = Given φ r way u u' v in let Now : X → Fml = λ x. Held u' way (shown_to u' x) in
-        let So : Option X → X → Type 0 = λ z x. Preserves way u u' z (shown_to u' x) × Learns ψ u u' z (shown_to u' x) in
-        updates ∵ renew (‵ After ⊛ ‵ (Got way ψ u u' v)) _ (gives φ way r u u' v (Lim way r 0 u') turned lim going) $
-        settled ! _ $ fpick ! (λ x. fpick ! (λ had.
+    passes u u' v turned lim going owed = updates ∵
+        renew (‵ (St way ψ (with_reader u' r) (with_writer u' 0)) ⊛ ‵ (Got way ψ u u' v)) _
+        (gives φ way r u u' v (Lim way r 0 u') turned lim going) $ settled ! _ $ fpick ! (λ x. fpick ! (λ had.
         let known : ψ x = known_after φ ψ u u' x turned (subst (Carries φ ψ u u') had.0 owed) had.1 in
-        cite _ (takes ψ way r u' x known (going_rest way u u' v (with_reader u r) going)) $ learn ! (λ finds.
-        let so : So v x = rw had.0 ((shows u u' x, finds_so way u u' x finds), learns φ ψ u u' x known) in
-        split ! $ move ! (1 ∷ []) $ cite _ (got_in way ψ u u' v (shown_to u' x) so) $ move ! (1 ∷ 0 ∷ []) $ done !)))
+        cite _ (takes ψ way r u' x known (going_rest way u u' v (with_reader u r) going)) $
+        learn ! (λ finds. split ! $ move ! (1 ∷ []) $ cite _ (got_in way ψ u u' v (shown_to u' x)
+        (rw had.0 (shows φ ψ way u u' x finds known))) $ move ! (1 ∷ 0 ∷ []) $ done !)))
 
     -- a party that keeps its use keeps what it has
     stays : (u : Use) (P : Fml) (v : Option X) → Preserves way u u v v × Learns ψ u u v v → ‵ P ⊛ ‵ (Held u way v) ⊫ ‵ P ⊛ ‵ (Got way ψ u u v)

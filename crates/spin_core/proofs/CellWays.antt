@@ -12,14 +12,6 @@ module _ {X : Type 0} where
   going_map (fixes fact) u v shown r f going = (going.0, going.1, f going.2)
   going_map _ u v shown r f going = f going
 
-  -- in a way in which any value may replace an unused one, `Fixed` holds of every value
-  freed : (way : Way X) → Frees way → (r w : ℕ) (x : X) → Fixed way r w x
-  freed way frees r w x = grind arith
-
-  -- without a known fact a step has nothing to show
-  carries_nothing : (u v : Use) (shown : Option X) → Carries (λ x. Unit {0}) (λ x. Unit {0}) u v shown
-  carries_nothing u v shown = grind arith
-
   -- ---- the known fact of a value, beside another statement A
   module _ {S : Type 0} where
     pub knowing_at : (k : Knowledge S X) (m : S) (x : X) {A : Type 0} → IsKnown k m x → A → Knowing k m 0 x A
@@ -35,9 +27,6 @@ module _ {X : Type 0} where
     pub knowing_none : (k : Knowledge S X) (m : S) (w : ℕ) (x : X) {A : Type 0} → 0 < w → A → Knowing k m w x A
     knowing_none k m w x some a = grind arith
 
-    knowing_freed : (k : Knowledge S X) (m : S) (w : ℕ) (y : X) {A B : Type 0} → Freeing k B → (B → A) → Knowing k m w y A
-    knowing_freed k m w y free to = grind arith
-
     pub carrying_of : (k : Knowledge S X) (m m' : S) (u v : Use) (shown : Option X) {A : Type 0} → Owed k m m' u v shown → A → Carrying k m m' u v shown A
     carrying_of k m m' u v shown owed a = grind arith
 
@@ -45,16 +34,20 @@ module _ {X : Type 0} where
     carrying_rest k m m' u v shown owed = grind arith
 
     pub carrying_carries : (k : Knowledge S X) (m m' : S) (u v : Use) (shown : Option X) (A : Type 0) → Carrying k m m' u v shown A → Carries (IsKnown k m) (IsKnown k m') u v shown
-    carrying_carries k m m' u v shown A owed = grind (arith, carries_nothing)
+    carrying_carries k m m' u v shown A owed = grind arith
 
   -- what a party learns of a trace t, it learns of the entries of t
   pub learnt_of : {E S : Type 0} (k : Knowledge (Trace E S) X) (t : Trace E S) (u v : Use) (before after : Option X) → Learns (IsKnown k t) u v before after → Learnt k u v before after t.entries
   learnt_of no_fact t u v before after learns = tt
   learnt_of (knows φ) t u v before after learns = (t, refl, learns)
 
-  pub restarts : {V S : Type 0} (holds : ℕ → S → List V → Type 0) (ways : Ways X V S) (n : ℕ) (m : S) (x y : X) → Freeing ways.2 (Frees ways.0) → Starts holds ways n m x → Starts holds ways n m y
-  restarts holds ways n m x y frees starts =
-      (starts.0, starts.1, knowing_freed ways.2 m (writers_of ways.1 starts.0) y frees (λ free. freed ways.0 free (readers_of ways.1 starts.0) (writers_of ways.1 starts.0) y))
+  knowing_freed : {S : Type 0} (k : Knowledge S X) (way : Way X) (m : S) (r w : ℕ) (y : X) → Freeing k (Frees way)
+      → Knowing k m w y (Fixed way r w y)
+  knowing_freed k way m r w y free = grind arith
+
+  pub restarts : {V S : Type 0} (holds : ℕ → S → List V → Type 0) (ways : Ways X V S) (n : ℕ) (m : S) (x y : X)
+      → Freeing ways.2 (Frees ways.0) → Starts holds ways n m x → Starts holds ways n m y
+  restarts holds ways n m x y frees starts = (starts.0, starts.1, knowing_freed ways.2 ways.0 m _ _ y frees)
 
   -- while somebody writes, nothing is known of the value
   pub unknown : (way : Way X) (r w : ℕ) (x : X) → Limits way r w → 0 < w → Fixed way r w x

@@ -39,10 +39,8 @@ sends_word_less E = sends E unit (search sendable depth 20)
 
 -- a first field is at the beginning of its struct
 pub at_first : (k : ℕ) → up k 0 ≡ 0
-at_first k =
-    let all : k - 0 ≡ k = omega arith in
-    let none = ap (λ j. (k - j) % k) (zero-mod k) ∙ (ap (λ j. j % k) all ∙ mod_self k) in
-    omega (arith, none)
+at_first k = let all : k - 0 ≡ k = omega arith in
+    let none = ap (λ j. (k - j) % k) (zero-mod k) ∙ (ap (λ j. j % k) all ∙ mod_self k) in omega (arith, none)
 
 -- so a shared struct shares its first field; the type of a rule may be a struct whose first field is a value
 pub first_field : (T : RattleType) → ((x : T.Denot) (b o : ℕ) (κ : Lft) → Keyless (shared_of T x b (o + up (align (lone T.mir)) 0) κ)) → Common T

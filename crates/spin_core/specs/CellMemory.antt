@@ -66,6 +66,10 @@ abbrev pub roster : {V : Type 0} → (V → Gv) → GName → ℕ → List V →
 roster c ρ k [] = fex Gv (unused ρ k)
 roster c ρ k (v ∷ vs) = fsep (seen c ρ k quarter v) (roster c ρ (suc k) vs)
 
+-- what a party owns of its view
+abbrev pub stand : {V : Type 0} → (V → Gv) → GName → Option V → Fml
+stand c ρ view = elim view [ None ↦ ftrue | Some v ↦ fex ℕ (λ id. seen c ρ id three_quarters v) ]
+
 -- a round: a lifetime, and the value that is shared for it
 abbrev pub Round : RattleType → Type 0
 Round R = ℕ × R.Denot
@@ -127,8 +131,7 @@ module _ (R : RattleType) (b o : ℕ) where
 
     -- what is in the cell while a writer has the value
     abbrev pub missing : Way R.Denot → Fml
-    missing alone = ftrue
-    missing _ = idle t.round
+    missing way = elim way [ alone ↦ ftrue | _ ↦ idle t.round ]
 
     -- the value has r readers, and satisfies φ
     abbrev pub lying : Way R.Denot → (R.Denot → Type 0) → ℕ → R.Denot → Fml
@@ -149,27 +152,23 @@ module _ (R : RattleType) (b o : ℕ) where
     right way writes (Some x) = tracked x
     right way _ _ = ffalse
 
-    module _ {V : Type 0} (c : V → Gv) where
-      -- what a party owns of its view
-      abbrev pub stand : Option V → Fml
-      stand None = ftrue
-      stand (Some v) = fex ℕ (λ id. seen c t.views id three_quarters v)
+    module _ {V : Type 0} (c : V → Gv) (S : RattleType) (holds : ℕ → S.Denot → List V → Type 0)
+        (ways : Ways R.Denot V S.Denot) where
+      abbrev pub core_at : ℕ → S.Denot → List V → Fml
+      core_at n m vs = fsep (roster c t.views 0 vs) (fsep (fact (Meets holds ways n m vs))
+          (state ways.0 (IsKnown ways.2 m) (readers_of ways.1 vs) (writers_of ways.1 vs)))
 
-      module _ (S : RattleType) (holds : ℕ → S.Denot → List V → Type 0) (ways : Ways R.Denot V S.Denot) where
-        abbrev pub core_at : ℕ → S.Denot → List V → Fml
-        core_at n m vs = fsep (roster c t.views 0 vs) (fsep (fact (Meets holds ways n m vs)) (state ways.0 (IsKnown ways.2 m) (readers_of ways.1 vs) (writers_of ways.1 vs)))
+      abbrev pub core : ℕ × S.Denot → Fml
+      core s = fex (List V) (core_at s.0 s.1)
 
-        abbrev pub core : ℕ × S.Denot → Fml
-        core s = fex (List V) (core_at s.0 s.1)
+      abbrev pub standing : ℕ × S.Denot → Fml
+      standing s = fsep (word b (o + 0) s.0) (fsep (part_at S full_share s.1 b (o + second_at S R)) (core s))
 
-        abbrev pub standing : ℕ × S.Denot → Fml
-        standing s = fsep (word b (o + 0) s.0) (fsep (part_at S full_share s.1 b (o + second_at S R)) (core s))
+      abbrev pub inner : Fml
+      inner = fex (ℕ × S.Denot) standing
 
-        abbrev pub inner : Fml
-        inner = fex (ℕ × S.Denot) standing
-
-        abbrev pub kept : Lft → Fml
-        kept = beside (ends t.life) (always (fbor t.life inner))
+      abbrev pub kept : Lft → Fml
+      kept = beside (ends t.life) (always (fbor t.life inner))
 
 module _ (Y R : RattleType) {V : Type 0} (c : V → Gv) (S : RattleType) (holds : ℕ → S.Denot → List V → Type 0) (ways : Ways R.Denot V S.Denot) where
   -- what the owner of the cell has: the cell's fields, such that the rule holds of them and of some views
@@ -181,19 +180,19 @@ module _ (Y R : RattleType) {V : Type 0} (c : V → Gv) (S : RattleType) (holds 
   cell_shares null_ptr = said ffalse
 
   module _ (β : Lft) where
-    abbrev pub permit_at : ℕ → ℕ → Option V → Option R.Denot → Id → Fml
-    permit_at b o view x t = fsep (kept R b o t c S holds ways β) (fsep (stand R b o t c view) (right R b o t ways.0 (use_of ways.1 view) x))
+    abbrev pub permit_at : ℕ → ℕ → Option V → Use → Option R.Denot → Id → Fml
+    permit_at b o view u x t =
+        fsep (kept R b o t c S holds ways β) (fsep (stand c t.views view) (right R b o t ways.0 u x))
 
     abbrev pub permit_owns : Ptr → Option V → Option R.Denot → Fml
-    permit_owns (block_ptr b o) view x = fex (Known ways Y S R) (λ _. fex Id (permit_at b o view x))
+    permit_owns (block_ptr b o) view x =
+        fex (Known ways Y S R) (λ _. fex Id (permit_at b o view (use_of ways.1 view) x))
     permit_owns null_ptr view x = ffalse
 
-    abbrev pub writer_at : ℕ → ℕ → V → R.Denot → Id → Fml
-    writer_at b o view x t = fsep (kept R b o t c S holds ways β) (fsep (stand R b o t c (Some view)) (tracked R b o t x))
-
+    -- a write permit is a permit whose view writes
     abbrev pub writer_owns : Ptr → V → R.Denot → Fml
-    writer_owns (block_ptr b o) view x = fex (Known ways Y S R) (λ _. fex (ways.1 view ≡ writes) (λ _. fex Id (writer_at b o view x)))
     writer_owns null_ptr view x = ffalse
+    writer_owns p view x = fex (ways.1 view ≡ writes) (λ _. permit_owns p (Some view) (Some x))
 
   -- what a `&` to a permit owns: a `&` to the value if the party reads, else nothing
   abbrev pub reader_shares : Lft → ℕ → ℕ → Use → Option R.Denot → Lft → Fml

@@ -31,16 +31,16 @@ use denote.Struct.Members.{Member, row_of}
 use denote.Struct.Lending.{Law}
 use Rattle.core.proofs.cell.Borrows.{by_one}
 use Rattle.atomic_table.specs.Seated.{halved}
-use Rattle.spin_core.specs.Cell.{Way, alone, lends, fixes, Ways, writes, Limits, Fixed, Meets, readers_of, writers_of, IsKnown, Knowing}
-use Rattle.spin_core.specs.CellMemory.{offset, second_at, Known, Id, unused, roster, tag, idle, resting, lying, state, core_at, standing, inner, kept, cell_shares}
+use Rattle.spin_core.specs.Cell.{Way, alone, lends, fixes, Ways, writes, Limits, Fixed, Meets, Starts, readers_of, writers_of, IsKnown, Knowing}
+use Rattle.spin_core.specs.CellMemory.{offset, second_at, Known, Id, unused, roster, tag, idle, resting, state, core_at, standing, inner, kept, cell_shares}
 use Rattle.spin_core.specs.declared.cell.Rule.{Ghosts}
 use Rattle.spin_core.specs.contracts.cell.Cell as C
-use Rattle.spin_core.proofs.CellFields.{Rule, Written, written_out, written_in, standing_words, At, Joins, fields_out}
+use Rattle.spin_core.proofs.CellFields.{Written, written_out, written_in, At, Joins, fields_out, rejoined}
 use Rattle.spin_core.proofs.CellRoster.{enrols}
 use Rattle.spin_core.proofs.CellWays.{unknown, knowing_at, knowing_known, knowing_rest, knowing_none}
 use Rattle.core.specs.Sync.RawAtomic.{word}
 use Rattle.atomic_table.specs.Seated.{fact}
-use Rattle.spin_core.proofs.CellRounds.{begun, held, readies, whole, renewed, rests_lent, rests_fixed}
+use Rattle.spin_core.proofs.CellRounds.{begun, held, readies, whole, renewed, lies, rests_lent, rests_fixed}
 use Rattle.spin_core.proofs.cell.Cell.TheLaw.Statement.{statement}
 use Rattle.spin_core.proofs.Signs.{signs}
 use Rattle.spin_core.proofs.WalkSteps.{knows}
@@ -74,23 +74,14 @@ module _ {M : Type 1} {𝓤 : Ura M} (𝓛 : Logic 𝓤) (m ms : Member) (V Y K 
   abbrev Back : SProp 𝓤
   Back = Joins 𝓛 m ms V Y K g key b o L LS P (written_out 𝓛 m ms V Y K g key b o) (written_in 𝓛 m ms V Y K g key b o)
 
-  abbrev Both : ℕ × S.Denot → Fml
-  Both = standing_words 𝓛 m ms V Y K g key b o
-
   abbrev Lies : R.Denot → Fml
   Lies = At 𝓛 m ms V Y K g key b o
-
-  abbrev Starting : ℕ × S.Denot × R.Denot → Type 0
-  Starting = Rule 𝓛 m ms V Y K g key b o
 
   -- What the borrow of the words keeps of the value, whose ghost name is ν: that somebody writes it, or which value
   -- it is, with the known fact.
   abbrev found : S.Denot → Way R.Denot → GName → ℕ → ℕ → Option R.Denot → Fml
   found k way' ν r w None = fact (0 < w)
   found k way' ν r w (Some x) = fsep (fobs ν (R.coded.code x)) (fact (Knowing ways.2 k w x (Fixed way' r w x)))
-
-  abbrev IsFound : S.Denot → Way R.Denot → GName → ℕ → ℕ → Fml
-  IsFound k way' ν r w = fex (Option R.Denot) (found k way' ν r w)
 
   abbrev read : List V.Denot → ℕ
   read vs = readers_of ways.1 vs
@@ -102,7 +93,7 @@ module _ {M : Type 1} {𝓤 : Ura M} (𝓛 : Logic 𝓤) (m ms : Member) (V Y K 
   Met s vs = Meets (g.holds key) ways s.0 s.1 vs
 
   abbrev views_at : GName → ℕ × S.Denot → List V.Denot → Fml
-  views_at ν s vs = fsep (fact (Met s vs)) (IsFound s.1 way ν (read vs) (wrote vs))
+  views_at ν s vs = fsep (fact (Met s vs)) (fex (Option R.Denot) (found s.1 way ν (read vs) (wrote vs)))
 
   abbrev standing_at : GName → ℕ × S.Denot → Fml
   standing_at ν s = fsep (word b (o + 0) s.0) (fsep (part_at S full_share s.1 b (o + second_at S R)) (fex (List V.Denot) (views_at ν s)))
@@ -121,23 +112,22 @@ module _ {M : Type 1} {𝓤 : Ura M} (𝓛 : Logic 𝓤) (m ms : Member) (V Y K 
 
   -- ---- the borrow of the cell becomes two borrows: one of the words, and one of the value
   starts : (ν : GName) (s : ℕ × S.Denot) (vs : List V.Denot) (x : R.Denot) (v : Option R.Denot) → Met s vs
-      → ‵ (found s.1 way ν (read vs) (wrote vs) v) ⊛ ‵ (fauth ν (R.coded.code x)) ⊩ ‵ (fact (Starting (s.0, s.1, x)))
-  starts ν s vs x None meets = let w = wrote vs in script ∵ fpick ! (λ writes. drop ! $
-      drop ! $ knows ! (Starting (s.0, s.1, x)) (vs, meets, knowing_none ways.2 s.1 w x writes (unknown way (read vs) w x meets.1 writes)) $ done !)
+      → ‵ (found s.1 way ν (read vs) (wrote vs) v) ⊛ ‵ (fauth ν (R.coded.code x))
+      ⊩ given (Starts (g.holds key) ways s.0 s.1 x) (‵ ftrue)
+  starts ν s vs x None meets = let w = wrote vs in script ∵ fpick ! (λ writes. drop ! $ drop ! $ check ! (vs, meets,
+      knowing_none ways.2 s.1 w x writes (unknown way (read vs) w x meets.1 writes)) $ nothing ! $ done !)
   starts ν s vs x (Some y) meets = let r = read vs in let w = wrote vs in
       script ∵ fsplit ! $ move ! (1 ∷ []) $ fpick ! (λ known. drop ! $ name_agree ! R.coded (λ same. drop ! $ drop ! $
-      knows ! (Starting (s.0, s.1, x)) (vs, meets, subst (λ (z : R.Denot). Knowing ways.2 s.1 w z (Fixed way r w z)) same known) $
-      done !))
+      check ! (vs, meets, subst (λ z. Knowing ways.2 s.1 w z (Fixed way r w z)) same known) $ nothing ! $ done !))
 
   way_back : (ν : GName) → raw Back ⊩ ‵ (fwand (fsep (fdead κ) (fseps (Words ν ∷ Named ν ∷ []))) (fupd P))
   unfolding fseps
-  way_back ν = let J : ℕ × S.Denot × R.Denot → SProp 𝓤 = λ s. (⟦ Both (s.0, s.1) ⟧ ∗ ⟦ Lies s.2 ⟧ ∗ ⟦ fact (Starting s) ⟧) -∗ ⟦ P ⟧ in
-      script ∵ assume ! (‵ (fsep (fdead κ) (fseps (Words ν ∷ Named ν ∷ [])))) $ settled ! ⟦ P ⟧ $
+  way_back ν = script ∵ assume ! (‵ (fsep (fdead κ) (fseps (Words ν ∷ Named ν ∷ [])))) $ settled ! ⟦ P ⟧ $
       fsplit ! $ drop ! $ fsplit3 ! $ fpick ! (λ s. move ! (1 ∷ []) $ fpick ! (λ x. fsplit ! $ keep ! (2 ∷ 0 ∷ 1 ∷ 4 ∷ []) $ fsplit3 ! $ move ! (2 ∷ []) $ fpick ! (λ vs. fsplit ! $ fpick ! (λ meets. drop ! $ fpick ! (λ v.
       -- context: [what was found; the words; the value, and its name ν; the way back]
-      let t : ℕ × S.Denot × R.Denot = (s.0, s.1, x) in move ! (0 ∷ 4 ∷ []) $ cite _ (starts ν s vs x v meets) $
-      move ! (1 ∷ 2 ∷ []) $ fjoin ! $ move ! (2 ∷ 1 ∷ []) $ join ! $ move ! (1 ∷ 0 ∷ []) $ join ! $ move ! (1 ∷ []) $
-      use1 𝓛 (raw (J t)) (all_e 𝓤 J t) $ move ! (1 ∷ 0 ∷ []) $ by ! (apply∗ 𝓤 (⟦ Both s ⟧ ∗ ⟦ Lies x ⟧ ∗ ⟦ fact (Starting t) ⟧) ⟦ P ⟧))))))
+      move ! (0 ∷ 4 ∷ []) $ cite _ (starts ν s vs x v meets) $ learn ! (λ rule. drop ! $ fjoin ! $ move ! (1 ∷ 0 ∷ []) $
+      by ! (rejoined 𝓛 m ms V Y K g key b o L LS P (written_out 𝓛 m ms V Y K g key b o)
+      (written_in 𝓛 m ms V Y K g key b o) (s.0, s.1, x) rule).prf))))))
 
   cut : (q : Share) → ‵ (fbor κ P) ⊛ ‵ (flft κ q) ⊩ later (‵ Two ⊛ ‵ (flft κ q))
   unfolding fseps
@@ -165,13 +155,9 @@ module _ {M : Type 1} {𝓤 : Ura M} (𝓛 : Logic 𝓤) (m ms : Member) (V Y K 
     abbrev φ : S.Denot → R.Denot → Type 0
     φ = IsKnown ways.2
 
-    abbrev Ready : Way R.Denot → R.Denot → Fml
-    Ready w x = held 𝓛 R b o t writes w (Some x)
-
     rests : (k : S.Denot) (w : Way R.Denot) (r : ℕ) (x : R.Denot) → φ k x → ‵ (whole 𝓛 R b o t x) ⊩ ‵ (resting R b o t w r x)
         → ‵ (idle γ) ⊛ ‵ (fex ℕ (begun 𝓛 R b o t x)) ⊫ ‵ (St w (φ k) r 0)
-    rests k w r x known to = renewed 𝓛 R b o t x (St w (φ k) r 0) (script ∵
-        cite _ to $ fpack ! (φ k x) (λ _. resting R b o t w r x) known $ fpack ! R.Denot (lying R b o t w (φ k) r) x $ done !)
+    rests k w r x known to = renewed 𝓛 R b o t x _ (script ∵ cite _ to $ by ! (lies 𝓛 R b o t w (φ k) r x known).prf)
 
     away : (k : S.Denot) (w : Way R.Denot) (r n : ℕ) → 0 < n → ‵ (idle γ) ⊩ ‵ (St w (φ k) r n)
     away k w r zero writer = absurd (omega (arith, writer))
@@ -179,10 +165,9 @@ module _ {M : Type 1} {𝓤 : Ura M} (𝓛 : Logic 𝓤) (m ms : Member) (V Y K 
     away k _ r (suc n) writer = lemma (id⊢ 𝓤 _)
 
     begins : (k : S.Denot) (w : Way R.Denot) (r n : ℕ) (x : R.Denot) → Limits w r n
-        → Knowing ways.2 k n x (Fixed w r n x) → ‵ (idle γ) ⊛ ‵ (Ready w x) ⊫ ‵ (St w (φ k) r n)
+        → Knowing ways.2 k n x (Fixed w r n x) → ‵ (idle γ) ⊛ ‵ (held 𝓛 R b o t writes w (Some x)) ⊫ ‵ (St w (φ k) r n)
     begins k alone r zero x lim known = updates ∵ settled ! _ $ drop ! $
-        fpack ! (φ k x) (λ _. resting R b o t alone r x) (knowing_known ways.2 k x (Fixed alone r 0 x) known) $
-        fpack ! R.Denot (lying R b o t alone (φ k) r) x $ done !
+        by ! (lies 𝓛 R b o t alone (φ k) r x (knowing_known ways.2 k x (Fixed alone r 0 x) known)).prf
     begins k lends r zero x lim known = rests k lends r x (knowing_known ways.2 k x (Fixed lends r 0 x) known) (rests_lent 𝓛 R b o t r x (omega arith))
     begins k (fixes fact) r zero x lim known = rests k (fixes fact) r x (knowing_known ways.2 k x (Fixed (fixes fact) r 0 x) known) (rests_fixed 𝓛 R b o t fact r x (knowing_rest ways.2 k 0 x known))
     begins k w r (suc n) x lim known = updates ∵ settled ! _ $ keep ! (0 ∷ []) $ by ! (away k w r (suc n) (omega arith)).prf
@@ -190,19 +175,16 @@ module _ {M : Type 1} {𝓤 : Ura M} (𝓛 : Logic 𝓤) (m ms : Member) (V Y K 
     -- ---- what is found of the value in each state
     named_at : (w : Way R.Denot) (r : ℕ) (x : R.Denot) → ‵ (resting R b o t w r x) ⊩ given (Fixed w r 0 x) (‵ (fobs ν (R.coded.code x)))
     named_at alone r x = script ∵ check ! tt $ fsplit ! $ keep ! (0 ∷ []) $ done !
-    named_at lends r x = script ∵ check ! tt $
-        fpick ! (λ a. fsplit ! $ move ! (1 ∷ []) $ fsplit ! $ keep ! (0 ∷ []) $ done !)
+    named_at lends r x = script ∵ check ! tt $ fpick ! (λ a. fsplit ! $ drop ! $ fsplit ! $ keep ! (0 ∷ []) $ done !)
     named_at (fixes fact) zero x = script ∵
         fpick ! (λ a. fsplit ! $ fpick ! (λ known. check ! known $ drop ! $ fsplit ! $ keep ! (0 ∷ []) $ done !))
     named_at (fixes fact) (suc r) x = script ∵
         fpick ! (λ a. fsplit ! $ fpick ! (λ e. fpick ! (λ known. check ! known $ drop ! $ fsplit ! $ keep ! (0 ∷ []) $ done !)))
 
-    finds : (k : S.Denot) (w : Way R.Denot) (r n : ℕ) → ‵ (St w (φ k) r n) ⊩ ‵ (IsFound k w ν r n)
-    finds k w r zero = script ∵ fpick ! (λ x. fpick ! (λ is.
-        cite _ (named_at w r x) $
+    finds : (k : S.Denot) (w : Way R.Denot) (r n : ℕ) → ‵ (St w (φ k) r n) ⊩ ‵ (fex (Option R.Denot) (found k w ν r n))
+    finds k w r zero = script ∵ fpick ! (λ x. fpick ! (λ is. cite _ (named_at w r x) $
         learn ! (λ known. knows ! (Knowing ways.2 k 0 x (Fixed w r 0 x)) (knowing_at ways.2 k x is known) $
-        move ! (1 ∷ 0 ∷ []) $ fjoin ! $
-        fpack ! (Option R.Denot) (found k w ν r 0) (Some x) $ done !)))
+        move ! (1 ∷ 0 ∷ []) $ fjoin ! $ fpack ! (Option R.Denot) (found k w ν r 0) (Some x) $ done !)))
     finds k w r (suc n) = script ∵ drop ! $ knows ! (0 < suc n) (omega arith) $ fpack ! (Option R.Denot) (found k w ν r (suc n)) None $ done !
 
     abbrev I : Fml
@@ -238,8 +220,7 @@ module _ {M : Type 1} {𝓤 : Ura M} (𝓛 : Logic 𝓤) (m ms : Member) (V Y K 
           split ! $ move ! (1 ∷ []) $ split3 ! $ move ! (2 ∷ []) $ split3 ! $ move ! (5 ∷ 6 ∷ []) $ bor_open ! tt $ move ! (1 ∷ []) $ fpick ! (λ s. fsplit3 ! $ move ! (2 ∷ []) $ fpick ! (λ vs. fsplit ! $ fpick ! (λ meets. drop ! $ fpick ! (λ v.
           -- context: [what was found; the words; the open borrow; the name γ; two tokens; the value's borrow; the
           -- unused entries of ρ]
-          let Q = St way (φ s.1) (read vs) (wrote vs) in move ! (0 ∷ 7 ∷ 4 ∷ 5 ∷ 6 ∷ []) $
-          cite _ (stands s.1 vs v meets.1) $ await ! tt $ split3 ! $
+          move ! (0 ∷ 7 ∷ 4 ∷ 5 ∷ 6 ∷ []) $ cite _ (stands s.1 vs v meets.1) $ await ! tt $ split3 ! $
           move ! (6 ∷ []) $ use1 𝓛 (later (‵ (roster c ρ 0 vs))) (via 𝓤 _ (enrols 𝓛 V.coded ρ vs 0 u).prf (basic 𝓛 ⟦ roster c ρ 0 vs ⟧)) $ await ! tt $
           knows ! (Met s vs) meets $
           move ! (1 ∷ 0 ∷ 2 ∷ []) $ fjoin3 ! $ fpack ! (List V.Denot) (core_at R b o t c S (g.holds key) ways s.0 s.1) vs $ move ! (3 ∷ 4 ∷ 0 ∷ []) $ fjoin3 ! $ fpack ! (ℕ × S.Denot) (standing R b o t c S (g.holds key) ways) s $
@@ -267,8 +248,7 @@ module _ {M : Type 1} {𝓤 : Ura M} (𝓛 : Logic 𝓤) (m ms : Member) (V Y K 
       move ! (6 ∷ 7 ∷ 4 ∷ 5 ∷ 0 ∷ 1 ∷ []) $ group ! 6 $
       use2 𝓛 (later ((‵ Q ⊛ ‵ (flft μ e) ⊛ ‵ (flft μ f)) ⊛ ‵ (flft μ a)))
       (by_one 𝓛 κ ((μ, a) ∷ []) sp (mean 𝓛 (Given γ ρ ν l shares μ e f sp inc none)) (⟦ Q ⟧ ∗ A.lft μ e ∗ A.lft μ f)
-      (λ z. (guarded γ ρ ν l shares μ e f sp inc k none z).prf)) $
-      await ! tt $
+      (λ z. (guarded γ ρ ν l shares μ e f sp inc k none z).prf)) $ await ! tt $
       split ! $ split3 ! $ move ! (1 ∷ 2 ∷ []) $ use2 𝓛 (‵ (flft μ d)) (𝓛.lfts.lft_join μ d) $ move ! (2 ∷ 0 ∷ []) $ use2 𝓛 (‵ (flft μ q)) (𝓛.lfts.lft_join μ q) $
       move ! (0 ∷ 2 ∷ []) $ use2 𝓛 (raw (lfts 𝓛 ts)) (apply∗ 𝓤 (A.lft μ q) (lfts 𝓛 ts)) $ now ! $ keep ! (1 ∷ 0 ∷ []) $ done !)))))
 

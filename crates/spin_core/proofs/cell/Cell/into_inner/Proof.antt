@@ -21,10 +21,7 @@ into_inner_spec 𝓤 𝓛 𝓜 𝓡 wired X U P K S L _ _ _ LS g d _ =
     let Sr = param 4 S in let En = ended X U P K S g d in let c = clauses X U P K S g d 𝓛 𝓜.mem 𝓡.returns in let E : El = record { row = X; laws = L } in
     let N : El = record { row = S; laws = LS } in
     let inst = bounded code.function.ty_params (X, (U, (P, (K, (S, tt))))) (dcons d dnil) in let fn = inst_fn inst code.function in
-    let Row = cell.the_row R V Y Kr Sr g in
-    let hs = all_dropped En.signature.params En.kept in
-    let fine : (v : Val) → Good E v → T (has_ty (layout X) v && true) = λ v h. both (has_ty (layout X) v) true h.0 tt in
-    let fine_second : (v : Val) → Good N v → T (has_ty (layout S) v && true) = λ v h. both (has_ty (layout S) v) true h.0 tt in
+    let Row = cell.the_row R V Y Kr Sr g in let hs = all_dropped En.signature.params En.kept in
     proved_at 𝓛 En hs c 𝓜 𝓡 (all_go 𝓛 En.signature.params En.kept (λ κs x f. refl, tt))
     (#self inst) fn (code.unfolded 𝓤 H 𝓜 𝓡 wired (X, (U, (P, (K, (S, tt))))) d) (λ z are.
     let Post = (walk_of 𝓛 En hs c).post z in let Run : List Val → SProp 𝓤 = λ ws. WpFn 𝓤 H 𝓣.C 𝓣.Λ fn ws Post in
@@ -43,9 +40,9 @@ into_inner_spec 𝓤 𝓛 𝓜 𝓡 wired X U P K S L _ _ _ LS g d _ =
     let whole_is : z.0.4.0 ≡ v ∷ [] = ev ∙ (λ i. vstruct (of_list (em i ++ (en i ++ (got.1 i ++ (got_second.1 i ++ []))))) ∷ []) in
     rewrite ! 0 (λ (ws : List Val). ‵ (Sr.own_val s.1 ws)) got_second.1 refl $ rewrite ! 2 (λ (ws : List Val). ‵ (R.own_val s.2 ws)) got.1 refl $ keep ! (0 ∷ 2 ∷ 4 ∷ 5 ∷ []) $
     suffices ! (Run (v ∷ [])) (subst (λ (ws : List Val). ent 𝓤 (Run (v ∷ [])) (Run ws)) (sym (λ i. whole_is i ++ [])) (id⊢ 𝓤 (Run (v ∷ [])))) $
-    enter ! _ _ _ _ _ $ alloc_all ! (λ l.
-    pass_all ! refl
-    ((both (has_ty (layout X) vy) (has_ty (layout S) vz && true) fy.0 (fine_second vz fz), (tt, (record { fits = fits }, (fy.1, (fz.1, tt))))), tt) $
+    enter ! _ _ _ _ _ $ alloc_all ! (λ l. pass_all ! refl
+    ((both (has_ty (layout X) vy) (has_ty (layout S) vz && true) fy.0 (both (has_ty (layout S) vz) true fz.0 tt),
+    (tt, (record { fits = fits }, (fy.1, (fz.1, tt))))), tt) $
     sets ! (of_opd ! (get_in ! (fld ! refl (stop !)) (sub ! 2 refl (whole !)))) refl fy $ sets ! (of_opd ! (get_in ! (fld ! refl (stop !)) (sub ! 3 refl (whole !)))) refl fz $ sets ! (of_opd ! (get ! refl)) refl fz $
     -- `let_go` forgets the `Second`; this call takes the token of the lifetime of the `Second`
     let yc : Lets.Ghost = (((σ, tt), (q, tt), tt, (s.1, tt), (vz ∷ [], tt)), tt) in
@@ -55,6 +52,5 @@ into_inner_spec 𝓤 𝓛 𝓜 𝓡 wired X U P K S L _ _ _ LS g d _ =
     use1 𝓛 (later (some (λ (r : Unit {0}). ((‵ (flft σ q) ⊛ ‵ ftrue) ⊛ ‵ (feq (List Val) (u ∷ []) (vunit ∷ []))) ⊛ some (λ (ws : Unit {0} × Unit {0}). ‵ (fsep ftrue ftrue) ⊛ ‵ ftrue)))) (id⊢ 𝓤 _) $ await ! tt $ pick ! (λ r.
     split ! $ split ! $ move ! (2 ∷ []) $ drop ! $ move ! (1 ∷ []) $ feq_l ! (λ unit. lands_as ! (ap only unit) refl (tt, tt) $
     move ! (2 ∷ 0 ∷ []) $ join ! $ move ! (1 ∷ 0 ∷ []) $ join ! $ move ! (2 ∷ 0 ∷ []) $ join ! $ move ! (1 ∷ 0 ∷ []) $ join ! $ move ! (1 ∷ []) $
-    sets ! (of_opd ! (get ! refl)) refl fy $
-    nothing ! $ nothing ! $ nothing ! $ fjoin ! $
+    sets ! (of_opd ! (get ! refl)) refl fy $ nothing ! $ nothing ! $ nothing ! $ fjoin ! $
     returns ! (look_at ! 0 refl) $ free_all ! refl $ keep ! (3 ∷ 0 ∷ 2 ∷ 1 ∷ []) $ by ! (leaves 𝓛 En hs c z vy s.2 (tt, tt) (tt, tt)))))))))))))))))

@@ -21,10 +21,8 @@ new_spec 𝓤 𝓛 𝓜 𝓡 wired X U P K S L _ _ _ LS g d _ =
     let Sr = param 4 S in let En = ended X U P K S g d in let c = clauses X U P K S g d 𝓛 𝓜.mem 𝓡.returns in let E : El = record { row = X; laws = L } in
     let N : El = record { row = S; laws = LS } in
     let inst = bounded code.function.ty_params (X, (U, (P, (K, (S, tt))))) (dcons d dnil) in let fn = inst_fn inst code.function in
-    let hs = all_dropped En.signature.params En.kept in
+    let hs = all_dropped En.signature.params En.kept in let Mk = (marker.the_field (Tuple (V ∷ Y ∷ []))).row in
     let F = inside.the_row R V Y Kr Sr g in let D = denote.Struct.Declared.shape (inside.the_type R V Y Kr Sr g) in
-    let Mk : RattleType = (marker.the_field (Tuple (V ∷ Y ∷ []))).row in
-    let fine : (v : Val) → Good E v → T (has_ty (layout X) v && true) = λ v h. both (has_ty (layout X) v) true h.0 tt in let fine_second : (v : Val) → Good N v → T (has_ty (layout S) v && true) = λ v h. both (has_ty (layout S) v) true h.0 tt in
     proved_at 𝓛 En hs c 𝓜 𝓡 (all_go 𝓛 En.signature.params En.kept (λ κs x f. refl, (λ κs x f. refl, (λ κs x f. refl, (λ κs x f. refl, tt)))))
     (#self inst) fn (code.unfolded 𝓤 H 𝓜 𝓡 wired (X, (U, (P, (K, (S, tt))))) d) (λ z are.
     let x = z.0.3.0 in let n = z.0.3.1.0 in let k = z.0.3.1.1.0 in let key = z.0.3.1.1.1.0.now in
@@ -33,7 +31,9 @@ new_spec 𝓤 𝓛 𝓜 𝓡 wired X U P K S L _ _ _ LS g d _ =
     let got_second = one N z.0.4.1.1.0 (((param_laws 4 S LS).lawful 𝓛).typed k z.0.4.1.1.0 are.1.1.0) in let vz = got_second.0 in let fz = got_second.2 in
     let v = vstruct (vcons (vstruct vnil) (vcons (vint w64 n) (vcons vy (vcons vz vnil)))) in
     let Post = (walk_of 𝓛 En hs c).post z in let Run : List Val → SProp 𝓤 = λ ws. WpFn 𝓤 H 𝓣.C 𝓣.Λ fn ws Post in
-    let typed : T (has_ty (layout X) vy && (has_ty (layout S) vz && true)) × WT v = (both (has_ty (layout X) vy) (has_ty (layout S) vz && true) fy.0 (fine_second vz fz), (tt, (record { fits = fits }, (fy.1, (fz.1, tt))))) in
+    let typed : T (has_ty (layout X) vy && (has_ty (layout S) vz && true)) × WT v =
+    (both (has_ty (layout X) vy) (has_ty (layout S) vz && true) fy.0 (both (has_ty (layout S) vz) true fz.0 tt),
+    (tt, (record { fits = fits }, (fy.1, (fz.1, tt))))) in
     let Rule : ℕ × S.Denot × X.Denot → Type 0 = λ s. Starts (g.holds key) ways s.0 s.1 s.2 in let Opened = Opens (g.holds key) ways n k x in
     let Knows : Type 0 = Known ways Y Sr R in
     let owned : (ℕ × S.Denot × X.Denot) → Fml = λ s. fsep (F.own_val (record { marker = record {}; first = s.0; value = s.2; second = s.1 }) (v ∷ [])) (said (Rule s)) in

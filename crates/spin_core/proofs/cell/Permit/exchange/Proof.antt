@@ -4,11 +4,10 @@ use lib.Dec.{eqb}
 use prog.Atomic.{either}
 use Rattle.spin_core.specs.contracts.trace.Trace as trace
 use Rattle.spin_core.proofs.TraceTokens.{as_watch}
-use types.Kit.{keep, fsplit}
 use Rattle.spin_core.proofs.PermitFields.{as_hand, typed}
 use Rattle.spin_core.proofs.WalkSteps.{two, three}
 use Rattle.spin_core.proofs.Walking.{walks, as_u64}
-use Rattle.spin_core.proofs.CellWatchWalks.{begins_with, opens, asks_first, next, knowing}
+use Rattle.spin_core.proofs.CellWatchWalks.{watch_knows, past, begins, asks_first, next, knowing}
 use Rattle.spin_core.specs.contracts.cell.Permit.exchange.{ended, clauses}
 use Rattle.spin_core.proofs.cell.Permit.exchange.Statement.{statement}
 use Rattle.spin_core.proofs.cell.Permit.exchange.Code as code
@@ -21,12 +20,11 @@ exchange_spec 𝓤 𝓛 𝓜 𝓡 wired T V E S P K Mv L _ _ _ _ _ _ g d g' d' _
     walks 𝓛 (ended T V E S P K Mv g d g' d') (clauses T V E S P K Mv g d g' d' 𝓛 𝓜.mem 𝓡.returns) 𝓜 𝓡 (λ κs x f. refl, (λ κs x f. refl, (λ κs x f. refl, (λ κs x f. refl, tt)))) _ fn (code.unfolded 𝓤 H 𝓜 𝓡 wired (T, (V, (E, (S, (P, (K, (Mv, tt))))))) d d')
     (λ κs. (as_hand (named_lft 8 0 tt κs) R W Y Kr Sr g, (as_u64, (as_u64, (as_watch Er, tt))))) (λ κs qs bounds a gh are Post out.
     let ℓ = named_lft 8 0 tt κs in let h = a.0 in let p = h.cell in let b = block_of p in let o = count_of p in
-    let seen = a.1.1.1.0 in
-    let old = a.1.0 in let new = a.1.1.0 in let told' = g'.told h.key old new h.view in let f : ℕ → ℕ = λ n. either (eqb n old) new n in
-    begins_with 𝓛 ℓ T W Y Kr Sr g ! 6 (_, (_, (_, (_, (_, (_, tt)))))) h (λ asked le inb.
-    move ! (4 ∷ []) $ fsplit ! $ move ! (1 ∷ []) $ fsplit ! $ move ! (1 ∷ []) $ fsplit ! $ fsplit ! $ keep ! (5 ∷ 6 ∷ 7 ∷ 1 ∷ 8 ∷ []) $ alloc_all ! (λ l. pass_all ! refl (typed p inb, ((tt, record { fits = are.1.0.1 }), ((tt, record { fits = are.1.1.0.1 }), ((tt, (tt, tt)), tt)))) $
-    let Ev = env fn.locals l in
-    opens 𝓛 𝓜 𝓡 ℓ T W Y Kr Er Ur L g b o h _ _ _ seen told' ! tt le _ f (asks_first asked) (λ left rest closes.
+    let old = a.1.0 in let new = a.1.1.0 in let f : ℕ → ℕ = λ n. either (eqb n old) new n in
+    begins 𝓛 𝓜 𝓡 ℓ T W Y Kr Er Ur L g h _ _ _ a.1.1.1.0 (g'.told h.key old new h.view) (λ n. n) !
+    (past (past watch_knows)) 6 (_, (_, (_, (_, (_, (_, tt)))))) f asks_first (λ inb go. alloc_all ! (λ l.
+    pass_all ! refl (typed p inb, ((tt, record { fits = are.1.0.1 }), ((tt, record { fits = are.1.1.0.1 }),
+    ((tt, (tt, tt)), tt)))) $ let Ev = env fn.locals l in go.on ! tt (λ left rest closes.
     sets ! (is ! (of_opd ! (get_in ! (fld ! refl (stop !)) (sub ! 0 refl (whole !)))) (ap ptr_val (at_block p inb))) refl (tt, tt) $ first ! $ blocks ! $ sets ! (addr ! (through ! refl (fld ! refl (stop !)))) refl (tt, tt) $
     use1 𝓛 (raw _) (exchanges 𝓛 𝓜 𝓡 (code.calls-atomic_table::exchange 𝓡.env wired) (block_ptr b (o + 0)) old new are.1.0.1 are.1.1.0.1 left) $
     Calls-last ! (fm 𝓛 𝓜 𝓡) (found left) (three ! refl refl refl) (λ u. finds ! left (λ n fits.

@@ -1,15 +1,16 @@
 -- `into_writer` keeps what the permit owns, at a view that writes.
-use Rattle.spin_core.proofs.WalkNames.{◌≡◌, [], ◌∷◌, refl, sym, Some, dcons, dnil, Val, inst_fn, Fml, ‵, some, given, ◌$◌, !, by, keep, join, fjoin, pick, learn, use0, use1, stop, fld, of_opd, no_more, returns, alloc_all, pass_all, free_all, look_at, get_in, sets, agg, sub, whole, fact, named_lft, Ptr, param, bounded, says}
+use Rattle.spin_core.proofs.WalkNames.{◌≡◌, [], ◌∷◌, refl, sym, Some, dcons, dnil, Val, inst_fn, Fml, ‵, ◌$◌, !, by, keep, join, fjoin, pick, learn, use0, stop, fld, of_opd, no_more, returns, alloc_all, pass_all, free_all, look_at, get_in, sets, agg, sub, whole, fact, named_lft, Ptr, param, bounded, says}
 use Rattle.spin_core.proofs.WalkSteps.{last_fact, takes, two}
 use Rattle.spin_core.proofs.Walking.{walks}
 use Rattle.spin_core.specs.Cell.{writes, use_of}
-use Rattle.spin_core.specs.CellMemory.{permit_owns, writer_owns}
+use Rattle.spin_core.specs.CellMemory.{permit_owns}
 use Rattle.spin_core.specs.contracts.cell.WritePermit as pen
 use Rattle.spin_core.proofs.PermitFields.{as_hand, as_pen, hand_of, typed, Words, made}
-use Rattle.spin_core.proofs.CellWalks.{Writes, to_writer}
+use Rattle.spin_core.proofs.CellWalks.{to_writer}
 use Rattle.spin_core.specs.contracts.cell.Permit.into_writer.{ended, clauses}
 use Rattle.spin_core.proofs.cell.Permit.into_writer.Statement.{statement}
 use Rattle.spin_core.proofs.cell.Permit.into_writer.Code as code
+use Rattle.spin_core.proofs.Lemmas.{cite}
 
 pub into_writer_spec : {M : Type 1} → statement M
 into_writer_spec 𝓤 𝓛 𝓜 𝓡 wired T V P K S L _ _ _ LS g d _ =
@@ -19,10 +20,9 @@ into_writer_spec 𝓤 𝓛 𝓜 𝓡 wired T V P K S L _ _ _ LS g d _ =
     (λ κs. (as_hand (named_lft 6 0 tt κs) R W Y Kr Sr g, tt)) (λ κs qs bounds a gh are Post out.
     let ℓ = named_lft 6 0 tt κs in let Pr = pen.the_row ℓ R W Y Kr Sr g in let h = a.0 in let p = h.cell in
     let β = κs.0 in let Owned : Ptr → Fml = λ z. permit_owns Y R cw.code Sr (g.holds h.key) (g.ways h.key) β z h.view h.value in
-    let Asked : Type 0 = use_of (g.ways h.key).1 h.view ≡ writes in
-    takes ! Owned refl p (last_fact 𝓤 (fact 𝓤 Asked) 5 (_, (_, (_, (_, (_, tt)))))) (λ asked inb.
-    use1 𝓛 (some (λ (s : V.Denot × T.Denot). given (Writes h.view h.value s) (‵ (writer_owns Y R cw.code Sr (g.holds h.key) (g.ways h.key) β p s.0 s.1)))) (to_writer 𝓛 Y R cw Sr (g.holds h.key) (g.ways h.key) β p h.view h.value asked) $ pick ! (λ s. learn ! (λ so.
-    alloc_all ! (λ l. pass_all ! refl (typed p inb, tt) $
+    takes ! Owned refl p (last_fact 𝓤 (fact 𝓤 _) 5 (_, (_, (_, (_, (_, tt)))))) (λ asked inb.
+    cite _ (to_writer 𝓛 Y R cw.code Sr (g.holds h.key) (g.ways h.key) β p h.view h.value asked) $
+    pick ! (λ s. learn ! (λ so. alloc_all ! (λ l. pass_all ! refl (typed p inb, tt) $
     let good = Rattle.spin_core.proofs.PermitFields.pointer p inb in sets ! (of_opd ! (get_in ! (fld ! refl (stop !)) (sub ! 0 refl (whole !)))) refl good $ sets ! (agg ! (no_more !)) refl (tt, tt) $
     sets ! (agg ! (two ! refl refl)) refl (typed p inb) $
     let h' : Pr.Denot = record { cell = p; marker = record {}; key = h.key; view = s.0; value = s.1 } in let v : Val = hand_of p in

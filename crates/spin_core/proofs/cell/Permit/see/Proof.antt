@@ -21,9 +21,8 @@ see_spec 𝓤 𝓛 𝓜 𝓡 wired T V P K S L _ _ _ LS g d _ =
     let h = a.0 in let p = h.cell in let b = block_of p in let o = count_of p in
     let e = o + offset R in let β = κs.0 in let ways = g.ways h.key in
     let Owned : Ptr → Fml = λ z. permit_owns Y R cw.code Sr (g.holds h.key) ways β z h.view h.value in
-    let Asked : Type 0 = use_of ways.1 h.view ≡ reads in
-    takes_at ! Owned refl p (last_fact 𝓤 (fact 𝓤 Asked) 5 (_, (_, (_, (_, (_, tt)))))) (λ asked inb. let at = at_block p inb in
-    alloc_all ! (λ l. pass_all ! refl (typed p inb, tt) $ let Ev = types.ByLocal.env fn.locals l in
+    takes_at ! Owned refl p (last_fact 𝓤 (fact 𝓤 _) 5 (_, (_, (_, (_, (_, tt)))))) (λ asked inb.
+    let at = at_block p inb in alloc_all ! (λ l. pass_all ! refl (typed p inb, tt) $ let Ev = env fn.locals l in
     cite _ (shown_on 𝓛 Y R cw.code Sr (g.holds h.key) ways β LR.shr_laws b o h.view h.value asked) $ await ! tt $ pick ! (λ x. learn ! (λ so.
     sets ! (is ! (of_opd ! (get_in ! (fld ! refl (stop !)) (sub ! 0 refl (whole !)))) (ap ptr_val at)) refl (tt, tt) $ first ! $ blocks ! $
     sets_last ! (addr ! (through ! refl (fld ! refl (stop !)))) refl (tt, tt) $ exec ! 𝓣.C 𝓣.Λ Ev (tail (tail fn.body)) (at_ret Ev Post) $ sets ! (of_opd ! (get ! refl)) refl (tt, tt) $

@@ -26,8 +26,7 @@ show_spec 𝓤 𝓛 𝓜 𝓡 wired T V P K S L _ _ _ LS g d _ =
     let ℓ = named_lft 6 0 tt κs in let Hr = hand.the_row ℓ R W Y Kr Sr g in let h = a.0 in let p = h.cell in let b = block_of p in let o = count_of p in
     let e = o + offset R in let β = κs.0 in let ways = g.ways h.key in
     let Owned : Ptr → Fml = λ z. permit_owns Y R cw.code Sr (g.holds h.key) ways β z h.view h.value in
-    let Asked : Type 0 = use_of ways.1 h.view ≡ reads in let Fixed : Type 0 = Fixes ways.0 in
-    takes_at ! Owned refl p (last_two 𝓤 Asked Fixed 5 (_, (_, (_, (_, (_, tt)))))) (λ asked inb. let at = at_block p inb in
+    takes_at ! Owned refl p (last_two 𝓤 _ _ 5 (_, (_, (_, (_, (_, tt)))))) (λ asked inb. let at = at_block p inb in
     alloc_all ! (λ l. pass_all ! refl (typed p inb, tt) $ let Ev = types.ByLocal.env fn.locals l in
     use1 𝓛 (later (some (λ (x : T.Denot). given ((h.value ≡ Some x) × Seen ways.0 x)
     (‵ (hidden_shr R β x b e) ⊛ ‵ (Owned (block_ptr b o))))))

@@ -1,61 +1,45 @@
 -- `get_mut` lends the value, and the permit then has the value that was written. Assumes `Logic`.
 use Rattle.spin_core.proofs.WalkNames.{◌≡◌, ℕ, ◌+◌, List, [], ◌∷◌, refl, sym, ap, ◌∙◌, named, dcons, dnil, Val, vptr, inst_fn, full_share, SProp, wand, apply∗, Lft, Share, Fml, fsep, Logic, sem, split3, ‵, raw, ◌⊛◌, at_ret, ◌$◌, ◌∵◌, !, by, move, keep, split, join, fsplit, fsplit3, fjoin, use1, use2, some, await, pick, fpick, fpack, rewrite, stop, addr, of_opd, first, blocks, exec, returns, fld, hop, alloc_all, pass_all, free_all, look_at, get, through, sets, sets_last, env, sub, whole, look_in, tables, RattleType, Is, shows, named_lft, peeks, param, bounded, cell_at, part_at, Ptr, block_ptr, block_of, count_of, at_block, tail, says, lies}
 use seplogic.Ra.Ura.{Ura}
-use base.Logic.{all_e}
 use denote.Ref.{NamedLft, MutBor}
 use Rattle.spin_core.proofs.Walking.{walks, as_mut}
 use Rattle.spin_core.specs.declared.cell.Rule.{Ghosts}
 use base.Fml.{Incl}
-use types.Kit.{each, frame, assume, Item}
+use types.Kit.{each, frame, assume}
 use types.Mut.{open_ref, close_ref}
 use denote.Memory.{part_of, mem as in_memory}
 use denote.Struct.OwningLaws.{part_out, part_in}
-use Rattle.spin_core.specs.CellMemory.{Id, offset, tracked, writer_owns}
+use Rattle.spin_core.specs.CellMemory.{offset, tracked, writer_owns}
 use Rattle.spin_core.specs.Writer.{with_value}
 use Rattle.spin_core.specs.contracts.cell.WritePermit.{the_type, the_row}
 use Rattle.spin_core.proofs.PermitFields.{hand_of, Words, told}
-use Rattle.spin_core.proofs.CellThrough.{cuts, Opened, through as goes_through}
+use Rattle.spin_core.proofs.CellThrough.{Back, Cut, again, cuts, through as goes_through}
 use Rattle.spin_core.specs.contracts.cell.WritePermit.get_mut.{ended, clauses}
 use Rattle.spin_core.proofs.cell.WritePermit.get_mut.Statement.{statement}
 use Rattle.spin_core.proofs.cell.WritePermit.get_mut.Code as code
 use Rattle.spin_core.proofs.Lemmas.{cite, Lemma, script, having}
 
-module _ {M : Type 1} {𝓤 : Ura M} (𝓛 : Logic 𝓤) (ℓ : NamedLft) (R W Y Kr Sr : RattleType) (g : Ghosts Y.Denot R.Denot W.Denot Kr.Denot Sr.Denot) (κ : Lft) (inc : Incl κ ℓ.lft) (q : Share) (m : MutBor (the_row ℓ R W Y Kr Sr g).Denot) (c e : ℕ) (at : m.now.cell ≡ block_ptr c e) where
-  abbrev G : RattleType
-  G = the_row ℓ R W Y Kr Sr g
+-- what is in the write permit h at this place, as the borrow of its value
+module _ {M : Type 1} {𝓤 : Ura M} (𝓛 : Logic 𝓤) (ℓ : NamedLft) (R W Y Kr Sr : RattleType)
+    (g : Ghosts Y.Denot R.Denot W.Denot Kr.Denot Sr.Denot) (h : (the_row ℓ R W Y Kr Sr g).Denot) (b o c e : ℕ)
+    (at : h.cell ≡ block_ptr c e) where
+  abbrev It : R.Denot → Fml
+  It x = part_at (the_row ℓ R W Y Kr Sr g) full_share (with_value h x) b o
 
-  abbrev h : G.Denot
-  h = m.now
+  abbrev Pen : R.Denot → Ptr → Fml
+  Pen x p = writer_owns Y R W.coded.code Sr (g.holds h.key) (g.ways h.key) ℓ.lft p h.view x
 
-  abbrev F : R.Denot → G.Denot
-  F = with_value h
-
-  abbrev Whole : R.Denot → Fml
-  Whole x = part_at G full_share (F x) m.ref_ptr.0 m.ref_ptr.1
-
-  abbrev Pen : Ptr → R.Denot → Fml
-  Pen p x = writer_owns Y R W.coded.code Sr (g.holds h.key) (g.ways h.key) ℓ.lft p h.view x
-
-  abbrev Ws : Fml
-  Ws = part_at (Words ℓ R W Y Kr Sr g) full_share (h.cell, (tt, tt)) m.ref_ptr.0 m.ref_ptr.1
-
-  abbrev same : (x z : R.Denot) → F x ≡ F z → x ≡ z
-  same x z = ap (λ (it : G.Denot). it.value)
-
-  abbrev pub Open : Id → Item 𝓤
-  Open = Opened 𝓛 Y R W.coded Sr (g.holds h.key) (g.ways h.key) ℓ.lft c e h.view G F same (named 0) κ inc q m h.value
-
-  abbrev Back : Id → R.Denot → SProp 𝓤
-  Back t z = wand 𝓤 (sem 𝓛 (tracked R c e t z)) (sem 𝓛 (Pen (block_ptr c e) z))
-
-  cut : Lemma 𝓛 (‵ (Whole h.value)) (some Open)
-  cut = script ∵ use1 𝓛 (‵ Ws ⊛ ‵ (Pen h.cell h.value)) (part_out 𝓛 (the_type ℓ R W Y Kr Sr g) full_share h m.ref_ptr.0 m.ref_ptr.1) $
-      split ! $ move ! (1 ∷ []) $
-      rewrite ! 0 (λ (p : Ptr). ‵ (Pen p h.value)) at refl $
-      cite _ (cuts 𝓛 Y R W.coded Sr (g.holds h.key) (g.ways h.key) ℓ.lft c e h.view h.value) $ pick ! (λ t. split3 ! $ having ! Open t $ frame ! $ frame ! $
-      each ! (λ (z : R.Denot). wand 𝓤 (sem 𝓛 (tracked R c e t z)) (sem 𝓛 (Whole z))) (λ z. use1 𝓛 (raw (Back t z)) (all_e 𝓤 (Back t) z) $ assume ! (‵ (tracked R c e t z)) $
-      use2 𝓛 (‵ (Pen (block_ptr c e) z)) (apply∗ 𝓤 (sem 𝓛 (tracked R c e t z)) (sem 𝓛 (Pen (block_ptr c e) z))) $ rewrite ! 0 (λ (p : Ptr). ‵ (Pen p z)) (sym at) refl $ move ! (1 ∷ 0 ∷ []) $
-      by ! (part_in 𝓛 (the_type ℓ R W Y Kr Sr g) full_share (F z) m.ref_ptr.0 m.ref_ptr.1)))
+  cut : Lemma 𝓛 (‵ (It h.value)) (some (Cut 𝓛 R ℓ.lft c e It h.value))
+  cut = let t = the_type ℓ R W Y Kr Sr g in script ∵
+      use1 𝓛 (‵ (part_at (Words ℓ R W Y Kr Sr g) full_share (h.cell, (tt, tt)) b o) ⊛ ‵ (Pen h.value h.cell))
+      (part_out 𝓛 t full_share h b o) $ split ! $ move ! (1 ∷ []) $
+      rewrite ! 0 (λ (p : Ptr). ‵ (Pen h.value p)) at refl $
+      cite _ (cuts 𝓛 Y R W.coded.code Sr (g.holds h.key) (g.ways h.key) ℓ.lft c e h.view h.value) $ pick ! (λ i.
+      split3 ! $ move ! (2 ∷ []) $ split ! $ move ! (2 ∷ 3 ∷ 0 ∷ []) $ having ! (Cut 𝓛 R ℓ.lft c e It h.value) i $
+      frame ! $ frame ! $ frame ! $ each ! (Back 𝓛 R ℓ.lft c e It i) (λ z. assume ! (‵ (tracked R c e i z)) $
+      move ! (1 ∷ 0 ∷ []) $ cite _ (again 𝓛 R ℓ.lft c e (λ x. Pen x (block_ptr c e)) i z) $
+      rewrite ! 0 (λ (p : Ptr). ‵ (Pen z p)) (sym at) refl $ move ! (1 ∷ 0 ∷ []) $
+      by ! (part_in 𝓛 t full_share (with_value h z) b o)))
 
 pub get_mut_spec : {M : Type 1} → statement M
 unfolding part_of
@@ -66,11 +50,9 @@ get_mut_spec 𝓤 𝓛 𝓜 𝓡 wired T V P K S L _ _ _ LS g d _ =
     walks 𝓛 En c 𝓜 𝓡 (λ κs x f. refl, tt) _ fn (code.unfolded 𝓤 H 𝓜 𝓡 wired (T, (V, (P, (K, (S, tt))))) d)
     (λ κs. (as_mut (named 0) κs.0 (the_row (named_lft 7 1 tt κs) R W Y Kr Sr g), tt)) (λ κs qs bounds a gh are Post out.
     let ℓ = named_lft 7 1 tt κs in let G = the_row ℓ R W Y Kr Sr g in let D = Words ℓ R W Y Kr Sr g in let m = a.0 in let b = m.ref_ptr.0 in
-    let o = m.ref_ptr.1 in let γ = m.ghost_name in let h = m.now in
+    let o = m.ref_ptr.1 in let h = m.now in let x = h.value in let Ws = part_at D full_share (h.cell, (tt, tt)) b o in
     let κ = κs.0 in let q = qs.0 in let β = κs.1.0 in let p = h.cell in let pb = block_of p in let po = count_of p in let e = po + offset R in
-    let x = h.value in let F = with_value h in
     let Had : Ptr → T.Denot → Fml = λ z w. writer_owns Y R cw.code Sr (g.holds h.key) (g.ways h.key) β z h.view w in
-    let Ws = part_at D full_share (p, (tt, tt)) b o in
     fsplit ! $ move ! (2 ∷ []) $ fsplit ! $ fsplit3 ! $ keep ! (1 ∷ 2 ∷ 4 ∷ 5 ∷ []) $
     alloc_all ! (λ l. pass_all ! refl ((tt, tt), tt) $ let Ev = env fn.locals l in
     open_ref ! tt (in_memory G) $ use1 𝓛 (‵ Ws ⊛ ‵ (Had p x)) (part_out 𝓛 (the_type ℓ R W Y Kr Sr g) full_share h b o) $ split ! $ move ! (1 ∷ []) $
@@ -83,9 +65,7 @@ get_mut_spec 𝓤 𝓛 𝓜 𝓡 wired T V P K S L _ _ _ LS g d _ =
     rewrite ! 1 (λ (us : List Val). ‵ (cell_at full_share D.mir us b o)) (sym ev) refl $ move ! (1 ∷ 0 ∷ []) $ fjoin ! $
     fpack ! (List Val) (λ us. fsep (cell_at full_share D.mir us b o) (D.own_val (p, (tt, tt)) us)) vs $
     use2 𝓛 (‵ (part_at G full_share h b o)) (part_in 𝓛 (the_type ℓ R W Y Kr Sr g) full_share h b o) $ close_ref ! tt (in_memory G) h $
-    cite _ (goes_through 𝓛 Y R cw Sr (g.holds h.key) (g.ways h.key) β pb po h.view G F
-    (same 𝓛 ℓ R W Y Kr Sr g κ bounds.0 q m pb po at) (named 0) κ bounds.0 q m x
-    (cut 𝓛 ℓ R W Y Kr Sr g κ bounds.0 q m pb po at)) $
-    await ! tt $ pick ! (λ δ. split3 ! $
-    move ! (1 ∷ 3 ∷ []) $ fjoin ! $ says ! (x ≡ x) refl $ move ! (3 ∷ 0 ∷ []) $ join ! $
+    cite _ (goes_through 𝓛 R G β pb po (with_value h) (λ y z. ap (λ (it : G.Denot). it.value)) (named 0) κ bounds.0 q m
+    x (cut 𝓛 ℓ R W Y Kr Sr g h b o pb po at)) $ await ! tt $ pick ! (λ δ. split3 ! $ move ! (1 ∷ 3 ∷ []) $ fjoin ! $
+    says ! (x ≡ x) refl $ move ! (3 ∷ 0 ∷ []) $ join ! $
     returns ! (look_at ! 0 refl) $ free_all ! refl $ keep ! (1 ∷ 2 ∷ 0 ∷ []) $ by ! (out (vptr pb e) (record { ref_ptr = (pb, e); ghost_name = δ; now = x }))))))))

@@ -1,15 +1,16 @@
 -- `into_permit` keeps what the permit owns.
-use Rattle.spin_core.proofs.WalkNames.{◌≡◌, [], ◌∷◌, refl, Some, dcons, dnil, Val, inst_fn, Fml, ‵, given, ◌$◌, !, by, keep, join, fjoin, learn, use0, use1, stop, fld, of_opd, no_more, returns, alloc_all, pass_all, free_all, look_at, get_in, sets, agg, sub, whole, named_lft, Ptr, param, bounded, says}
+use Rattle.spin_core.proofs.WalkNames.{◌≡◌, [], ◌∷◌, refl, Some, dcons, dnil, Val, inst_fn, Fml, ‵, ◌$◌, !, by, keep, join, fjoin, learn, use0, stop, fld, of_opd, no_more, returns, alloc_all, pass_all, free_all, look_at, get_in, sets, agg, sub, whole, named_lft, Ptr, param, bounded, says}
 use Rattle.spin_core.proofs.WalkSteps.{unasked, takes, two}
 use Rattle.spin_core.proofs.Walking.{walks}
 use Rattle.spin_core.specs.Cell.{writes}
-use Rattle.spin_core.specs.CellMemory.{permit_owns, writer_owns}
+use Rattle.spin_core.specs.CellMemory.{writer_owns}
 use Rattle.spin_core.specs.contracts.cell.Permit as hand
 use Rattle.spin_core.proofs.PermitFields.{as_hand, as_pen, hand_of, Words, made, typed}
 use Rattle.spin_core.proofs.CellWalks.{from_writer}
 use Rattle.spin_core.specs.contracts.cell.WritePermit.into_permit.{ended, clauses}
 use Rattle.spin_core.proofs.cell.WritePermit.into_permit.Statement.{statement}
 use Rattle.spin_core.proofs.cell.WritePermit.into_permit.Code as code
+use Rattle.spin_core.proofs.Lemmas.{cite}
 
 pub into_permit_spec : {M : Type 1} → statement M
 into_permit_spec 𝓤 𝓛 𝓜 𝓡 wired T V P K S L _ _ _ LS g d _ =
@@ -19,14 +20,13 @@ into_permit_spec 𝓤 𝓛 𝓜 𝓡 wired T V P K S L _ _ _ LS g d _ =
     (λ κs. (as_pen (named_lft 6 0 tt κs) R W Y Kr Sr g, tt)) (λ κs qs bounds a gh are Post out.
     let ℓ = named_lft 6 0 tt κs in let Hr = hand.the_row ℓ R W Y Kr Sr g in let h = a.0 in let p = h.cell in
     let β = κs.0 in let Owned : Ptr → Fml = λ z. writer_owns Y R cw.code Sr (g.holds h.key) (g.ways h.key) β z h.view h.value in
-    let Use_is : Type 0 = (g.ways h.key).1 h.view ≡ writes in
     takes ! Owned refl p (unasked 𝓤 _) (λ _ inb.
-    use1 𝓛 (given Use_is (‵ (permit_owns Y R cw.code Sr (g.holds h.key) (g.ways h.key) β p (Some h.view) (Some h.value)))) (from_writer 𝓛 Y R cw Sr (g.holds h.key) (g.ways h.key) β p h.view h.value) $ learn ! (λ so.
+    cite _ (from_writer 𝓛 Y R cw.code Sr (g.holds h.key) (g.ways h.key) β p h.view h.value) $ learn ! (λ so.
     alloc_all ! (λ l. pass_all ! refl (typed p inb, tt) $
     let good = Rattle.spin_core.proofs.PermitFields.pointer p inb in sets ! (of_opd ! (get_in ! (fld ! refl (stop !)) (sub ! 0 refl (whole !)))) refl good $ sets ! (agg ! (no_more !)) refl (tt, tt) $
     sets ! (agg ! (two ! refl refl)) refl (typed p inb) $
     let h' : Hr.Denot = record { cell = p; marker = record {}; key = h.key; view = Some h.view; value = Some h.value } in let v : Val = hand_of p in
     use0 𝓛 (‵ ((Words ℓ R W Y Kr Sr g).own_val (p, (tt, tt)) (v ∷ []))) (made ℓ R W Y Kr Sr g 𝓛 p) $ fjoin ! $
     let Told : Type 0 = (h'.view ≡ Some h.view) × (h'.value ≡ Some h.value) in says ! (h.key ≡ h.key) refl $ says ! Told (refl, refl) $ join ! $
-    says ! Use_is so $ join ! $
+    says ! ((g.ways h.key).1 h.view ≡ writes) so $ join ! $
     returns ! (look_at ! 0 refl) $ free_all ! refl $ keep ! (2 ∷ 1 ∷ 0 ∷ []) $ by ! (out v h')))))

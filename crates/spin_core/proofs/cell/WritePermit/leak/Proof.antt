@@ -1,11 +1,11 @@
 -- `leak` gives the borrow of the value away, for the rest of the cell's borrow.
-use Rattle.spin_core.proofs.WalkNames.{◌≡◌, ◌+◌, [], ◌∷◌, refl, ap, dcons, dnil, named, vptr, inst_fn, Fml, at_ret, ◌$◌, !, by, move, keep, split, fsplit, fjoin, fjoin3, fpick, await, feq_i, stop, fld, addr, of_opd, first, blocks, exec, returns, alloc_all, pass_all, free_all, look_at, get, get_in, through, sets, sets_last, is, env, sub, whole, tables, named_lft, Ptr, ptr_val, block_of, count_of, at_block, param, bounded, tail, says}
+use Rattle.spin_core.proofs.WalkNames.{◌≡◌, ◌+◌, [], ◌∷◌, refl, ap, dcons, dnil, named, vptr, inst_fn, Fml, at_ret, ◌$◌, !, by, move, keep, split, fsplit, fjoin, fjoin3, fpick, pick, split3, await, feq_i, stop, fld, addr, of_opd, first, blocks, exec, returns, alloc_all, pass_all, free_all, look_at, get, get_in, through, sets, sets_last, is, env, sub, whole, tables, named_lft, Ptr, ptr_val, block_of, count_of, at_block, param, bounded, tail, says}
 use denote.Ref.{MutRef}
 use Rattle.spin_core.proofs.WalkSteps.{unasked, takes_at}
 use Rattle.spin_core.proofs.Walking.{walks}
 use Rattle.spin_core.specs.CellMemory.{offset, named as body, writer_owns}
 use Rattle.spin_core.proofs.PermitFields.{as_pen, typed}
-use Rattle.spin_core.proofs.CellThrough.{lasts}
+use Rattle.spin_core.proofs.CellThrough.{cuts, lasts}
 use Rattle.spin_core.specs.contracts.cell.WritePermit.leak.{ended, clauses}
 use Rattle.spin_core.proofs.cell.WritePermit.leak.Statement.{statement}
 use Rattle.spin_core.proofs.cell.WritePermit.leak.Code as code
@@ -23,11 +23,11 @@ leak_spec 𝓤 𝓛 𝓜 𝓡 wired T V P K S L _ _ _ LS g d _ =
     let Owned : Ptr → Fml = λ z. writer_owns Y R cw.code Sr (g.holds h.key) (g.ways h.key) β z h.view x in
     takes_at ! Owned refl p (unasked 𝓤 _) (λ _ inb. let at = at_block p inb in
     alloc_all ! (λ l. pass_all ! refl (typed p inb, tt) $ let Ev = types.ByLocal.env fn.locals l in
-    fpick ! (λ known. fpick ! (λ so. fpick ! (λ t. fsplit ! $ fsplit ! $ move ! (2 ∷ []) $ fsplit ! $ move ! (1 ∷ []) $ fsplit ! $ move ! (5 ∷ []) $ fsplit ! $ move ! (5 ∷ 3 ∷ 0 ∷ []) $
-    cite _ (lasts 𝓛 β t.life q (body R b o t)) $ await ! tt $ split ! $
+    cite _ (cuts 𝓛 Y R cw.code Sr (g.holds h.key) (g.ways h.key) β b o h.view x) $ pick ! (λ t. split3 ! $
+    move ! (2 ∷ []) $ split ! $ move ! (4 ∷ []) $ fsplit ! $ move ! (4 ∷ 2 ∷ 0 ∷ []) $
+    fpick ! (λ νs. cite _ (lasts 𝓛 νs β t.life q (body R b o t)) $ await ! tt $ split ! $
     sets ! (is ! (of_opd ! (get_in ! (fld ! refl (stop !)) (sub ! 0 refl (whole !)))) (ap ptr_val at)) refl (tt, tt) $ first ! $ blocks ! $ sets ! (addr ! (through ! refl (fld ! refl (stop !)))) refl (tt, tt) $
     sets_last ! (addr ! (through ! refl (stop !))) refl (tt, tt) $ exec ! 𝓣.C 𝓣.Λ Ev (tail (tail fn.body)) (at_ret Ev Post) $ sets ! (of_opd ! (get ! refl)) refl (tt, tt) $
     let m : (MutRef (named 0) β R).Denot = record { ref_ptr = (b, e); ghost_name = t.value; now = x } in
-    move ! (3 ∷ 0 ∷ []) $ feq_i ! _ (vptr b e ∷ []) _ refl $ fjoin3 ! $
-    says ! (x ≡ x) refl $ move ! (2 ∷ 3 ∷ []) $ fjoin ! $
-    returns ! (look_at ! 0 refl) $ free_all ! refl $ keep ! (0 ∷ 2 ∷ 1 ∷ []) $ by ! (out (vptr b e) m)))))))
+    move ! (4 ∷ 0 ∷ []) $ feq_i ! _ (vptr b e ∷ []) _ refl $ fjoin3 ! $ says ! (x ≡ x) refl $ move ! (2 ∷ 3 ∷ []) $
+    fjoin ! $ returns ! (look_at ! 0 refl) $ free_all ! refl $ keep ! (0 ∷ 2 ∷ 1 ∷ []) $ by ! (out (vptr b e) m))))))

@@ -26,7 +26,7 @@ use Rattle.spin_core.specs.contracts.cell.Cell as cell
 use Rattle.spin_core.specs.contracts.cell.stable.MaybeStable as maybe_stable
 use Rattle.spin_core.specs.contracts.cell.stable.Stable as stable
 use Rattle.spin_core.proofs.cell.stable.MaybeStable.TheLaws as maybe_stable_laws
-use Rattle.spin_core.proofs.CellFields.{Rule, Row, row_out, row_in, standing_words, At, Joins, fields_out, rejoined, rekeyed}
+use Rattle.spin_core.proofs.CellFields.{Row, row_out, row_in, standing_words, Joins, fields_out, rejoined, rekeyed}
 use Rattle.spin_core.specs.contracts.cell.stable.Cell+MaybeStable+T+V+P.get_stable.{ended, clauses}
 use Rattle.spin_core.proofs.cell.stable.Cell+MaybeStable+T+V+P.get_stable.Statement.{statement}
 use Rattle.spin_core.proofs.cell.stable.Cell+MaybeStable+T+V+P.get_stable.Code as code
@@ -51,13 +51,10 @@ get_stable_spec 𝓤 𝓛 𝓜 𝓡 wired X U P K N L _ _ _ LN s d' g d _ _ =
     walks 𝓛 (ended X U P K N s d' g d) (clauses X U P K N s d' g d 𝓛 𝓜.mem 𝓡.returns) 𝓜 𝓡 (λ κs x f. refl, (λ κs x f. refl, tt)) _ fn (code.unfolded 𝓤 H 𝓜 𝓡 wired (X, (U, (P, (K, (N, tt))))) d' d)
     (λ κs. (as_mut (named 0) κs.0 Ty, (as_u64, tt))) (λ κs qs bounds a gh are Post out.
     let b = a.0.ref_ptr.0 in let o = a.0.ref_ptr.1 in let old = a.0.now in let key = g.lent old in let γ = a.0.ghost_name in let wanted = a.1.0 in let κ = κs.0 in let q = qs.0 in
-    let e = o + offset R in let at = vptr b e in
-    let Lent = MutRef (named 0) κ S in let Out = option.the_row Lent in
+    let e = o + offset R in let at = vptr b e in let Lent = MutRef (named 0) κ S in let Out = option.the_row Lent in
     let Ok = StableAt (g.holds key) (g.ways key) s.stable wanted in let Same = Lends (g.holds old) (g.ways old) (g.holds key) (g.ways key) in let Q = sem 𝓛 (Row 𝓛 m ms V Y Kr g key b o) in
-    let words = standing_words 𝓛 m ms V Y Kr g key b o in let Lies = At 𝓛 m ms V Y Kr g key b o in
-    let Holds = Rule 𝓛 m ms V Y Kr g key b o in
     let Joined = Joins 𝓛 m ms V Y Kr g key b o Lw Ls (Row 𝓛 m ms V Y Kr g key b o) (row_out 𝓛 m ms V Y Kr g key b o) (row_in 𝓛 m ms V Y Kr g key b o) in
-    let Rest : ℕ × N.Denot → SProp 𝓤 = λ ns. sep 𝓤 (sem 𝓛 (words ns)) Joined in
+    let Rest : ℕ × N.Denot → SProp 𝓤 = λ ns. sep 𝓤 (sem 𝓛 (standing_words 𝓛 m ms V Y Kr g key b o ns)) Joined in
     let shuts = rejoined 𝓛 m ms V Y Kr g key b o Lw Ls (Row 𝓛 m ms V Y Kr g key b o) (row_out 𝓛 m ms V Y Kr g key b o) (row_in 𝓛 m ms V Y Kr g key b o) in
     move ! (2 ∷ []) $ use1 𝓛 (raw (fact 𝓤 (Ok × Same))) (last_two 𝓤 Ok Same 5 (_, (_, (_, (_, (_, tt)))))) $ heard ! (Ok × Same) (λ asked. fsplit ! $ move ! (2 ∷ []) $ fsplit ! $ fsplit3 ! $ keep ! (1 ∷ 2 ∷ 4 ∷ 5 ∷ []) $
     alloc_all ! (λ l. pass_all ! refl ((tt, tt), ((tt, record { fits = are.1.0.1 }), tt)) $ let Ev = env fn.locals l in
@@ -80,14 +77,12 @@ get_stable_spec 𝓤 𝓛 𝓜 𝓡 wired X U P K N L _ _ _ LN s d' g d _ _ =
     (λ v. subst (λ (F : Fml). ent 𝓤 (sep 𝓤 (sem 𝓛 F) (Rest (n, k))) Q) (sym (lies X₀ s v b e))
     (shuts (n, k, record { value = v.value })
     (subst (λ (j : ℕ). Starts (g.holds key) (g.ways key) j k (record { value = v.value })) (sym is)
-    (may.1 v.value v.stable))).prf) (K.coded.code old) (K.coded.code old) w) $
-    await ! tt $ pick ! (λ δ.
-    let r : MutBor S.Denot = record { ref_ptr = (b, e); ghost_name = δ; now = w } in
+    (may.1 v.value v.stable))).prf) (K.coded.code old) (K.coded.code old) w) $ await ! tt $
+    pick ! (λ δ. let r : MutBor S.Denot = record { ref_ptr = (b, e); ghost_name = δ; now = w } in
     split3 ! $ use1 𝓛 (‵ (Out.own_val (Some r) (live 1 (vcons at vnil) ∷ []))) (Some-of 𝓛 Lent r at) $ move ! (2 ∷ []) $ drop ! $ move ! (1 ∷ 2 ∷ []) $ fjoin ! $ move ! (1 ∷ []) $ nothing ! $
     returns ! (look_at ! 0 refl) $ free_all ! refl $ keep ! (2 ∷ 1 ∷ 0 ∷ []) $ by ! (out (live 1 (vcons at vnil)) (Some r))))
     (λ other. sets_last ! (agg ! (and_then ! (lit ! tt) (no_more !))) refl (tt, (record { fits = lit< tt }, tt)) $ exec ! 𝓣.C 𝓣.Λ Ev (after 4 fn.body) (at_ret Ev Post) $ sets ! (of_opd ! (get ! refl)) refl (tt, (record { fits = lit< tt }, tt)) $
     move ! (0 ∷ 3 ∷ []) $ fjoin ! $ move ! (0 ∷ 2 ∷ []) $ join ! $ move ! (1 ∷ 0 ∷ []) $
     use2 𝓛 (‵ (Row 𝓛 m ms V Y Kr g key b o)) (shuts z.1 rule).prf $ close_ref ! tt (in_memory Ty) key $ drop ! $
-    drop ! $ fjoin ! $
-    use0 𝓛 (‵ (Out.own_val None (live 0 vnil ∷ []))) (none_of 𝓛 Lent) $ nothing ! $
+    drop ! $ fjoin ! $ use0 𝓛 (‵ (Out.own_val None (live 0 vnil ∷ []))) (none_of 𝓛 Lent) $ nothing ! $
     returns ! (look_at ! 0 refl) $ free_all ! refl $ keep ! (2 ∷ 1 ∷ 0 ∷ []) $ by ! (out (live 0 vnil) None))))))))
