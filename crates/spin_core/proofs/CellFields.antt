@@ -143,8 +143,9 @@ module _ {M : Type 1} {𝓤 : Ura M} (𝓛 : Logic 𝓤) (m ms : Member) (V Y K 
     pub fields_out : ‵ P ⊩ some Apart
     fields_out = script ∵ cite _ to $ fpick ! (λ k. fpick ! (λ s. fsplit ! $
         use1 𝓛 (‵ (parts_at full_share ks zero (data_of s) b o) ⊛ raw (PartsBack 𝓛 full_share [] ks b o))
-        (Struct-parts 𝓛 full_share [] ks (Struct-Lawful 𝓛 (denote.Struct.Declared.shape (marker.the_type Both)) tt,
-        (u64-laws.lawful 𝓛, (L, (LS, tt)))) (data_of s) b o) $ split ! $ fsplit3 ! $ move ! (1 ∷ []) $
+        (Struct-parts 𝓛 full_share [] ks
+        (Struct-Lawful 𝓛 (denote.Struct.Declared.shape (marker.the_type Both)) tt, (u64-laws.lawful 𝓛, (L, (LS, tt))))
+        (data_of s) b o) $ split ! $ fsplit3 ! $ move ! (1 ∷ []) $
         use1 𝓛 (‵ (word b (o + 0) s.0)) (word_out 𝓛 b (o + 0) s.0) $ move ! (2 ∷ []) $ fsplit3 ! $
         -- context: [the value; the second word; nothing; the first word; the marker; the way back; the rule]
         move ! (3 ∷ 1 ∷ []) $ fjoin ! $ move ! (3 ∷ 4 ∷ []) $ cite _ (joins k) $ having ! Apart (k, s) $ keep ! (1 ∷ 2 ∷ 4 ∷ 0 ∷ []) $ done !))

@@ -6,22 +6,19 @@ use lib.ListN.{get_elem?}
 use mathlib.Mathlib.Data.Part.{◌∈◌}
 use seplogic.Ra.Pcs.{OpDef, OpDef-comm}
 use seplogic.Ra.Ura.{Ura}
-use seplogic.Ra.Constructions.Prod
-use seplogic.Ra.Instances.Ag
 use base.Fraction.{full_share}
 use base.Share.{quarter, three_quarters}
 use base.FractionLaws.{not-OpDef-full_share}
 use base.Share
 use base.Stored.{Gv, Coded}
-use base.SetCodes.{coded, SetCoded-set}
 use base.Algebras.{pcs, shares}
 use base.Logic.{SProp, ex, guard, upd, via, ex_e, guard_e, guard_i, upd_mono}
-use base.Fml.{GName, Share, Fml, ftrue, fex}
+use base.Fml.{GName, Share, Fml}
 use types.Logic.{Logic}
 use types.Keyed.{entry, entries_take, entries_beside, entry_cut, entry_glue, entry_set}
 use types.Kit.{‵, raw, ◌⊛◌, given, ◌$◌, ◌∵◌, !, qed, by, move, keep, drop, split, fpick, fpack, pick, learn, check, each, suffices, settle, done, use1, use2, rewrite, fsplit}
 use types.Kit as Kit
-use Rattle.atomic_table.specs.Seated.{itself, halved, seen}
+use Rattle.atomic_table.specs.Seated.{halved, seen}
 use Rattle.spin_core.specs.Cell.{Stands, after}
 use Rattle.spin_core.specs.CellMemory.{unused, roster, stand}
 use Rattle.spin_core.proofs.CellParts.{sum}

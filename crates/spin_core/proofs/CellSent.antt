@@ -13,7 +13,7 @@ use denote.Param.Send.{IsSend, IsSync, part_keyless, whole-keyless}
 use Rattle.core.proofs.atomic.Sent.{chain-Keyless}
 use Rattle.atomic_table.specs.Seated.{halved}
 use Rattle.spin_core.specs.Cell.{Use, off, reads, writes, Way, alone, lends, fixes, Ways, IsKnown, use_of, IsShared}
-use Rattle.spin_core.specs.CellMemory.{offset, second_at, Common, Sends, Known, Id, Round, roster, remains, named, resting, state, right, stand, kept, cell_shares, permit_owns, permit_shares, reader_shares, writer_owns, writer_shares}
+use Rattle.spin_core.specs.CellMemory.{offset, second_at, Common, Sends, Known, Id, Round, roster, remains, named, resting, state, right, stand, core, kept, cell_shares, permit_owns, permit_shares, reader_shares, writer_owns, writer_shares}
 
 roster_keyless : {V : Type 0} (c : V → Gv) (ρ k : ℕ) (vs : List V) → Keyless (roster c ρ k vs)
 roster_keyless c ρ k [] = λ g. entries_keyless halved ρ k (λ _. (full_share, g))
@@ -48,10 +48,13 @@ module _ (R : RattleType) (s : IsSend R) (b o : ℕ) (t : Id) where
   right_keyless way _ sees _ = tt
 
   module _ {V : Type 0} (c : V → Gv) (S : RattleType) (holds : ℕ → S.Denot → List V → Type 0) (ways : Ways R.Denot V S.Denot) where
+    core_keyless : (IsShared ways.0 → Common R) → (z : ℕ × S.Denot) → Keyless (core R b o t c S holds ways z)
+    core_keyless sees z = λ vs. (roster_keyless c t.views 0 vs, ((λ _. tt), state_keyless ways.0 (IsKnown ways.2 z.1) sees _ _))
+
     kept_keyless : (IsShared ways.0 → Common R) → Sends S → (κ : Lft) → Keyless (kept R b o t c S holds ways κ)
-    kept_keyless sees sent κ = ((λ νs. chain-Keyless νs κ t.life), λ z. (tt, (
-        whole-keyless (raw_all S.mir) S.own_val sent full_share z.1 b (o + second_at S R),
-        λ vs. (roster_keyless c t.views 0 vs, ((λ _. tt), state_keyless ways.0 (IsKnown ways.2 z.1) sees _ _)))))
+    kept_keyless sees sent κ =
+        let second = λ (z : ℕ × S.Denot). whole-keyless (raw_all S.mir) S.own_val sent full_share z.1 b (o + second_at S R) in
+        ((λ νs. chain-Keyless νs κ t.life), λ z. (tt, (second z, core_keyless sees z)))
 
 module _ (Y R : RattleType) {V : Type 0} (c : V → Gv) (S : RattleType) (holds : ℕ → S.Denot → List V → Type 0) (ways : Ways R.Denot V S.Denot) where
   pub cell_keyless : IsSend R → IsSync Y → (p : Ptr) (κ : Lft) → Keyless (cell_shares Y R c S holds ways p κ)
@@ -62,9 +65,9 @@ module _ (Y R : RattleType) {V : Type 0} (c : V → Gv) (S : RattleType) (holds 
   some_reads view known e = grind arith
 
   pub permit_keyless : IsSend R → IsSync Y → (β : Lft) (p : Ptr) (view : Option V) (x : Option R.Denot) → Keyless (permit_owns Y R c S holds ways β p view x)
-  permit_keyless s y β (block_ptr b o) view x = λ known t. (
-      kept_keyless R s b o t c S holds ways (λ e. known.0 e y.shared) known.2 β, (stand_keyless c t.views view,
-      right_keyless R s b o t ways.0 (use_of ways.1 view) (λ e. some_reads view known e y.shared) x))
+  permit_keyless s y β (block_ptr b o) view x = λ known t.
+      let right = right_keyless R s b o t ways.0 (use_of ways.1 view) (λ e. some_reads view known e y.shared) x in
+      (kept_keyless R s b o t c S holds ways (λ e. known.0 e y.shared) known.2 β, (stand_keyless c t.views view, right))
   permit_keyless s y β null_ptr view x = tt
 
   pub writer_keyless : IsSend R → IsSync Y → (β : Lft) (p : Ptr) (view : V) (x : R.Denot)

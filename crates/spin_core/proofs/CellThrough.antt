@@ -3,8 +3,8 @@
 use Rattle.std.proofs.Common.{◌≡◌, ℕ, ◌+◌, List, [], ◌∷◌, ◌++◌, refl, sym, Some}
 use seplogic.Ra.Ura.{Ura}
 use mir.Syntax.{Lifetime}
-use base.Logic.{SProp, all, all_e, via, apply∗}
-use base.Fml.{Lft, GName, Share, Incl, Incl-refl, Fml, fex, fobs, fbor, flft}
+use base.Logic.{SProp, all, all_e, apply∗}
+use base.Fml.{Lft, GName, Share, Incl, Incl-refl, Fml, fobs, fbor, flft}
 use base.Stored.{Gv}
 use base.Before.{before, chain}
 use types.Logic.{Logic}

@@ -5,7 +5,7 @@ use base.Stored.{Gv}
 use base.Logic.{never_e}
 use base.Fml.{Lft, Fml, ffalse, fex}
 use types.Logic.{Logic}
-use types.Kit.{‵, ◌⊛◌, some, given, ◌$◌, ◌∵◌, !, move, keep, fsplit3, fjoin3, fpick, fpack, check, by, rewrite, done, Item}
+use types.Kit.{‵, ◌⊛◌, some, given, ◌$◌, ◌∵◌, !, keep, fsplit3, fjoin3, fpick, fpack, check, by, rewrite, done, Item}
 use denote.RattleType.{RattleType}
 use denote.RawPtr.{Ptr, block_ptr, null_ptr}
 use Rattle.spin_core.specs.Cell.{Use, writes, Ways, use_of}

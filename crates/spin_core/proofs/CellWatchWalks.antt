@@ -13,7 +13,7 @@ use contract.Running.{Running}
 use contract.Monad.{fact}
 use contract.BorrowLft.{◌⊑◌}
 use types.Logic.{Logic}
-use types.Kit.{Goal, !, ◌∵◌, Soaks, Seq, Item, ‵, raw, ◌⊛◌, some, later, given, ◌$◌, done, now, updating, join, learn, drop, move, keep, split, split3, fsplit, fjoin, fpick, fpack, pick, await, use0, use1, use2, use3, feq_i, flt_i}
+use types.Kit.{Goal, !, ◌∵◌, Soaks, Seq, Item, ‵, raw, ◌⊛◌, some, later, ◌$◌, done, join, drop, move, keep, split, split3, fsplit, fjoin, fpick, fpack, pick, await, use0, use1, use2, use3, feq_i, flt_i}
 use denote.RattleType.{RattleType, Valss, owns}
 use denote.Ref.{NamedLft}
 use denote.Steps.{nothing}
@@ -27,7 +27,7 @@ use Rattle.spin_core.specs.contracts.trace.Watch as watch
 use Rattle.spin_core.specs.declared.trace.Watch.{Watch}
 use Rattle.spin_core.specs.declared.cell.Permit.{Permit}
 use Rattle.spin_core.proofs.TraceTokens.{token, Token, token_made}
-use Rattle.spin_core.specs.Cell.{Use, Ways, use_of, Keeps}
+use Rattle.spin_core.specs.Cell.{Ways, use_of, Keeps}
 use Rattle.spin_core.specs.CellMemory.{second_at, Known as Shares, Id, inner, kept, permit_owns}
 use Rattle.spin_core.specs.Traced.{Watches, Learnt, Named, MayKnow, Traces, TracesSecond}
 use Rattle.spin_core.specs.declared.cell.Rule.{Ghosts}
@@ -218,20 +218,22 @@ module _ {M : Type 1} {𝓤 : Ura M} (𝓛 : Logic 𝓤) (𝓜 : Model 𝓤 𝓛
           → Seq K 𝓛 (‵ (Owned here) ∷ ‵ (Known seen) ∷ ‵ (fsep (flft β q) (fsep (flft τ r) os)) ∷ Γ) G
 
     opens : (at : Ptr) (f : ℕ → ℕ) (os : Fml) → Incl τ R.lives → Asks at f → Opens at f os
-    opens at f os le can = record { on = λ t z go. fpick t (λ known. fpick t (λ i. let α : Lft = i.life in
-        -- context: [what the permit owns; what the watch knows; the tokens]
-        fsplit t $ fsplit t $ use1 𝓛 (‵ (before β α) ⊛ ‵ (before β α)) (before_dup 𝓛 β α) $ split t $ move t (2 ∷ []) $
-        use1 𝓛 (‵ (finv (Inv i)) ⊛ ‵ (finv (Inv i))) (𝓛.invs.inv_dup (Inv i)) $ split t $
-        move t (2 ∷ 0 ∷ []) $ fjoin t $ move t (5 ∷ []) $ fsplit t $ move t (4 ∷ 0 ∷ []) $
-        use2 𝓛 (later (some (λ (s : Share). ‵ (flft α s) ⊛ raw (A.lft α s -∗ H.⇛ (A.lft β q)))))
-        (Lends-one 𝓛 𝓜 𝓡 β α q) $ await t z $ pick t (λ s. split t $ move t (2 ∷ []) $ fsplit t $
-        move t (6 ∷ []) $ fsplit t $ move t (1 ∷ 4 ∷ 2 ∷ []) $ cite _ (readies 𝓛 R b o i R.lives (LR.shares 𝓛)
-        (use_of ways.1 h.view) ways.0 h.value α s τ r (Incl-refl α) le) $ await t z $ split3 t $
-        -- context: [the party's part; two tokens; the view; the other tokens; the way back, in two parts; the
-        -- invariant; what the watch knows]
-        let k : Entry = (known, (i, s)) in move t (3 ∷ 0 ∷ []) $ fjoin t $ move t (0 ∷ 7 ∷ []) $ fjoin t $
-        move t (5 ∷ 4 ∷ 2 ∷ []) $ use3 𝓛 (raw (back k)) (id⊢ 𝓤 _) $ move t (4 ∷ 2 ∷ 1 ∷ []) $
-        cite _ (can.step k) $ go (left k) (back k) (closing k)))) }
+    opens at f os le can = record {
+      on = λ t z go. fpick t (λ known. fpick t (λ i. let α : Lft = i.life in
+          -- context: [what the permit owns; what the watch knows; the tokens]
+          fsplit t $ fsplit t $ use1 𝓛 (‵ (before β α) ⊛ ‵ (before β α)) (before_dup 𝓛 β α) $ split t $ move t (2 ∷ []) $
+          use1 𝓛 (‵ (finv (Inv i)) ⊛ ‵ (finv (Inv i))) (𝓛.invs.inv_dup (Inv i)) $ split t $
+          move t (2 ∷ 0 ∷ []) $ fjoin t $ move t (5 ∷ []) $ fsplit t $ move t (4 ∷ 0 ∷ []) $
+          use2 𝓛 (later (some (λ (s : Share). ‵ (flft α s) ⊛ raw (A.lft α s -∗ H.⇛ (A.lft β q)))))
+          (Lends-one 𝓛 𝓜 𝓡 β α q) $ await t z $ pick t (λ s. split t $ move t (2 ∷ []) $ fsplit t $
+          move t (6 ∷ []) $ fsplit t $ move t (1 ∷ 4 ∷ 2 ∷ []) $ cite _ (readies 𝓛 R b o i R.lives (LR.shares 𝓛)
+          (use_of ways.1 h.view) ways.0 h.value α s τ r (Incl-refl α) le) $ await t z $ split3 t $
+          -- context: [the party's part; two tokens; the view; the other tokens; the way back, in two parts; the
+          -- invariant; what the watch knows]
+          let k : Entry = (known, (i, s)) in move t (3 ∷ 0 ∷ []) $ fjoin t $ move t (0 ∷ 7 ∷ []) $ fjoin t $
+          move t (5 ∷ 4 ∷ 2 ∷ []) $ use3 𝓛 (raw (back k)) (id⊢ 𝓤 _) $ move t (4 ∷ 2 ∷ 1 ∷ []) $
+          cite _ (can.step k) $ go (left k) (back k) (closing k))));
+    }
 
     -- The walk of a step begins with the tokens, the permit and the other arguments, and with what the contract asks.
     pub begins : {K : Type 0} {G : Goal 𝓤 𝓛.H} {os words rest : Fml} {Asked : Type 0} {at : Ptr} → K
@@ -253,10 +255,10 @@ module _ {M : Type 1} {𝓤 : Ura M} {𝓛 : Logic 𝓤} {𝓜 : Model 𝓤 𝓛
       → MayKnow (g.holds h.key) (g.ways h.key) seen × Traces (g.holds h.key) (g.ways h.key) h.view h.value f
       (λ log es n. told log es (answer n))
       → Asks 𝓛 𝓜 𝓡 ℓ T W Y Kr Er Ur L g h q τ r seen told answer (block_ptr (block_of h.cell) (count_of h.cell + 0)) f
-  asks_first {Ur = Ur} {g} {h} asked = record { step = λ k.
-      steps.first_steps 𝓛 Er Ur (param 0 T) (param_laws 0 T L).shr_laws (block_of h.cell) (count_of h.cell) k.1.0
-      W.coded (g.holds h.key) (g.ways h.key) h.view h.value (λ log es n. told log es (answer n)) k.1.1 f seen.name
-      seen.entries asked.0 asked.1 }
+  asks_first {Ur = Ur} {g} {h} asked = record {
+    step = λ k. steps.first_steps 𝓛 Er Ur (param 0 T) (param_laws 0 T L).shr_laws _ _ k.1.0 W.coded (g.holds h.key)
+        (g.ways h.key) h.view h.value (λ log es n. told log es (answer n)) k.1.1 f seen.name seen.entries asked.0 asked.1;
+  }
 
   pub asks_second : {g : Ghosts Y.Denot T.Denot W.Denot Kr.Denot (trace.the_row Er u64).Denot}
       {h : (permit.the_row ℓ (param 0 T) W Y Kr (trace.the_row Er u64) g).Denot}
@@ -264,7 +266,7 @@ module _ {M : Type 1} {𝓤 : Ura M} {𝓛 : Logic 𝓤} {𝓜 : Model 𝓤 𝓛
       (λ log es n. told log es (answer n))
       → Asks 𝓛 𝓜 𝓡 ℓ T W Y Kr Er u64 L g h q τ r seen told answer
       (block_ptr (block_of h.cell) ((count_of h.cell + second_at (trace.the_row Er u64) (param 0 T)) + 0)) f
-  asks_second {g = g} {h} asked = record { step = λ k.
-      steps.second_steps 𝓛 Er (param 0 T) (param_laws 0 T L).shr_laws (block_of h.cell) (count_of h.cell) k.1.0 W.coded
-      (g.holds h.key) (g.ways h.key) h.view h.value (λ log es n. told log es (answer n)) k.1.1 f seen.name seen.entries
-      asked.0 asked.1 }
+  asks_second {g = g} {h} asked = record {
+    step = λ k. steps.second_steps 𝓛 Er (param 0 T) (param_laws 0 T L).shr_laws _ _ k.1.0 W.coded (g.holds h.key)
+        (g.ways h.key) h.view h.value (λ log es n. told log es (answer n)) k.1.1 f seen.name seen.entries asked.0 asked.1;
+  }

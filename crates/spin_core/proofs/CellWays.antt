@@ -1,6 +1,6 @@
 -- What a step must show besides the rule, part by part.
 use Rattle.std.proofs.Common.{ℕ, ◌<◌, List, Option, refl, arith}
-use Rattle.spin_core.specs.Cell.{Use, Way, fixes, Ways, Going, Frees, Limits, Fixed, Starts, readers_of, writers_of, Knowledge, no_fact, knows, IsKnown, Knowing, Freeing, Carries, Owed, Carrying, Learns}
+use Rattle.spin_core.specs.Cell.{Use, Way, fixes, Ways, Going, Frees, Limits, Fixed, Starts, Knowledge, no_fact, knows, IsKnown, Knowing, Freeing, Carries, Owed, Carrying, Learns}
 use Rattle.spin_core.specs.Traced.{Learnt}
 use Rattle.spin_core.specs.declared.trace.Trace.{Trace}
 

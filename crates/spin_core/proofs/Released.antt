@@ -28,7 +28,8 @@ use Rattle.spin_core.specs.contracts.guard.Release.release as trait
 module _ (Y V K S T : RattleType) (rule : Rule.Ghosts Y.Denot T.Denot V.Denot K.Denot S.Denot) where
   -- the signature of `release` in the `impl`
   abbrev pub own : Signature
-  own = record { lifetimes = 2;
+  own = record {
+    lifetimes = 2;
     outlives = record { long = 1; long_ok = tt; short = named 0; short_ok = tt } ∷ [];
     params = plain (λ κs. Permit.the_row (named_lft 2 0 tt κs) (param 0 T) V Y K (param 4 S) rule) ∷ [];
     result = plain (λ κs. unit);

@@ -5,7 +5,7 @@ use mir.Syntax.{Ty}
 use base.Share
 use base.Fraction.{full_share}
 use base.Stored.{Gv, gnum}
-use base.Logic.{SProp, ex, emp, all_e, via, apply∗, id⊢}
+use base.Logic.{SProp, ex, emp, via, apply∗, id⊢}
 use base.Fml.{Lft, GName, Share, Incl, Fml, ftrue, fsep, fseps, fex, fwand, fupd, fdead, fauth, fobs, fbor, flft, finv, Incl-refl, Incl-trans}
 use base.Before.{before}
 use contract.BorrowLft.{meet_⊑_left}
@@ -13,7 +13,7 @@ use ghost.Rules.{Toks, span}
 use types.Logic.{Logic, lfts}
 use types.SemTy.{Body}
 use types.Keyed.{entries_new}
-use types.Kit.{‵, raw, ◌⊛◌, some, given, learn, check, later, ◌$◌, ◌∵◌, !, by, move, keep, drop, use0, use1, use2, split, split3, join, fsplit, fsplit3, fjoin, fjoin3, fpick, fpack, pick, assume, await, group, updating, now, done, Item, mean}
+use types.Kit.{‵, raw, ◌⊛◌, some, given, learn, check, later, ◌$◌, ◌∵◌, !, by, move, keep, drop, use0, use1, use2, split, split3, fsplit, fsplit3, fjoin, fjoin3, fpick, fpack, pick, assume, await, group, updating, now, done, Item, mean}
 use types.Tokens.{bor_open, obor_alter, name_new, name_agree, one_token}
 use types.Na.{before-Incl}
 use types.Owned.{basic, own_new}
@@ -114,8 +114,8 @@ module _ {M : Type 1} {𝓤 : Ura M} (𝓛 : Logic 𝓤) (m ms : Member) (V Y K 
   starts : (ν : GName) (s : ℕ × S.Denot) (vs : List V.Denot) (x : R.Denot) (v : Option R.Denot) → Met s vs
       → ‵ (found s.1 way ν (read vs) (wrote vs) v) ⊛ ‵ (fauth ν (R.coded.code x))
       ⊩ given (Starts (g.holds key) ways s.0 s.1 x) (‵ ftrue)
-  starts ν s vs x None meets = let w = wrote vs in script ∵ fpick ! (λ writes. drop ! $ drop ! $ check ! (vs, meets,
-      knowing_none ways.2 s.1 w x writes (unknown way (read vs) w x meets.1 writes)) $ nothing ! $ done !)
+  starts ν s vs x None meets = let w = wrote vs in script ∵ fpick ! (λ writes. drop ! $ drop ! $
+      check ! (vs, meets, knowing_none ways.2 s.1 w x writes (unknown way (read vs) w x meets.1 writes)) $ nothing ! $ done !)
   starts ν s vs x (Some y) meets = let r = read vs in let w = wrote vs in
       script ∵ fsplit ! $ move ! (1 ∷ []) $ fpick ! (λ known. drop ! $ name_agree ! R.coded (λ same. drop ! $ drop ! $
       check ! (vs, meets, subst (λ z. Knowing ways.2 s.1 w z (Fixed way r w z)) same known) $ nothing ! $ done !))

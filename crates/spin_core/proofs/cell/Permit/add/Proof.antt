@@ -1,5 +1,5 @@
 -- `add` steps on the first word by an addition.
-use Rattle.spin_core.proofs.WalkNames.{ℕ, ◌+◌, ◌^◌, [], ◌∷◌, refl, ap, lit<, ◌%◌, dcons, dnil, inst_fn, raw, at_ret, ◌$◌, !, by, move, use1, stop, fld, addr, lit, of_opd, no_more, and_then, first, blocks, exec, Calls-last, returns, alloc_all, pass_all, free_all, look_at, get, get_in, through, sets, lands_last, is, env, agg, sub, whole, tables, named_lft, block_ptr, ptr_val, block_of, count_of, at_block, param, bounded, tail, fm, found, finds, adds}
+use Rattle.spin_core.proofs.WalkNames.{refl, ap, lit<, dcons, dnil, inst_fn, raw, at_ret, ◌$◌, !, by, use1, stop, fld, addr, lit, of_opd, no_more, and_then, first, blocks, exec, Calls-last, returns, alloc_all, pass_all, free_all, look_at, get, get_in, through, sets, lands_last, is, env, agg, sub, whole, tables, named_lft, block_ptr, ptr_val, block_of, count_of, at_block, param, bounded, tail, fm, found, finds, adds}
 use Rattle.spin_core.specs.contracts.trace.Trace as trace
 use Rattle.spin_core.proofs.TraceTokens.{as_watch}
 use Rattle.spin_core.proofs.PermitFields.{as_hand, typed}
@@ -18,12 +18,11 @@ add_spec 𝓤 𝓛 𝓜 𝓡 wired T V E S P K Mv L _ _ _ _ _ _ g d g' d' _ _ =
     walks 𝓛 (ended T V E S P K Mv g d g' d') (clauses T V E S P K Mv g d g' d' 𝓛 𝓜.mem 𝓡.returns) 𝓜 𝓡 (λ κs x f. refl, (λ κs x f. refl, (λ κs x f. refl, tt))) _ fn (code.unfolded 𝓤 H 𝓜 𝓡 wired (T, (V, (E, (S, (P, (K, (Mv, tt))))))) d d')
     (λ κs. (as_hand (named_lft 8 0 tt κs) R W Y Kr Sr g, (as_u64, (as_watch Er, tt)))) (λ κs qs bounds a gh are Post out.
     let ℓ = named_lft 8 0 tt κs in let h = a.0 in let p = h.cell in let b = block_of p in let o = count_of p in
-    let by' = a.1.0 in let f : ℕ → ℕ = λ n. (n + by') % 2 ^ 64 in
-    begins 𝓛 𝓜 𝓡 ℓ T W Y Kr Er Ur L g h _ _ _ a.1.1.0 (g'.told h.key by' 0 h.view) (λ n. n) ! (past watch_knows) 6
-    (_, (_, (_, (_, (_, (_, tt)))))) f asks_first (λ inb go. alloc_all ! (λ l. pass_all ! refl (typed p inb, ((tt,
-    record { fits = are.1.0.1 }), ((tt, (tt, tt)), tt))) $ let Ev = env fn.locals l in go.on ! tt (λ left rest closes.
+    begins 𝓛 𝓜 𝓡 ℓ T W Y Kr Er Ur L g h _ _ _ a.1.1.0 (g'.told h.key a.1.0 0 h.view) (λ n. n) ! (past watch_knows) 6 _ _
+    asks_first (λ inb go. alloc_all ! (λ l. let Ev = env fn.locals l in pass_all ! refl
+    (typed p inb, ((tt, record { fits = are.1.0.1 }), ((tt, (tt, tt)), tt))) $ go.on ! tt (λ left rest closes.
     sets ! (is ! (of_opd ! (get_in ! (fld ! refl (stop !)) (sub ! 0 refl (whole !)))) (ap ptr_val (at_block p inb))) refl (tt, tt) $ first ! $ blocks ! $ sets ! (addr ! (through ! refl (fld ! refl (stop !)))) refl (tt, tt) $
-    use1 𝓛 (raw _) (adds 𝓛 𝓜 𝓡 (code.calls-core::raw_atomic::fetch_add 𝓡.env wired) (block_ptr b (o + 0)) by' are.1.0.1 left) $
+    use1 𝓛 (raw _) (adds 𝓛 𝓜 𝓡 (code.calls-core::raw_atomic::fetch_add 𝓡.env wired) (block_ptr _ _) _ are.1.0.1 left) $
     sets ! (agg ! (and_then ! (lit ! tt) (no_more !))) refl (tt, (record { fits = lit< tt }, tt)) $
     Calls-last ! (fm 𝓛 𝓜 𝓡) (found left) (three ! refl refl refl) (λ u. finds ! left (λ n fits.
     lands_last ! refl (tt, record { fits = fits }) $ exec ! 𝓣.C 𝓣.Λ Ev (tail (tail fn.body)) (at_ret Ev Post) $ sets ! (of_opd ! (get ! refl)) refl (tt, record { fits = fits }) $

@@ -2,7 +2,6 @@
 use Rattle.spin_core.proofs.WalkNames.{◌≡◌, [], ◌∷◌, refl, sym, Some, dcons, dnil, Val, inst_fn, Fml, ‵, ◌$◌, !, by, keep, join, fjoin, pick, learn, use0, stop, fld, of_opd, no_more, returns, alloc_all, pass_all, free_all, look_at, get_in, sets, agg, sub, whole, fact, named_lft, Ptr, param, bounded, says}
 use Rattle.spin_core.proofs.WalkSteps.{last_fact, takes, two}
 use Rattle.spin_core.proofs.Walking.{walks}
-use Rattle.spin_core.specs.Cell.{writes, use_of}
 use Rattle.spin_core.specs.CellMemory.{permit_owns}
 use Rattle.spin_core.specs.contracts.cell.WritePermit as pen
 use Rattle.spin_core.proofs.PermitFields.{as_hand, as_pen, hand_of, typed, Words, made}

@@ -1,6 +1,5 @@
 -- `load_second` reads the second word.
-use Rattle.spin_core.proofs.WalkNames.{ℕ, ◌+◌, [], ◌∷◌, refl, ap, lit<, dcons, dnil, inst_fn, raw, at_ret, ◌$◌, !, by, move, use1, stop, fld, addr, lit, of_opd, no_more, and_then, first, blocks, exec, Calls-last, returns, alloc_all, pass_all, free_all, look_at, get, get_in, through, sets, lands_last, is, env, agg, sub, whole, tables, named_lft, u64, block_ptr, ptr_val, block_of, count_of, at_block, param, bounded, tail, fm, found, finds, loads}
-use Rattle.spin_core.specs.CellMemory.{second_at}
+use Rattle.spin_core.proofs.WalkNames.{refl, ap, lit<, dcons, dnil, inst_fn, raw, at_ret, ◌$◌, !, by, use1, stop, fld, addr, lit, of_opd, no_more, and_then, first, blocks, exec, Calls-last, returns, alloc_all, pass_all, free_all, look_at, get, get_in, through, sets, lands_last, is, env, agg, sub, whole, tables, named_lft, u64, block_ptr, ptr_val, block_of, count_of, at_block, param, bounded, tail, fm, found, finds, loads}
 use Rattle.spin_core.specs.contracts.trace.Trace as trace
 use Rattle.spin_core.proofs.TraceTokens.{as_watch}
 use Rattle.spin_core.proofs.PermitFields.{as_hand, typed}
@@ -19,11 +18,11 @@ load_second_spec 𝓤 𝓛 𝓜 𝓡 wired T V E P K Mv L _ _ _ _ _ g d g' d' _ 
     walks 𝓛 (ended T V E P K Mv g d g' d') (clauses T V E P K Mv g d g' d' 𝓛 𝓜.mem 𝓡.returns) 𝓜 𝓡 (λ κs x f. refl, (λ κs x f. refl, tt)) _ fn (code.unfolded 𝓤 H 𝓜 𝓡 wired (T, (V, (E, (P, (K, (Mv, tt)))))) d d')
     (λ κs. (as_hand (named_lft 7 0 tt κs) R W Y Kr Sr g, (as_watch Er, tt))) (λ κs qs bounds a gh are Post out.
     let ℓ = named_lft 7 0 tt κs in let h = a.0 in let p = h.cell in let b = block_of p in let o = count_of p in
-    begins 𝓛 𝓜 𝓡 ℓ T W Y Kr Er u64 L g h _ _ _ a.1.0 (g'.told h.key 0 0 h.view) (λ n. n) ! watch_knows 5
-    (_, (_, (_, (_, (_, tt))))) (λ n. n) asks_second (λ inb go. alloc_all ! (λ l. pass_all ! refl (typed p inb,
-    ((tt, (tt, tt)), tt)) $ let Ev = env fn.locals l in let e = (o + second_at Sr R) + 0 in go.on ! tt (λ left rest closes.
+    begins 𝓛 𝓜 𝓡 ℓ T W Y Kr Er u64 L g h _ _ _ a.1.0 (g'.told h.key 0 0 h.view) (λ n. n) ! watch_knows 5 _ _
+    asks_second (λ inb go. alloc_all ! (λ l. let Ev = env fn.locals l in pass_all ! refl
+    (typed p inb, ((tt, (tt, tt)), tt)) $ go.on ! tt (λ left rest closes.
     sets ! (is ! (of_opd ! (get_in ! (fld ! refl (stop !)) (sub ! 0 refl (whole !)))) (ap ptr_val (at_block p inb))) refl (tt, tt) $ first ! $ blocks ! $ sets ! (addr ! (through ! refl (fld ! refl (fld ! refl (stop !))))) refl (tt, tt) $
-    use1 𝓛 (raw _) (loads 𝓛 𝓜 𝓡 (code.calls-core::raw_atomic::load 𝓡.env wired) (block_ptr b e) left) $
+    use1 𝓛 (raw _) (loads 𝓛 𝓜 𝓡 (code.calls-core::raw_atomic::load 𝓡.env wired) (block_ptr _ _) left) $
     sets ! (agg ! (and_then ! (lit ! tt) (no_more !))) refl (tt, (record { fits = lit< tt }, tt)) $
     Calls-last ! (fm 𝓛 𝓜 𝓡) (found left) (two ! refl refl) (λ u. finds ! left (λ n fits.
     lands_last ! refl (tt, record { fits = fits }) $ exec ! 𝓣.C 𝓣.Λ Ev (tail (tail fn.body)) (at_ret Ev Post) $ sets ! (of_opd ! (get ! refl)) refl (tt, record { fits = fits }) $

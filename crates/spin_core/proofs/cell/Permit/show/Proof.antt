@@ -8,7 +8,7 @@ use denote.Ref.{ShrRef}
 use Rattle.spin_core.proofs.WalkSteps.{last_two, takes_at, two}
 use Rattle.spin_core.proofs.Walking.{walks}
 use Rattle.spin_core.specs.CellMemory.{offset, permit_owns}
-use Rattle.spin_core.specs.Cell.{reads, use_of, Fixes, Seen}
+use Rattle.spin_core.specs.Cell.{Seen}
 use Rattle.spin_core.specs.contracts.cell.Permit as hand
 use Rattle.spin_core.proofs.PermitFields.{as_hand, hand_of, Words, made, typed}
 use Rattle.spin_core.proofs.CellLends.{shown_to}

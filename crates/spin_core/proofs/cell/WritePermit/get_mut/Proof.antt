@@ -1,10 +1,9 @@
 -- `get_mut` lends the value, and the permit then has the value that was written. Assumes `Logic`.
-use Rattle.spin_core.proofs.WalkNames.{◌≡◌, ℕ, ◌+◌, List, [], ◌∷◌, refl, sym, ap, ◌∙◌, named, dcons, dnil, Val, vptr, inst_fn, full_share, SProp, wand, apply∗, Lft, Share, Fml, fsep, Logic, sem, split3, ‵, raw, ◌⊛◌, at_ret, ◌$◌, ◌∵◌, !, by, move, keep, split, join, fsplit, fsplit3, fjoin, use1, use2, some, await, pick, fpick, fpack, rewrite, stop, addr, of_opd, first, blocks, exec, returns, fld, hop, alloc_all, pass_all, free_all, look_at, get, through, sets, sets_last, env, sub, whole, look_in, tables, RattleType, Is, shows, named_lft, peeks, param, bounded, cell_at, part_at, Ptr, block_ptr, block_of, count_of, at_block, tail, says, lies}
+use Rattle.spin_core.proofs.WalkNames.{◌≡◌, ℕ, ◌+◌, List, [], ◌∷◌, refl, sym, ap, ◌∙◌, named, dcons, dnil, Val, vptr, inst_fn, full_share, Fml, fsep, Logic, split3, ‵, ◌⊛◌, at_ret, ◌$◌, ◌∵◌, !, by, move, keep, split, join, fsplit, fsplit3, fjoin, use1, use2, some, await, pick, fpick, fpack, rewrite, stop, addr, of_opd, first, blocks, exec, returns, fld, hop, alloc_all, pass_all, free_all, look_at, get, through, sets, sets_last, env, sub, whole, look_in, tables, RattleType, Is, shows, named_lft, peeks, param, bounded, cell_at, part_at, Ptr, block_ptr, block_of, count_of, at_block, tail, says, lies}
 use seplogic.Ra.Ura.{Ura}
-use denote.Ref.{NamedLft, MutBor}
+use denote.Ref.{NamedLft}
 use Rattle.spin_core.proofs.Walking.{walks, as_mut}
 use Rattle.spin_core.specs.declared.cell.Rule.{Ghosts}
-use base.Fml.{Incl}
 use types.Kit.{each, frame, assume}
 use types.Mut.{open_ref, close_ref}
 use denote.Memory.{part_of, mem as in_memory}
