@@ -12,7 +12,7 @@ use denote.RawPtr.{Ptr, block_ptr, null_ptr}
 use denote.Param.Send.{IsSend, IsSync, part_keyless, whole-keyless}
 use Rattle.core.proofs.atomic.Sent.{chain-Keyless}
 use Rattle.atomic_table.specs.Seated.{halved}
-use Rattle.spin_core.specs.Cell.{Use, off, reads, writes, Way, alone, lends, fixes, Ways, IsKnown, use_of, IsShared}
+use Rattle.spin_core.specs.Cell.{Use, off, reads, writes, Way, alone, lends, fixes, Ways, use_of, IsShared}
 use Rattle.spin_core.specs.CellMemory.{offset, second_at, Common, Sends, Known, Id, Round, roster, remains, named, resting, state, right, stand, core, kept, cell_shares, permit_owns, permit_shares, reader_shares, writer_owns, writer_shares}
 
 roster_keyless : {V : Type 0} (c : V → Gv) (ρ k : ℕ) (vs : List V) → Keyless (roster c ρ k vs)
@@ -49,12 +49,12 @@ module _ (R : RattleType) (s : IsSend R) (b o : ℕ) (t : Id) where
 
   module _ {V : Type 0} (c : V → Gv) (S : RattleType) (holds : ℕ → S.Denot → List V → Type 0) (ways : Ways R.Denot V S.Denot) where
     core_keyless : (IsShared ways.0 → Common R) → (z : ℕ × S.Denot) → Keyless (core R b o t c S holds ways z)
-    core_keyless sees z = λ vs. (roster_keyless c t.views 0 vs, ((λ _. tt), state_keyless ways.0 (IsKnown ways.2 z.1) sees _ _))
+    core_keyless sees z = λ vs. (roster_keyless c t.views 0 vs, ((λ _. tt), state_keyless ways.0 _ sees _ _))
 
     kept_keyless : (IsShared ways.0 → Common R) → Sends S → (κ : Lft) → Keyless (kept R b o t c S holds ways κ)
     kept_keyless sees sent κ =
-        let second = λ (z : ℕ × S.Denot). whole-keyless (raw_all S.mir) S.own_val sent full_share z.1 b (o + second_at S R) in
-        ((λ νs. chain-Keyless νs κ t.life), λ z. (tt, (second z, core_keyless sees z)))
+        let second = whole-keyless (raw_all S.mir) S.own_val sent full_share in
+        ((λ νs. chain-Keyless νs κ t.life), λ z. (tt, (second z.1 b (o + second_at S R), core_keyless sees z)))
 
 module _ (Y R : RattleType) {V : Type 0} (c : V → Gv) (S : RattleType) (holds : ℕ → S.Denot → List V → Type 0) (ways : Ways R.Denot V S.Denot) where
   pub cell_keyless : IsSend R → IsSync Y → (p : Ptr) (κ : Lft) → Keyless (cell_shares Y R c S holds ways p κ)

@@ -221,8 +221,8 @@ module _ {M : Type 1} {𝓤 : Ura M} (𝓛 : Logic 𝓤) (𝓜 : Model 𝓤 𝓛
     opens at f os le can = record {
       on = λ t z go. fpick t (λ known. fpick t (λ i. let α : Lft = i.life in
           -- context: [what the permit owns; what the watch knows; the tokens]
-          fsplit t $ fsplit t $ use1 𝓛 (‵ (before β α) ⊛ ‵ (before β α)) (before_dup 𝓛 β α) $ split t $ move t (2 ∷ []) $
-          use1 𝓛 (‵ (finv (Inv i)) ⊛ ‵ (finv (Inv i))) (𝓛.invs.inv_dup (Inv i)) $ split t $
+          fsplit t $ fsplit t $ use1 𝓛 (‵ (before β α) ⊛ ‵ (before β α)) (before_dup 𝓛 β α) $ split t $
+          move t (2 ∷ []) $ use1 𝓛 (‵ (finv (Inv i)) ⊛ ‵ (finv (Inv i))) (𝓛.invs.inv_dup (Inv i)) $ split t $
           move t (2 ∷ 0 ∷ []) $ fjoin t $ move t (5 ∷ []) $ fsplit t $ move t (4 ∷ 0 ∷ []) $
           use2 𝓛 (later (some (λ (s : Share). ‵ (flft α s) ⊛ raw (A.lft α s -∗ H.⇛ (A.lft β q)))))
           (Lends-one 𝓛 𝓜 𝓡 β α q) $ await t z $ pick t (λ s. split t $ move t (2 ∷ []) $ fsplit t $
@@ -257,7 +257,7 @@ module _ {M : Type 1} {𝓤 : Ura M} {𝓛 : Logic 𝓤} {𝓜 : Model 𝓤 𝓛
       → Asks 𝓛 𝓜 𝓡 ℓ T W Y Kr Er Ur L g h q τ r seen told answer (block_ptr (block_of h.cell) (count_of h.cell + 0)) f
   asks_first {Ur = Ur} {g} {h} asked = record {
     step = λ k. steps.first_steps 𝓛 Er Ur (param 0 T) (param_laws 0 T L).shr_laws _ _ k.1.0 W.coded (g.holds h.key)
-        (g.ways h.key) h.view h.value (λ log es n. told log es (answer n)) k.1.1 f seen.name seen.entries asked.0 asked.1;
+        (g.ways h.key) h.view h.value (λ log es n. told log es (answer n)) k.1.1 f _ _ asked.0 asked.1;
   }
 
   pub asks_second : {g : Ghosts Y.Denot T.Denot W.Denot Kr.Denot (trace.the_row Er u64).Denot}
@@ -268,5 +268,5 @@ module _ {M : Type 1} {𝓤 : Ura M} {𝓛 : Logic 𝓤} {𝓜 : Model 𝓤 𝓛
       (block_ptr (block_of h.cell) ((count_of h.cell + second_at (trace.the_row Er u64) (param 0 T)) + 0)) f
   asks_second {g = g} {h} asked = record {
     step = λ k. steps.second_steps 𝓛 Er (param 0 T) (param_laws 0 T L).shr_laws _ _ k.1.0 W.coded (g.holds h.key)
-        (g.ways h.key) h.view h.value (λ log es n. told log es (answer n)) k.1.1 f seen.name seen.entries asked.0 asked.1;
+        (g.ways h.key) h.view h.value (λ log es n. told log es (answer n)) k.1.1 f _ _ asked.0 asked.1;
   }

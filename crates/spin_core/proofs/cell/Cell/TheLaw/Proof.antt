@@ -115,7 +115,8 @@ module _ {M : Type 1} {𝓤 : Ura M} (𝓛 : Logic 𝓤) (m ms : Member) (V Y K 
       → ‵ (found s.1 way ν (read vs) (wrote vs) v) ⊛ ‵ (fauth ν (R.coded.code x))
       ⊩ given (Starts (g.holds key) ways s.0 s.1 x) (‵ ftrue)
   starts ν s vs x None meets = let w = wrote vs in script ∵ fpick ! (λ writes. drop ! $ drop ! $
-      check ! (vs, meets, knowing_none ways.2 s.1 w x writes (unknown way (read vs) w x meets.1 writes)) $ nothing ! $ done !)
+      let known = knowing_none ways.2 s.1 w x writes (unknown way (read vs) w x meets.1 writes) in
+      check ! (vs, meets, known) $ nothing ! $ done !)
   starts ν s vs x (Some y) meets = let r = read vs in let w = wrote vs in
       script ∵ fsplit ! $ move ! (1 ∷ []) $ fpick ! (λ known. drop ! $ name_agree ! R.coded (λ same. drop ! $ drop ! $
       check ! (vs, meets, subst (λ z. Knowing ways.2 s.1 w z (Fixed way r w z)) same known) $ nothing ! $ done !))

@@ -1,6 +1,6 @@
 -- `into_inner` moves the value out of the cell, whatever the words are.
 use Rattle.spin_core.proofs.PermitFields.{both}
-use Rattle.spin_core.proofs.WalkNames.{◌≡◌, ◌&&◌, true, List, [], ◌∷◌, ◌++◌, sym, refl, ap, ◌∙◌, subst, w64, dcons, dnil, Val, vunit, vint, vstruct, vcons, vnil, of_list, has_ty, inst_fn, SProp, ent, id⊢, fsep, feq, ftrue, flft, tables, WpFn, ◌⊑◌, fact, param_laws, fm, ‵, raw, ◌⊛◌, ◌$◌, ◌∵◌, !, qed, by, move, keep, drop, split, split3, fsplit, fsplit3, fjoin, fpick, join, pick, await, later, some, use1, rewrite, feq_l, flt_l, suffices, stop, fld, of_opd, no_more, and_then, returns, enter, alloc_all, pass_all, free_all, look_at, get, get_in, sets, sub, whole, yes, nothing, only, peeks, Is, shows, param, layout, bounded, walk_of, El, lawful, Good, one, proved_at, leaves}
+use Rattle.spin_core.proofs.WalkNames.{◌≡◌, List, [], ◌∷◌, ◌++◌, sym, refl, ap, ◌∙◌, subst, w64, dcons, dnil, Val, vunit, vint, vstruct, vcons, vnil, of_list, inst_fn, SProp, ent, id⊢, fsep, feq, ftrue, flft, tables, WpFn, ◌⊑◌, fact, param_laws, fm, ‵, raw, ◌⊛◌, ◌$◌, ◌∵◌, !, qed, by, move, keep, drop, split, split3, fsplit, fsplit3, fjoin, fpick, join, pick, await, later, some, use1, rewrite, feq_l, flt_l, suffices, stop, fld, of_opd, no_more, and_then, returns, enter, alloc_all, pass_all, free_all, look_at, get, get_in, sets, sub, whole, yes, nothing, only, peeks, Is, shows, param, layout, bounded, walk_of, El, lawful, Good, one, proved_at, leaves}
 use denote.Param.Laws.{arg_laws}
 use Rattle.spin_core.specs.contracts.cell.let_go as callee
 use Rattle.spin_core.proofs.cell.let_go.Met.{met}
@@ -40,8 +40,8 @@ into_inner_spec 𝓤 𝓛 𝓜 𝓡 wired X U P K S L _ _ _ LS g d _ =
     let whole_is : z.0.4.0 ≡ v ∷ [] = ev ∙ (λ i. vstruct (of_list (em i ++ (en i ++ (got.1 i ++ (got_second.1 i ++ []))))) ∷ []) in
     rewrite ! 0 (λ (ws : List Val). ‵ (Sr.own_val s.1 ws)) got_second.1 refl $ rewrite ! 2 (λ (ws : List Val). ‵ (R.own_val s.2 ws)) got.1 refl $ keep ! (0 ∷ 2 ∷ 4 ∷ 5 ∷ []) $
     suffices ! (Run (v ∷ [])) (subst (λ (ws : List Val). ent 𝓤 (Run (v ∷ [])) (Run ws)) (sym (λ i. whole_is i ++ [])) (id⊢ 𝓤 (Run (v ∷ [])))) $
-    let all = both (has_ty (layout X) vy) (has_ty (layout S) vz && true) fy.0 (both (has_ty (layout S) vz) true fz.0 tt) in
-    enter ! _ _ _ _ _ $ alloc_all ! (λ l. pass_all ! refl ((all, (tt, (record { fits = fits }, (fy.1, (fz.1, tt))))), tt) $
+    enter ! _ _ _ _ _ $ alloc_all ! (λ l. pass_all ! refl
+    ((both _ _ fy.0 (both _ _ fz.0 tt), (tt, (record { fits = fits }, (fy.1, (fz.1, tt))))), tt) $
     sets ! (of_opd ! (get_in ! (fld ! refl (stop !)) (sub ! 2 refl (whole !)))) refl fy $ sets ! (of_opd ! (get_in ! (fld ! refl (stop !)) (sub ! 3 refl (whole !)))) refl fz $ sets ! (of_opd ! (get ! refl)) refl fz $
     -- `let_go` forgets the `Second`; this call takes the token of the lifetime of the `Second`
     let yc : Lets.Ghost = (((σ, tt), (q, tt), tt, (s.1, tt), (vz ∷ [], tt)), tt) in

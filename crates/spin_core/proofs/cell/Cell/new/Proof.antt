@@ -31,9 +31,8 @@ new_spec 𝓤 𝓛 𝓜 𝓡 wired X U P K S L _ _ _ LS g d _ =
     let got_second = one N z.0.4.1.1.0 (((param_laws 4 S LS).lawful 𝓛).typed k z.0.4.1.1.0 are.1.1.0) in let vz = got_second.0 in let fz = got_second.2 in
     let v = vstruct (vcons (vstruct vnil) (vcons (vint w64 n) (vcons vy (vcons vz vnil)))) in
     let Post = (walk_of 𝓛 En hs c).post z in let Run : List Val → SProp 𝓤 = λ ws. WpFn 𝓤 H 𝓣.C 𝓣.Λ fn ws Post in
-    let all = both (has_ty (layout X) vy) (has_ty (layout S) vz && true) fy.0 (both (has_ty (layout S) vz) true fz.0 tt) in
     let typed : T (has_ty (layout X) vy && (has_ty (layout S) vz && true)) × WT v =
-    (all, (tt, (record { fits = fits }, (fy.1, (fz.1, tt))))) in
+    (both _ _ fy.0 (both _ _ fz.0 tt), (tt, (record { fits = fits }, (fy.1, (fz.1, tt))))) in
     let Rule : ℕ × S.Denot × X.Denot → Type 0 = λ s. Starts (g.holds key) ways s.0 s.1 s.2 in let Opened = Opens (g.holds key) ways n k x in
     let Knows : Type 0 = Known ways Y Sr R in
     let owned : (ℕ × S.Denot × X.Denot) → Fml = λ s. fsep (F.own_val (record { marker = record {}; first = s.0; value = s.2; second = s.1 }) (v ∷ [])) (said (Rule s)) in
