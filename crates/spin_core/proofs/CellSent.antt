@@ -52,8 +52,7 @@ module _ (R : RattleType) (s : IsSend R) (b o : ℕ) (t : Id) where
     core_keyless sees z = λ vs. (roster_keyless c t.views 0 vs, ((λ _. tt), state_keyless ways.0 _ sees _ _))
 
     kept_keyless : (IsShared ways.0 → Common R) → Sends S → (κ : Lft) → Keyless (kept R b o t c S holds ways κ)
-    kept_keyless sees sent κ =
-        let second = whole-keyless (raw_all S.mir) S.own_val sent full_share in
+    kept_keyless sees sent κ = let second = whole-keyless (raw_all S.mir) S.own_val sent full_share in
         ((λ νs. chain-Keyless νs κ t.life), λ z. (tt, (second z.1 b (o + second_at S R), core_keyless sees z)))
 
 module _ (Y R : RattleType) {V : Type 0} (c : V → Gv) (S : RattleType) (holds : ℕ → S.Denot → List V → Type 0) (ways : Ways R.Denot V S.Denot) where

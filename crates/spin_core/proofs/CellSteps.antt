@@ -168,8 +168,7 @@ module _ {M : Type 1} {𝓤 : Ura M} (𝓛 : Logic 𝓤) (Er Ur : RattleType) wh
       -- the rule holds again, and the party has its new view and its part of the value
       leads : (then : ℕ → V → Type 0) (k : ℕ) → then k w
           → ‵ (roster cv.code ρ 0 us) ⊛ ‵ (Stand (Some w)) ⊛ ‵ (states s.1 us) ⊛ ‵ (Got s.1 w) ⊩ ‵ (Core s) ⊛ ‵ (moved (finding s.1.entries then k))
-      leads then k so = let tells : V → Option R.Denot → Type 0 = finding s.1.entries then k in
-          script ∵
+      leads then k so = let tells : V → Option R.Denot → Type 0 = finding s.1.entries then k in script ∵
           move ! (3 ∷ []) $ fpick ! (λ v'. fsplit ! $ fpick ! (λ kept. drop ! $ move ! (2 ∷ 0 ∷ []) $ fjoin ! $ knows ! (tells w v' × Keeps ways view (Some w) v v') ((so, learnt_of ways.2 s.1 u (f w) v v' kept.1), kept.0) $ fjoin ! $
           fpack ! (V × Option R.Denot) (left_to tells) (w, v') $ move ! (2 ∷ []) $ knows ! (Meets holds ways s.0 s.1 us) (carrying_rest ways.2 m s.1 u (f w) v carrying) $ fjoin ! $ move ! (2 ∷ 0 ∷ []) $ fjoin ! $
           fpack ! (List V) (core_at R b o t cv.code S holds ways s.0 s.1) us $ done !))
@@ -250,8 +249,7 @@ module _ {M : Type 1} {𝓤 : Ura M} (𝓛 : Logic 𝓤) (Er R : RattleType) (L 
 
   pub second_steps : (q : Share) (to : ℕ → ℕ) (γ : ℕ) (k : List Er.Denot) → (k ≡ []) ⊎ Named holds ways γ → TracesSecond holds ways view v to told
       → ‵ (finv (fbor t.life J)) ⊛ ‵ (flft t.life q) ⊛ ‵ (Hand γ k) ⊩ raw (asks 𝓛 (block_ptr b (place + 0)) to always (λ n. fsep (flft t.life q) (left γ k n)))
-  second_steps q to γ k may allows =
-      let e : ℕ = place + 0 in let Own : Fml = Hand γ k in
+  second_steps q to γ k may allows = let e : ℕ = place + 0 in let Own : Fml = Hand γ k in
       lemma (borrowed 𝓛 t.life q J b e to always (left γ k) ⟦ Own ⟧ (qed 𝓛 (‵ J ∷ ‵ Own ∷ []) ∵
       suffices ! _ (upd_i 𝓤 (ex 𝓤 (Lies 𝓛 t.life q J b e to always (left γ k)))) $
       fpick ! (λ s. let n : ℕ = s.0 in let m : Trace Er.Denot ℕ = s.1 in let y : ℕ = m.word in let First : Fml = word b (o + 0) n in

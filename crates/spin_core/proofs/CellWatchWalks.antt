@@ -151,8 +151,7 @@ module _ {M : Type 1} {𝓤 : Ura M} (𝓛 : Logic 𝓤) (𝓜 : Model 𝓤 𝓛
       -- after the step the walk goes on with the permit at its new view, the watch, and all tokens
       closes : K → Soaks G → (k : Entry) (n : ℕ) (os : Fml) → ((s : W.Denot × Option R.Denot) (l : ℕ × List Er.Denot)
           → Seq K 𝓛 (‵ (owns (Hr ∷ Wr ∷ []) (next h b o s, (knowing l, tt)) (hand_of here ∷ [], (token ∷ [], tt)))
-          ∷ Tokens os ∷ Says l n s ∷ Γ) G)
-          → Seq K 𝓛 (‵ (left k n) ∷ raw (back k) ∷ ‵ os ∷ Γ) G
+          ∷ Tokens os ∷ Says l n s ∷ Γ) G) → Seq K 𝓛 (‵ (left k n) ∷ raw (back k) ∷ ‵ os ∷ Γ) G
       closes t z k n os go = fsplit t $ move t (1 ∷ []) $ fpick t (λ s. let l : ℕ × List Er.Denot = (s.0, s.1.0 ++ s.1.1) in
           fsplit t $ fpick t (λ p. drop t $ fsplit t $ move t (1 ∷ []) $
           -- context: [what the step leaves; what the watch knows; the lifetime's token; the way back; the other tokens]
@@ -263,8 +262,7 @@ module _ {M : Type 1} {𝓤 : Ura M} {𝓛 : Logic 𝓤} {𝓜 : Model 𝓤 𝓛
   pub asks_second : {g : Ghosts Y.Denot T.Denot W.Denot Kr.Denot (trace.the_row Er u64).Denot}
       {h : (permit.the_row ℓ (param 0 T) W Y Kr (trace.the_row Er u64) g).Denot}
       → MayKnow (g.holds h.key) (g.ways h.key) seen × TracesSecond (g.holds h.key) (g.ways h.key) h.view h.value f
-      (λ log es n. told log es (answer n))
-      → Asks 𝓛 𝓜 𝓡 ℓ T W Y Kr Er u64 L g h q τ r seen told answer
+      (λ log es n. told log es (answer n)) → Asks 𝓛 𝓜 𝓡 ℓ T W Y Kr Er u64 L g h q τ r seen told answer
       (block_ptr (block_of h.cell) ((count_of h.cell + second_at (trace.the_row Er u64) (param 0 T)) + 0)) f
   asks_second {g = g} {h} asked = record {
     step = λ k. steps.second_steps 𝓛 Er (param 0 T) (param_laws 0 T L).shr_laws _ _ k.1.0 W.coded (g.holds h.key)
