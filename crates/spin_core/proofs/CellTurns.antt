@@ -1,6 +1,6 @@
 -- A party changes its use of a cell's value: it gives back what it had of the value, and takes what it may use. Assumes
 -- `Logic`.
-use Rattle.std.proofs.Common.{◌≡◌, ◌≢◌, ℕ, suc, ◌+◌, ◌-◌, ◌^◌, ◌<◌, Bool, zero, [], ◌∷◌, refl, subst, arith, Option, Some, None}
+use Rattle.std.proofs.Common.{◌≡◌, ◌≢◌, ℕ, suc, ◌+◌, ◌-◌, ◌^◌, ◌<◌, zero, [], ◌∷◌, refl, subst, arith, Option, Some, None}
 use seplogic.Ra.Ura.{Ura}
 use base.Fraction.{full_share}
 use base.FractionLaws.{Counts}
@@ -92,10 +92,6 @@ module _ {M : Type 1} {𝓤 : Ura M} (𝓛 : Logic 𝓤) (R : RattleType) (L : R
   abbrev Rest : Way X → ℕ → X → Fml
   Rest = resting R b o t
 
-  -- a round of which r readers have their parts: the other parts, and what is shared
-  abbrev lent : ℕ → Round R → Fml
-  lent r s = fsep (parts R γ s (2 ^ 63 - r)) (shared R b o t s)
-
   -- a party that uses the value is shown a value: it never has `ffalse`
   never : (P : Fml) (k : Item 𝓤) → ‵ P ⊛ ‵ ffalse ⊫ k
   never P k = update (via 𝓤 _ (snd∗ 𝓤 ⟦ P ⟧ ⟦ ffalse ⟧) (never_e 𝓤 _))
@@ -124,28 +120,6 @@ module _ {M : Type 1} {𝓤 : Ura M} (𝓛 : Logic 𝓤) (R : RattleType) (L : R
     gave_whole way u' x to =
         renewed 𝓛 R b o t x (Given way writes u' (Some x)) (script ∵ cite _ to $ cite _ (gave way writes u' (Some x) x refl tt) $ done !)
 
-    -- a reader gives back one part; the part is of the round in the state
-    gave_part : (u' : Use) (x : X) → r < 2 ^ 63 → ‵ (St lends φ (suc r) 0) ⊛ ‵ (reader R b o t lends x) ⊩ ‵ (Given lends reads u' (Some x))
-    gave_part u' x small = script ∵ fpick ! (λ y. fpick ! (λ known. fpick ! (λ a.
-        fsplit ! $ move ! (2 ∷ []) $ fpick ! (λ c. let s : Round R = (a, y) in let u : Round R = (c, x) in fsplit ! $ move ! (2 ∷ 0 ∷ []) $
-        cite _ (some_agree 𝓛 R γ (λ e. Counts 63 e (2 ^ 63 - suc r)) (λ e. Counts 63 e 1) s u) $
-        learn ! (λ same. split ! $ rewrite ! 0 (λ (z : Round R). ‵ (parts R γ z (2 ^ 63 - suc r))) same refl $
-        cite _ (parts_glue 𝓛 R γ u (2 ^ 63 - suc r) 1 (omega arith) (omega arith)) $
-        let more : (2 ^ 63 - suc r) + 1 ≡ 2 ^ 63 - r = omega arith in rewrite ! 0 (λ (k : ℕ). ‵ (parts R γ u k)) more refl $ move ! (2 ∷ []) $
-        rewrite ! 0 (λ (z : Round R). ‵ (shared R b o t z)) same refl $ move ! (1 ∷ 0 ∷ []) $ fjoin ! $ fpack ! ℕ (λ e. lent r (e, x)) c $
-        keep ! (0 ∷ []) $ by ! (gave lends reads u' (Some x) x refl (subst (λ (z : Round R). φ z.1) same known)).prf)))))
-
-    -- in the way `fixes` a reader drops its part
-    gave_piece : (facts : Bool → X → Type 0) (x : X)
-        → ‵ (St (fixes facts) φ (suc r) 0) ⊛ ‵ (reader R b o t (fixes facts) x) ⊩ ‵ (Given (fixes facts) reads reads (Some x))
-    gave_piece facts x = let way : Way X = fixes facts in
-        let Seen : Round R → Fml = λ z. fsep (remains R facts γ z (suc r)) (shared R b o t z) in
-        script ∵ fpick ! (λ y. fpick ! (λ known. fpick ! (λ a. fsplit ! $ move ! (2 ∷ []) $ fpick ! (λ c.
-        let s : Round R = (a, y) in let u : Round R = (c, x) in fsplit ! $ move ! (2 ∷ 0 ∷ []) $
-        cite _ (some_agree 𝓛 R γ (Part way y) (Part way x) s u) $ learn ! (λ same. split ! $ move ! (0 ∷ 3 ∷ []) $
-        fjoin ! $ rewrite ! 0 (λ (z : Round R). ‵ (Seen z)) same refl $ fpack ! ℕ (λ e. Seen (e, x)) c $
-        keep ! (0 ∷ []) $ by ! (gave way reads reads (Some x) x refl (subst (λ (z : Round R). φ z.1) same known)).prf)))))
-
   has_room : (way : Way X) (u' : Use) (v : Option X) (r : ℕ) (x : X) (A : Type 0) → Going way off u' v r A → ‵ (Rest way r x) ⊩ ‵ (Rest way (room way u' r) x)
   has_room (fixes facts) reads v zero x A going = absurd (omega (arith, going.1))
   has_room (fixes facts) reads v (suc r) x A going = lemma (id⊢ 𝓤 _)
@@ -160,11 +134,27 @@ module _ {M : Type 1} {𝓤 : Ura M} (𝓛 : Logic 𝓤) (R : RattleType) (L : R
   gives φ way r u u' None A turned lim going = nobody u way (St way φ (with_reader u r) (with_writer u 0)) _ (λ e. absurd cc)
   gives φ alone r reads u' (Some x) A turned lim going = absurd (omega arith)
   gives φ alone r writes u' (Some x) A turned lim going = updates ∵ settled ! _ $ drop ! $ by ! (gave φ r alone writes u' (Some x) x refl tt).prf
-  gives φ lends r reads u' (Some x) A turned lim going =
-      updates ∵ settled ! _ $ by ! (gave_part φ r u' x (omega arith)).prf
+  -- a reader gives back one part; the part is of the round in the state
+  gives φ lends r reads u' (Some x) A turned lim going = let small : r < 2 ^ 63 = omega arith in
+      let more : (2 ^ 63 - suc r) + 1 ≡ 2 ^ 63 - r = omega arith in updates ∵ settled ! _ $
+      fpick ! (λ y. fpick ! (λ known. fpick ! (λ a. fsplit ! $ move ! (2 ∷ []) $ fpick ! (λ c.
+      let s : Round R = (a, y) in let u : Round R = (c, x) in fsplit ! $ move ! (2 ∷ 0 ∷ []) $
+      cite _ (some_agree 𝓛 R γ (λ e. Counts 63 e (2 ^ 63 - suc r)) (λ e. Counts 63 e 1) s u) $
+      learn ! (λ same. split ! $ rewrite ! 0 (λ (z : Round R). ‵ (parts R γ z (2 ^ 63 - suc r))) same refl $
+      cite _ (parts_glue 𝓛 R γ u (2 ^ 63 - suc r) 1 (omega arith) (omega arith)) $
+      rewrite ! 0 (λ (k : ℕ). ‵ (parts R γ u k)) more refl $ move ! (2 ∷ []) $
+      rewrite ! 0 (λ (z : Round R). ‵ (shared R b o t z)) same refl $ move ! (1 ∷ 0 ∷ []) $ fjoin ! $
+      fpack ! ℕ (λ e. fsep (parts R γ (e, x) (2 ^ 63 - r)) (shared R b o t (e, x))) c $ keep ! (0 ∷ []) $
+      by ! (gave φ r lends reads u' (Some x) x refl (subst (λ (z : Round R). φ z.1) same known)).prf)))))
   gives φ lends r writes u' (Some x) A turned lim going = gave_whole φ r lends u' x (rests_lent 𝓛 R b o t r x (omega arith))
-  gives φ (fixes facts) r reads reads (Some x) A turned lim going =
-      updates ∵ settled ! _ $ by ! (gave_piece φ r facts x).prf
+  -- in the way `fixes` a reader drops its part
+  gives φ (fixes facts) r reads reads (Some x) A turned lim going = let way : Way X = fixes facts in
+      let Seen : Round R → Fml = λ z. fsep (remains R facts γ z (suc r)) (shared R b o t z) in updates ∵ settled ! _ $
+      fpick ! (λ y. fpick ! (λ known. fpick ! (λ a. fsplit ! $ move ! (2 ∷ []) $ fpick ! (λ c.
+      let s : Round R = (a, y) in let u : Round R = (c, x) in fsplit ! $ move ! (2 ∷ 0 ∷ []) $
+      cite _ (some_agree 𝓛 R γ (Part way y) (Part way x) s u) $ learn ! (λ same. split ! $ move ! (0 ∷ 3 ∷ []) $
+      fjoin ! $ rewrite ! 0 (λ (z : Round R). ‵ (Seen z)) same refl $ fpack ! ℕ (λ e. Seen (e, x)) c $ keep ! (0 ∷ []) $
+      by ! (gave φ r way reads reads (Some x) x refl (subst (λ (z : Round R). φ z.1) same known)).prf)))))
   gives φ (fixes facts) r reads u' (Some x) A turned lim going = absurd (let e : u' ≡ reads = going.0 refl in cc)
   gives φ (fixes facts) r writes off (Some x) A turned lim going = let none : r ≡ 0 = lim.1 (omega arith) in
       gave_whole φ r (fixes facts) off x (rests_fixed 𝓛 R b o t facts r x (rw none going.1))

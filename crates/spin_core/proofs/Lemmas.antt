@@ -2,9 +2,9 @@
 -- gives: both are read from the lemma.
 use Rattle.std.proofs.Common.{List, [], ◌∷◌, ◌++◌}
 use seplogic.Ra.Ura.{Ura}
-use base.Logic.{SProp, ent, sep, via, id⊢, mono_r, ex_i, guard_i, upd, upd_i}
+use base.Logic.{SProp, ent, sep, via, id⊢, mono_r, ex_i, upd, upd_i}
 use types.Logic.{Logic}
-use types.Kit.{Item, ◌⊛◌, some, given, raw, mean, ⋆, push, pop, Goal, prop, Seq, Step, step, Go, cut, settle, suffices}
+use types.Kit.{Item, ◌⊛◌, some, raw, mean, ⋆, push, pop, Goal, prop, Seq, Step, step, Go, cut, settle, suffices}
 
 -- the parts of an item, as the entries of a context
 abbrev pub flat : {M : Type 1} {𝓤 : Ura M} → Item 𝓤 → List (Item 𝓤)
@@ -44,14 +44,6 @@ module _ {M : Type 1} {𝓤 : Ura M} {𝓛 : Logic 𝓤} where
   -- the goal `some F` becomes F x, for this x
   pub having : {K : Type 0} → K → {Γ : List (Item 𝓤)} {X : Type 0} (F : X → Item 𝓤) (x : X) → Step K 𝓛 Γ (prop (mean 𝓛 (F x))) Γ (prop (mean 𝓛 (some F)))
   having t F x = step (λ s. record { prf = via 𝓤 (mean 𝓛 (F x)) s.prf (ex_i 𝓤 (λ y. mean 𝓛 (F y)) x) })
-
-  -- the item F x at the head of the context becomes `some F`
-  pub pack : {K : Type 0} → K → {Γ : List (Item 𝓤)} {G : Goal 𝓤 𝓛.H} {X : Type 0} (F : X → Item 𝓤) (x : X) → Step K 𝓛 (some F ∷ Γ) G (F x ∷ Γ) G
-  pack t {Γ = Γ} F x = cut (F x ∷ []) (some F ∷ []) Γ (ex_i 𝓤 (λ y. mean 𝓛 (F y)) x)
-
-  -- the item i at the head of the context becomes `given φ i`: it now has the fact φ with it
-  pub holding : {K : Type 0} → K → {Γ : List (Item 𝓤)} {G : Goal 𝓤 𝓛.H} {φ : Type 0} {i : Item 𝓤} → φ → Step K 𝓛 (given φ i ∷ Γ) G (i ∷ Γ) G
-  holding t {Γ = Γ} {φ = φ} {i = i} x = cut (i ∷ []) (given φ i ∷ []) Γ (guard_i 𝓤 φ (mean 𝓛 i) x)
 
   -- while the goal is an update to `to`, a script cites a lemma that updates
   pub renew : {K : Type 0} {i k : Item 𝓤} (to : Item 𝓤) (Γ : List (Item 𝓤)) → Update 𝓛 i k
