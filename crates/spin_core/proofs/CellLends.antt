@@ -33,7 +33,7 @@ use Rattle.spin_core.proofs.CellParts.{piece_in, piece_cut}
 use Rattle.spin_core.proofs.CellThrough.{Back, Cut, again, cuts}
 use Rattle.spin_core.proofs.CellWalks.{permit_in, has_value}
 use Rattle.spin_core.proofs.Signs.{signs}
-use Rattle.spin_core.proofs.Lemmas.{script, cite, settled, having}
+use Rattle.spin_core.proofs.Lemmas.{script, cite, twice, settled, having}
 
 -- ---- what is shared may be copied, and may be shared for less time
 module _ (Y R : RattleType) {V : Type 0} (c : V → Gv) (S : RattleType) (holds : ℕ → S.Denot → List V → Type 0) (ways : Ways R.Denot V S.Denot)
@@ -152,8 +152,8 @@ module _ {M : Type 1} {𝓤 : Ura M} (𝓛 : Logic 𝓤) where
             let a : Lft = u ∷ [] in let K = L x b (o + offset R) in
             -- context: [the token of u; the tag; what is shown; `before β t.life`; the invariant; the view; the open
             -- borrow]
-            move ! (2 ∷ []) $ use1 𝓛 (‵ (V' (u ∷ t.life)) ⊛ ‵ (V' (u ∷ t.life))) (contraction 𝓛 V' K (a ++ t.life)) $ split ! $ move ! (4 ∷ []) $
-            use1 𝓛 (‵ (before β t.life) ⊛ ‵ (before β t.life)) (before_dup 𝓛 β t.life) $ split ! $ move ! (0 ∷ 6 ∷ 7 ∷ 5 ∷ 2 ∷ []) $
+            move ! (2 ∷ []) $ twice ! (contraction 𝓛 V' K (a ++ t.life)) $ move ! (4 ∷ []) $
+            twice ! (before_dup 𝓛 β t.life) $ move ! (0 ∷ 6 ∷ 7 ∷ 5 ∷ 2 ∷ []) $
             cite _ (reads_again k t u e n) $ nothing ! $ move ! (4 ∷ 0 ∷ []) $ fjoin ! $ move ! (4 ∷ 0 ∷ 1 ∷ []) $ obor_alter ! tt (flft a e ∷ []) $
             use1 𝓛 (‵ (fbor ν (flft a e)) ⊛ ‵ ftrue) (id⊢ 𝓤 _) $ split ! $ bor_fracture ! tt (λ r. flft a r) e $ move ! (4 ∷ 3 ∷ 0 ∷ []) $
             cite _ (shows_for L b o t x ν inc u) $ fpack ! Knows (λ _. V' ν) k $ now ! $ keep ! (0 ∷ 2 ∷ []) $ done !)))))
@@ -213,7 +213,7 @@ module _ {M : Type 1} {𝓤 : Ura M} (𝓛 : Logic 𝓤) where
     shown_to L b o view (Some x) is fixed = script ∵ updating ! $ fpick ! (λ k. fpick ! (λ t.
         let Right : Use → Item 𝓤 = λ u. ‵ (right R b o t ways.0 u (Some x)) in fsplit3 ! $ fsplit ! $ move ! (3 ∷ []) $
         rewrite ! 0 Right is refl $ cite _ (reader_cut L b o t ways.0 fixed x) $ move ! (2 ∷ []) $
-        use1 𝓛 (‵ (before β t.life) ⊛ ‵ (before β t.life)) (before_dup 𝓛 β t.life) $ split ! $ move ! (0 ∷ 2 ∷ []) $
+        twice ! (before_dup 𝓛 β t.life) $ move ! (0 ∷ 2 ∷ []) $
         cite _ (shown_by L b o t x) $ await ! tt $ learn ! (λ known.
         -- context: [what is shown; `before β t.life`; the reader; the invariant; the view]
         move ! (2 ∷ []) $ rewrite ! 0 Right (sym is) refl $ move ! (2 ∷ 3 ∷ []) $ fjoin ! $ move ! (0 ∷ 3 ∷ 1 ∷ []) $

@@ -25,7 +25,7 @@ use Rattle.spin_core.specs.Cell.{Use, Ways, writes}
 use Rattle.spin_core.specs.CellMemory.{Id, offset, named, tracked, right, permit_owns, writer_owns}
 use Rattle.spin_core.proofs.CellWalks.{permit_in}
 use Rattle.spin_core.proofs.Signs.{signs}
-use Rattle.spin_core.proofs.Lemmas.{script, cite, having}
+use Rattle.spin_core.proofs.Lemmas.{script, cite, twice, having}
 
 module _ {M : Type 1} {𝓤 : Ura M} (𝓛 : Logic 𝓤) where
   open 𝓛 use {H, A}
@@ -65,8 +65,8 @@ module _ {M : Type 1} {𝓤 : Ura M} (𝓛 : Logic 𝓤) where
 
     pub cuts : (x : R.Denot) → ‵ (Pen x) ⊩ some (Cut R β b o Pen x)
     cuts x = script ∵ fpick ! (λ so. fpick ! (λ known. fpick ! (λ t. fsplit3 ! $ fsplit ! $
-        use1 𝓛 (‵ (before β t.life) ⊛ ‵ (before β t.life)) (before_dup 𝓛 β t.life) $ split ! $ move ! (4 ∷ []) $
-        rewrite ! 0 (Owned t x) so refl $ fsplit ! $ move ! (2 ∷ []) $ having ! (Cut R β b o Pen x) t $
+        twice ! (before_dup 𝓛 β t.life) $ move ! (4 ∷ []) $ rewrite ! 0 (Owned t x) so refl $ fsplit ! $
+        move ! (2 ∷ []) $ having ! (Cut R β b o Pen x) t $
         -- context: [`before β t.life`; the value's borrow, in two parts; `before β t.life`; the invariant; the view]
         frame ! $ frame ! $ frame ! $ each ! (Back R β b o Pen t) (λ z. assume ! (‵ (tracked R b o t z)) $
         rewrite ! 0 (Owned t z) (sym so) refl $ move ! (1 ∷ 2 ∷ []) $ fjoin ! $ move ! (0 ∷ 2 ∷ 1 ∷ []) $

@@ -8,7 +8,7 @@ use base.Stored.{Gv}
 use base.Logic.{via, id⊢, never_e, snd∗}
 use base.Fml.{Lft, Fml, ftrue, ffalse, fsep, fex}
 use types.Logic.{Logic}
-use types.Kit.{‵, ◌⊛◌, given, ◌$◌, ◌∵◌, !, by, move, keep, drop, split, fsplit, fsplit3, fjoin, fjoin3, fpick, fpack, learn, check, rewrite, use1, done, Item}
+use types.Kit.{‵, ◌⊛◌, given, ◌$◌, ◌∵◌, !, by, move, keep, drop, split, fsplit, fsplit3, fjoin, fjoin3, fpick, fpack, learn, check, rewrite, done, Item}
 use denote.RattleType.{RattleType, RowLaws}
 use denote.SharingLaws.{contraction}
 use denote.Steps.{nothing}
@@ -20,7 +20,7 @@ use Rattle.spin_core.proofs.CellParts.{parts_cut, parts_glue, parts_whole, some_
 use Rattle.spin_core.proofs.CellRounds.{begun, held, whole, renewed, lies, rests_lent, rests_fixed}
 use Rattle.spin_core.proofs.Signs.{signs}
 use Rattle.spin_core.proofs.WalkSteps.{knows}
-use Rattle.spin_core.proofs.Lemmas.{script, lemma, update, cite, updates, renew, settled}
+use Rattle.spin_core.proofs.Lemmas.{script, lemma, update, cite, twice, updates, renew, settled}
 
 -- the number of readers, if a party with this use joins r readers
 abbrev pub with_reader : Use → ℕ → ℕ
@@ -172,10 +172,9 @@ module _ {M : Type 1} {𝓤 : Ura M} (𝓛 : Logic 𝓤) (R : RattleType) (L : R
         → ‵ (fex ℕ (λ e. fsep (Rem (e, x)) (shared R b o t (e, x)))) ⊩ ‵ (Rest way (suc r) x)
         → ‵ (piece R way γ (a, x)) ⊛ ‵ (Rem (a, x)) ⊛ ‵ (shared R b o t (a, x)) ⊩ ‵ (St way ψ (suc r) 0) ⊛ ‵ (reader R b o t way x)
     taken way r Rem x a known rests = let Lent : ℕ → Fml = λ e. fsep (Rem (e, x)) (shared R b o t (e, x)) in
-        let V : Lft → Fml = shown R b o x in let κ : Lft = a ∷ t.life in
-        script ∵ move ! (2 ∷ []) $ fsplit3 ! $ move ! (1 ∷ []) $
-        use1 𝓛 (‵ (V κ) ⊛ ‵ (V κ)) (contraction 𝓛 V (L x b (o + offset R)) κ) $ split ! $ move ! (4 ∷ 0 ∷ []) $
-        fjoin ! $ fpack ! ℕ (λ e. fsep (piece R way γ (e, x)) (V (e ∷ t.life))) a $ move ! (2 ∷ 1 ∷ 3 ∷ []) $ fjoin3 ! $
+        let V : Lft → Fml = shown R b o x in script ∵ move ! (2 ∷ []) $ fsplit3 ! $ move ! (1 ∷ []) $
+        twice ! (contraction 𝓛 V (L x b (o + offset R)) (a ∷ t.life)) $ move ! (4 ∷ 0 ∷ []) $ fjoin ! $
+        fpack ! ℕ (λ e. fsep (piece R way γ (e, x)) (V (e ∷ t.life))) a $ move ! (2 ∷ 1 ∷ 3 ∷ []) $ fjoin3 ! $
         move ! (2 ∷ 0 ∷ []) $ fjoin ! $ fpack ! ℕ Lent a $ cite _ rests $
         cite _ (lies 𝓛 R b o t way ψ (suc r) x known) $ done !
 

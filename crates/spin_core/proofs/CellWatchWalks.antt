@@ -4,7 +4,6 @@ use Rattle.std.proofs.Common.{◌≡◌, ℕ, ◌+◌, ◌<◌, ◌^◌, List, [
 use seplogic.Ra.Ura.{Ura}
 use mir.Val.{Val, vint, vstruct, vcons, vnil, of_list}
 use base.Logic.{SProp, sep, apply∗, id⊢}
-use base.Before.{before}
 use types.Na.{before_dup}
 use contract.Shared.{Lends-one}
 use base.Fml.{Lft, Share, Incl, Incl-refl, fbor, Fml, fex, fsep, feq, finv, flft}
@@ -38,7 +37,7 @@ use Rattle.spin_core.proofs.CellWalks.{permit_in}
 use Rattle.spin_core.proofs.Signs.{signs}
 use Rattle.spin_core.proofs.WalkSteps.{says, Facts, after_facts, first_and_last, takes_at}
 use Rattle.spin_core.proofs.CellSteps as steps
-use Rattle.spin_core.proofs.Lemmas.{Lemma, script, cite}
+use Rattle.spin_core.proofs.Lemmas.{Lemma, script, cite, twice}
 
 -- the watch with this name and these entries
 abbrev pub knowing : {E : Type 0} → ℕ × List E → Watch E
@@ -220,8 +219,7 @@ module _ {M : Type 1} {𝓤 : Ura M} (𝓛 : Logic 𝓤) (𝓜 : Model 𝓤 𝓛
     opens at f os le can = record {
       on = λ t z go. fpick t (λ known. fpick t (λ i. let α : Lft = i.life in
           -- context: [what the permit owns; what the watch knows; the tokens]
-          fsplit t $ fsplit t $ use1 𝓛 (‵ (before β α) ⊛ ‵ (before β α)) (before_dup 𝓛 β α) $ split t $
-          move t (2 ∷ []) $ use1 𝓛 (‵ (finv (Inv i)) ⊛ ‵ (finv (Inv i))) (𝓛.invs.inv_dup (Inv i)) $ split t $
+          fsplit t $ fsplit t $ twice t (before_dup 𝓛 β α) $ move t (2 ∷ []) $ twice t (𝓛.invs.inv_dup (Inv i)) $
           move t (2 ∷ 0 ∷ []) $ fjoin t $ move t (5 ∷ []) $ fsplit t $ move t (4 ∷ 0 ∷ []) $
           use2 𝓛 (later (some (λ (s : Share). ‵ (flft α s) ⊛ raw (A.lft α s -∗ H.⇛ (A.lft β q)))))
           (Lends-one 𝓛 𝓜 𝓡 β α q) $ await t z $ pick t (λ s. split t $ move t (2 ∷ []) $ fsplit t $

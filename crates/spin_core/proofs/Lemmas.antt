@@ -3,8 +3,9 @@
 use Rattle.std.proofs.Common.{List, [], ◌∷◌, ◌++◌}
 use seplogic.Ra.Ura.{Ura}
 use base.Logic.{SProp, ent, sep, via, id⊢, mono_r, ex_i, upd, upd_i}
-use types.Logic.{Logic}
-use types.Kit.{Item, ◌⊛◌, some, raw, mean, ⋆, push, pop, Goal, prop, Seq, Step, step, Go, cut, settle, suffices}
+use base.Fml.{Fml}
+use types.Logic.{Logic, sem}
+use types.Kit.{Item, ‵, ◌⊛◌, some, raw, mean, ⋆, push, pop, Goal, prop, Seq, Step, step, Go, cut, settle, suffices}
 
 -- the parts of an item, as the entries of a context
 abbrev pub flat : {M : Type 1} {𝓤 : Ura M} → Item 𝓤 → List (Item 𝓤)
@@ -40,6 +41,11 @@ module _ {M : Type 1} {𝓤 : Ura M} {𝓛 : Logic 𝓤} where
   -- a script cites a lemma l: what l asks stands first in the context, and what l gives takes that place
   pub cite : {K : Type 0} {i k : Item 𝓤} {G : Goal 𝓤 𝓛.H} (Γ : List (Item 𝓤)) → Lemma 𝓛 i k → Step K 𝓛 (flat k ++ Γ) G (flat i ++ Γ) G
   cite {i = i} {k = k} Γ l = cut (flat i) (flat k) Γ (via 𝓤 (mean 𝓛 i) (joined 𝓛 i) (via 𝓤 (mean 𝓛 k) l.prf (apart 𝓛 k)))
+
+  -- what may be duplicated is duplicated
+  pub twice : {K : Type 0} → K → {Γ : List (Item 𝓤)} {G : Goal 𝓤 𝓛.H} {F : Fml}
+      → ent 𝓤 (sem 𝓛 F) (sep 𝓤 (sem 𝓛 F) (sem 𝓛 F)) → Step K 𝓛 (‵ F ∷ ‵ F ∷ Γ) G (‵ F ∷ Γ) G
+  twice t {Γ = Γ} {F = F} e = cut (‵ F ∷ []) (‵ F ∷ ‵ F ∷ []) Γ e
 
   -- the goal `some F` becomes F x, for this x
   pub having : {K : Type 0} → K → {Γ : List (Item 𝓤)} {X : Type 0} (F : X → Item 𝓤) (x : X) → Step K 𝓛 Γ (prop (mean 𝓛 (F x))) Γ (prop (mean 𝓛 (some F)))
