@@ -84,9 +84,6 @@ module _ {M : Type 1} {𝓤 : Ura M} (𝓛 : Logic 𝓤) (Er Ur : RattleType) wh
     abbrev u : Use
     u = use_of f view
 
-    abbrev ρ : ℕ
-    ρ = t.views
-
     abbrev Held : Use → Option R.Denot → Fml
     Held w = held 𝓛 R b o t w way
 
@@ -166,8 +163,8 @@ module _ {M : Type 1} {𝓤 : Ura M} (𝓛 : Logic 𝓤) (Er Ur : RattleType) wh
           (carrying_carries ways.2 m s.1 u (f w) v (Meets holds ways s.0 s.1 us) carrying)
 
       -- the rule holds again, and the party has its new view and its part of the value
-      leads : (then : ℕ → V → Type 0) (k : ℕ) → then k w
-          → ‵ (roster cv.code ρ 0 us) ⊛ ‵ (Stand (Some w)) ⊛ ‵ (states s.1 us) ⊛ ‵ (Got s.1 w) ⊩ ‵ (Core s) ⊛ ‵ (moved (finding s.1.entries then k))
+      leads : (then : ℕ → V → Type 0) (k : ℕ) → then k w → ‵ (roster cv.code t.views 0 us) ⊛ ‵ (Stand (Some w))
+          ⊛ ‵ (states s.1 us) ⊛ ‵ (Got s.1 w) ⊩ ‵ (Core s) ⊛ ‵ (moved (finding s.1.entries then k))
       leads then k so = let tells : V → Option R.Denot → Type 0 = finding s.1.entries then k in script ∵
           move ! (3 ∷ []) $ fpick ! (λ v'. fsplit ! $ fpick ! (λ kept. drop ! $ move ! (2 ∷ 0 ∷ []) $ fjoin ! $ knows ! (tells w v' × Keeps ways view (Some w) v v') ((so, learnt_of ways.2 s.1 u (f w) v v' kept.1), kept.0) $ fjoin ! $
           fpack ! (V × Option R.Denot) (left_to tells) (w, v') $ move ! (2 ∷ []) $ knows ! (Meets holds ways s.0 s.1 us) (carrying_rest ways.2 m s.1 u (f w) v carrying) $ fjoin ! $ move ! (2 ∷ 0 ∷ []) $ fjoin ! $
@@ -196,7 +193,7 @@ module _ {M : Type 1} {𝓤 : Ura M} (𝓛 : Logic 𝓤) (Er Ur : RattleType) wh
           move ! (2 ∷ []) $ fpick ! (λ vs. fsplit ! $ move ! (1 ∷ []) $ fsplit ! $ fpick ! (λ meets. drop ! $ move ! (4 ∷ []) $ fsplit ! $ move ! (3 ∷ 0 ∷ []) $
           -- context: [the views; the party's view; its part of the value; the state; the first word; the trace;
           -- the watch]
-          renew To _ (places 𝓛 cv ρ view vs (λ id here. (law id vs meets here).0)) $
+          renew To _ (places 𝓛 cv t.views view vs (λ id here. (law id vs meets here).0)) $
           pick ! (λ z. let id = z.0 in let here = z.1 in let r = law id vs meets here in let w : V = r.0 in
           let es : List E = r.1 in let s : ℕ × Trace E U = (n, grown_at m y es) in
           split ! $ move ! (3 ∷ 2 ∷ []) $ renew To _ (shifts id vs m s w r.2 here meets.1) $ move ! (5 ∷ 6 ∷ []) $
@@ -252,12 +249,11 @@ module _ {M : Type 1} {𝓤 : Ura M} (𝓛 : Logic 𝓤) (Er R : RattleType) (L 
   second_steps q to γ k may allows = let e : ℕ = place + 0 in let Own : Fml = Hand γ k in
       lemma (borrowed 𝓛 t.life q J b e to always (left γ k) ⟦ Own ⟧ (qed 𝓛 (‵ J ∷ ‵ Own ∷ []) ∵
       suffices ! _ (upd_i 𝓤 (ex 𝓤 (Lies 𝓛 t.life q J b e to always (left γ k)))) $
-      fpick ! (λ s. let n : ℕ = s.0 in let m : Trace Er.Denot ℕ = s.1 in let y : ℕ = m.word in let First : Fml = word b (o + 0) n in
-      let Inside : Fml = core R b o t cv.code (S 𝓛 Er u64) holds ways s in
+      fpick ! (λ s. let n : ℕ = s.0 in let m : Trace Er.Denot ℕ = s.1 in let y : ℕ = m.word in
       fsplit ! $ move ! (1 ∷ []) $ fsplit ! $ cite _ (word_apart 𝓛 Er b place m) $
       by ! (answers 𝓛 Er u64 R L b o t cv holds ways view v told e to q (left γ k) y
-      (raw (Takes 𝓛 Er b place m) ⊛ ‵ Inside ⊛ ‵ First ⊛ ‵ Own) (λ small. updates ∵
-      let Here : Fml = Traced 𝓛 Er u64 R L b o t cv holds ways view v (beside m (to y)) in
+      (raw (Takes 𝓛 Er b place m) ⊛ ‵ (core R b o t cv.code (S 𝓛 Er u64) holds ways s) ⊛ ‵ (word b (o + 0) n) ⊛ ‵ Own)
+      (λ small. updates ∵ let Here : Fml = Traced 𝓛 Er u64 R L b o t cv holds ways view v (beside m (to y)) in
       move ! (1 ∷ []) $ use1 𝓛 (raw (with 𝓛 Er b place m (to y))) (all_e 𝓤 (with 𝓛 Er b place m) (to y)) $
       move ! (1 ∷ 0 ∷ []) $ use2 𝓛 (‵ Here) (apply∗ 𝓤 ⟦ word b e (to y) ⟧ ⟦ Here ⟧) $ move ! (3 ∷ []) $ fsplit ! $ move ! (4 ∷ 2 ∷ 3 ∷ 0 ∷ 1 ∷ []) $
       by ! (grows 𝓛 Er u64 R L b o t cv holds ways view v told γ k may n n m (to y) y (λ id vs meets here. allows id n m vs meets here small)).prf)).prf)))

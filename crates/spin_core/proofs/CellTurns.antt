@@ -58,12 +58,6 @@ module _ {X : Type 0} where
   abbrev Had : (X → Type 0) → Use → X → Type 0
   Had φ u x = elim u [ writes ↦ Unit {0} | _ ↦ φ x ]
 
-  writes_so : (way : Way X) (x : X) → Preserves way writes writes (Some x) (Some x)
-  writes_so way x = grind arith
-
-  rests_so : (way : Way X) → Preserves way off off None None
-  rests_so way = grind arith
-
   module _ (φ ψ : X → Type 0) where
     -- a party that already uses the value learns no more than one that begins to use it
     shows : (way : Way X) (u u' : Use) (x : X) → Finds way off u' (shown_to u' x) → ψ x
@@ -128,10 +122,10 @@ module _ {M : Type 1} {𝓤 : Ura M} (𝓛 : Logic 𝓤) (R : RattleType) (L : R
   gives : (φ : X → Type 0) (way : Way X) (r : ℕ) (u u' : Use) (v : Option X) (A : Type 0) → (u ≡ writes → u' ≢ writes) → Lim way r 0 u
       → Going way u u' v (with_reader u r) A
       → ‵ (St way φ (with_reader u r) (with_writer u 0)) ⊛ ‵ (Held u way v) ⊫ ‵ (Given φ r way u u' v)
-  gives φ way r off u' (Some x) A turned lim going = never (St way φ r 0) _
+  gives φ way r off u' (Some x) A turned lim going = never _ _
   gives φ way r off u' None A turned lim going = updates ∵ settled ! _ $ fpick ! (λ x. fpick ! (λ known.
       cite _ (has_room way u' None r x A going) $ keep ! (0 ∷ []) $ by ! (gave φ r way off u' None x refl known).prf))
-  gives φ way r u u' None A turned lim going = nobody u way (St way φ (with_reader u r) (with_writer u 0)) _ (λ e. absurd cc)
+  gives φ way r u u' None A turned lim going = nobody u way _ _ (λ e. absurd cc)
   gives φ alone r reads u' (Some x) A turned lim going = absurd (omega arith)
   gives φ alone r writes u' (Some x) A turned lim going = updates ∵ settled ! _ $ drop ! $ by ! (gave φ r alone writes u' (Some x) x refl tt).prf
   -- a reader gives back one part; the part is of the round in the state
@@ -236,10 +230,10 @@ module _ {M : Type 1} {𝓤 : Ura M} (𝓛 : Logic 𝓤) (R : RattleType) (L : R
     stays u P v so = updates ∵ settled ! _ $ move ! (1 ∷ []) $ cite _ (got_in way ψ u u v v so) $ move ! (1 ∷ 0 ∷ []) $ done !
 
     pub turns : (w : ℕ) (u u' : Use) (v : Option X) → Turns w u u' v
-    turns w writes writes None lim going owed = nobody writes way (St way φ r (suc w)) _ (λ e. absurd cc)
-    turns w writes writes (Some x) lim going owed = stays writes (St way φ r (suc w)) (Some x) (writes_so way x, tt)
-    turns (suc w) off off (Some x) lim going owed = never (St way φ r (suc w)) _
-    turns (suc w) off off None lim going owed = stays off (St way φ r (suc w)) None (rests_so way, tt)
+    turns w writes writes None lim going owed = nobody writes way _ _ (λ e. absurd cc)
+    turns w writes writes (Some x) lim going owed = stays writes _ (Some x) (grind arith, tt)
+    turns (suc w) off off (Some x) lim going owed = never _ _
+    turns (suc w) off off None lim going owed = stays off _ None (grind arith, tt)
     turns (suc w) off u' v lim going owed =
         absurd (let e = none_else u' way r (suc w) (λ e. absurd cc) (going_rest way off u' v r going) in omega (arith, e))
     turns (suc w) u u' v lim going owed = absurd (let e = none_else u way r (suc w) (λ e. absurd cc) lim in omega (arith, e))
