@@ -41,13 +41,9 @@ module _ {X : Type 0} where
   learnt_of no_fact t u v before after learns = tt
   learnt_of (knows φ) t u v before after learns = (t, refl, learns)
 
-  knowing_freed : {S : Type 0} (k : Knowledge S X) (way : Way X) (m : S) (r w : ℕ) (y : X) → Freeing k (Frees way)
-      → Knowing k m w y (Fixed way r w y)
-  knowing_freed k way m r w y free = grind arith
-
   pub restarts : {V S : Type 0} (holds : ℕ → S → List V → Type 0) (ways : Ways X V S) (n : ℕ) (m : S) (x y : X)
       → Freeing ways.2 (Frees ways.0) → Starts holds ways n m x → Starts holds ways n m y
-  restarts holds ways n m x y frees starts = (starts.0, starts.1, knowing_freed ways.2 ways.0 m _ _ y frees)
+  restarts holds ways n m x y frees starts = (starts.0, starts.1, grind arith)
 
   -- while somebody writes, nothing is known of the value
   pub unknown : (way : Way X) (r w : ℕ) (x : X) → Limits way r w → 0 < w → Fixed way r w x

@@ -33,12 +33,10 @@ abbrev pub hand_of : Ptr → Val
 hand_of p = vstruct (vcons (ptr_val p) (vcons (vstruct vnil) vnil))
 
 pub typed : (p : Ptr) → InBlock p → T (has_ty (ty_struct [] (tcons ty_ptr (tcons (ty_struct [] tnil) tnil))) (hand_of p)) × WT (hand_of p)
-typed (block_ptr b o) i = (tt, (tt, (tt, tt)))
-typed null_ptr i = absurd i
+typed p i = grind arith
 
 pub pointer : (p : Ptr) → InBlock p → T (has_ty ty_ptr (ptr_val p)) × WT (ptr_val p)
-pointer (block_ptr b o) i = (tt, tt)
-pointer null_ptr i = absurd i
+pointer p i = grind arith
 
 module _ (a : NamedLft) (R V Y K S : RattleType) (g : Ghosts Y.Denot R.Denot V.Denot K.Denot S.Denot) where
   -- the machine words of a permit; a write permit has the same
