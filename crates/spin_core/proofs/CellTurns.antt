@@ -45,7 +45,7 @@ module _ {X : Type 0} where
   Lim way r w u = Limits way (with_reader u r) (with_writer u w)
 
   -- while a party uses the value, nobody else writes it
-  none_else : (u : Use) (way : Way X) (r w : ℕ) → u ≢ off → Lim way r w u → w ≡ 0
+  none_else : (u : Use) (way : Way X) (r w : ℕ) → u ≢ off → Lim way r (suc w) u → ⊥
   none_else u way r w on lim = grind arith
 
   -- How many readers the state has when a party with the use u takes its part. In the way `fixes` a new reader is
@@ -234,7 +234,6 @@ module _ {M : Type 1} {𝓤 : Ura M} (𝓛 : Logic 𝓤) (R : RattleType) (L : R
     turns w writes writes (Some x) lim going owed = stays writes _ (Some x) (grind arith, tt)
     turns (suc w) off off (Some x) lim going owed = never _ _
     turns (suc w) off off None lim going owed = stays off _ None (grind arith, tt)
-    turns (suc w) off u' v lim going owed =
-        absurd (let e = none_else u' way r (suc w) (λ e. absurd cc) (going_rest way off u' v r going) in omega (arith, e))
-    turns (suc w) u u' v lim going owed = absurd (let e = none_else u way r (suc w) (λ e. absurd cc) lim in omega (arith, e))
+    turns (suc w) off u' v _ going _ = absurd (none_else u' way r w (λ e. absurd cc) (going_rest way off u' v r going))
+    turns (suc w) u u' v lim going owed = absurd (none_else u way r w (λ e. absurd cc) lim)
     turns zero u u' v lim going owed = passes u u' v (λ is e. absurd cc) lim going owed
