@@ -115,10 +115,8 @@ module _ {M : Type 1} {𝓤 : Ura M} (𝓛 : Logic 𝓤) where
         → ‵ (shown R b o x (n ∷ t.life)) ⊛ ‵ (before β t.life) ⊛ ‵ (inside ν (n ∷ [])) ⊩ ‵ (shown R b o x ν)
     shows_for L b o t x ν inc n =
         let a : Lft = n ∷ [] in let μ : Lft = a ++ ν in let V' : Lft → Fml = shown R b o x in let K = L x b (o + offset R) in
-        let within_life : Incl (μ ++ t.life) (a ++ t.life) =
-        ⊑_meet (μ ++ t.life) a t.life (Incl-trans (meet_⊑_left μ t.life) (meet_⊑_left a ν)) (meet_⊑_right μ t.life) in
-        script ∵
-        use1 𝓛 (‵ (V' (μ ++ t.life))) (shortens 𝓛 V' K (a ++ t.life) (μ ++ t.life) within_life) $ move ! (1 ∷ []) $
+        script ∵ use1 𝓛 (‵ (V' (μ ++ t.life))) (shortens 𝓛 V' K (a ++ t.life) (μ ++ t.life)
+        (⊑_meet _ a t.life (Incl-trans (meet_⊑_left μ _) (meet_⊑_left a ν)) (meet_⊑_right μ _))) $ move ! (1 ∷ []) $
         use1 𝓛 (‵ (before μ t.life)) (before_shorten 𝓛 β μ t.life (Incl-trans (meet_⊑_right a ν) inc)) $
         use2 𝓛 (‵ (V' μ)) (moves_before 𝓛 V' K μ t.life) $ move ! (1 ∷ 0 ∷ []) $ use2 𝓛 (‵ (V' ν)) (moves 𝓛 V' K ν a) $ done !
 
