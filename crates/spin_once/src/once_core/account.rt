@@ -78,7 +78,7 @@ impl<'a, T, S: Seed<T>> Found<'a, T, S> {
 }
 
 impl<'a, T, S: Seed<T>> Account<'a, T, S> {
-    ghost use Rattle.spin_once.specs.Accounts.{here, Since, Turned, FindsSeed, Finds, Claims, Attempts};
+    ghost use Rattle.spin_once.specs.Accounts.{Place, here, Since, Turned, FindsSeed, Finds, Claims, Attempts};
 
     /// Ends the account of a party that is in no call.
     pub(crate) fn close(self)
@@ -149,10 +149,20 @@ impl<'a, T, S: Seed<T>> Account<'a, T, S> {
         requires { what self.party.view ≡ Some (in_closure C.may_fail TryBegin) }
         ensures { Claims C.may_fail (here self.entry) result }
     {
-        let mut account = match self.begin::<C>() {
-            Ok(claim) => return claim,
-            Err(next) => next,
-        };
+        match self.begin::<C>() {
+            Ok(claim) => claim,
+            Err(account) => account.await_claim::<C, R, W>(rt),
+        }
+    }
+
+    // Looks until it finds the value, or gets the right to make it. Few calls come here, since a value is made once.
+    #[cold]
+    #[inline(never)]
+    fn await_claim<C: Closure, R: RelaxStrategy, W: Wait>(self, rt: &W) -> Claim<'a, T, S>
+        requires { what self.party.view ≡ Some (in_closure C.may_fail Await) }
+        ensures { (p : Place T S) → Since p Goes (here self.entry) → Claims C.may_fail p result }
+    {
+        let mut account = self;
         for _ in rt.forever() {
             R::pause(rt, 1);
             match account.look_and_begin::<C>() {
