@@ -40,26 +40,31 @@ impl<L: Lock<u64>> Crew for Adders<'_, L> {
     }
 }
 
-macro_rules! sum_of {
-    ($rt:expr, $Lock:ident, $threads:expr) => {{
-        let lock: $Lock<u64, Patient> = $Lock::new(0);
-        drop(in_threads($rt, $rt.alloc(), &Adders(&lock), $threads));
-        lock.into_inner()
-    }};
+// Returns the sum that so many threads make.
+fn sum_of<L: Lock<u64> + Sync, R: Abort + Threads + Wait + Sync>(
+    rt: &R,
+    alloc: Global,
+    lock: &L,
+    threads: usize,
+) -> u64 {
+    drop(in_threads(rt, alloc, &Adders(lock), threads));
+    lock.with(rt, |sum| *sum)
 }
 
 #[test]
 fn two_threads_lose_no_addition(rt: HostRuntime) {
-    equal(&rt, sum_of!(&rt, Mutex, 2), 2000);
+    let lock: Mutex<u64, Patient> = Mutex::new(0);
+    equal(&rt, sum_of(&rt, rt.alloc(), &lock, 2), 2000);
 }
 
 #[test]
 fn six_threads_lose_no_addition(rt: HostRuntime) {
+    let alloc = rt.alloc();
     let sums = [
-        sum_of!(&rt, SpinMutex, 6),
-        sum_of!(&rt, TicketMutex, 6),
-        sum_of!(&rt, FairMutex, 6),
-        sum_of!(&rt, Mutex, 6),
+        sum_of(&rt, alloc, &SpinMutex::<u64, Patient>::new(0), 6),
+        sum_of(&rt, alloc, &TicketMutex::<u64, Patient>::new(0), 6),
+        sum_of(&rt, alloc, &FairMutex::<u64, Patient>::new(0), 6),
+        sum_of(&rt, alloc, &Mutex::<u64, Patient>::new(0), 6),
     ];
     equal(&rt, sums, [6000; 4]);
 }
