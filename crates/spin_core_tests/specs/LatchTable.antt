@@ -45,7 +45,7 @@ granted held = Answers Granted (Some held)
 abbrev pub goes_for : ℕ → Next LatchPoint (Answer (Unit {0}))
 goes_for w = Continue (Exchange w)
 
--- A call to read looks first. Then it repeats its exchange as long as the word found has room for a reader.
+-- A call to read loads first. Then it repeats its exchange as long as the word found has room for a reader.
 abbrev pub comes_by : Next LatchPoint (Answer (Unit {0})) → LatchPoint → Act ℕ LatchPoint (Answer (Unit {0}))
 comes_by missed First = load_for let_in (λ p. gets p to_read) goes_for missed
 comes_by missed (Exchange k) = retry k let_in (λ p. gets p to_read) (granted Read) goes_for missed
@@ -58,7 +58,7 @@ act_of call.Write l h = weak_exchange 0 taken (λ p. gets p to_write) (granted W
 act_of call.ReleaseRead l h = store (λ w. nat_lt 1 w) (subtracts 2) (λ p. releases p reading) (Answers Done None)
 act_of call.ReleaseWrite l h = store (λ w. nat_lt 0 w) (subtracts 1) (λ p. releases p writing) (Answers Done None)
 
--- what each call promises: a call to read looks first, a call to write does not
+-- what each call promises: a call to read loads first, a call to write does not
 abbrev pub asks_of : LatchCall → Option Hold → Asked
 asks_of call.TryRead h = looks_and_tries to_read
 asks_of call.Read h = waits to_read

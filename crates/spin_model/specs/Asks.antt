@@ -199,7 +199,7 @@ tries_in k ask = record a_call {
 abbrev pub tries : Ask → Asked
 tries ask = tries_in 1 ask
 
--- the try looks first, and repeats its exchange at most once for each change by others
+-- the try loads first, and repeats its exchange at most once for each change by others
 abbrev pub looks_and_tries : Ask → Asked
 looks_and_tries ask = record (tries ask) { limit = λ words. within_changes 2 }
 

@@ -30,7 +30,7 @@ granted = Answers Granted (Some Read)
 abbrev pub goes_for : ℕ → Answered
 goes_for w = Continue (Exchange w)
 
--- A call that takes a seat looks first. Then it repeats its exchange as long as the word found has a free seat.
+-- A call that takes a seat loads first. Then it repeats its exchange as long as the word found has a free seat.
 abbrev pub comes_by : ℕ → Answered → SeatsPoint → Act ℕ SeatsPoint (Answer (Unit {0}))
 comes_by n missed First = load_for (entered n) (λ p. gets p to_read) goes_for missed
 comes_by n missed (Exchange k) = retry k (entered n) (λ p. gets p to_read) granted goes_for missed

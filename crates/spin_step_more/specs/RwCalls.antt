@@ -27,7 +27,7 @@ granted held = Answers Granted (Some held)
 abbrev pub goes_for : {V : Type 0} → ℕ → Next RwPoint (Answer V)
 goes_for w = Continue (Exchange w)
 
--- A call that looks first. Then it repeats its exchange as long as the word found has room for it.
+-- A call that loads first. Then it repeats its exchange as long as the word found has room for it.
 abbrev pub comes_by : {V : Type 0} → (ℕ → Option ℕ) → Ask → Hold → Next RwPoint (Answer V) → RwPoint → Act ℕ RwPoint (Answer V)
 comes_by f ask held missed (Exchange n) = retry n f (λ p. gets p ask) (granted held) goes_for missed
 comes_by f ask held missed _ = load_for f (λ p. gets p ask) goes_for missed
