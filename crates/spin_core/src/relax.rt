@@ -70,37 +70,7 @@ pub trait RelaxStrategy {
         requires { F.IsAlwaysCallable attempt }
         ensures { Succeeds (F.post attempt) state result }
     {
-        Self::retry_after(rt, state, |_| 1, attempt)
-    }
-
-    /// Like [`retry`](RelaxStrategy::retry), but the closure `pause` computes from the state how many hints the
-    /// pause before each attempt has.
-    ///
-    /// It is not inlined, since inlining would lengthen the path of each caller that does not wait.
-    ///
-    /// # Contract
-    /// Like that of `retry`. The closure `pause` also has to be always callable.
-    #[cold]
-    #[inline(never)]
-    final fn retry_after<S, A, P: Fn(&S) -> u32, F: Fn(S) -> Result<A, S>, W: Wait>(
-        rt: &W,
-        state: S,
-        pause: P,
-        attempt: F,
-    ) -> A
-        requires pause { P.IsAlwaysCallable pause }
-        requires attempt { F.IsAlwaysCallable attempt }
-        ensures { Succeeds (F.post attempt) state result }
-    {
-        let mut state = state;
-        for _ in rt.forever() {
-            Self::pause(rt, pause(&state));
-            match attempt(state) {
-                Ok(answer) => return answer,
-                Err(next) => state = next,
-            }
-        }
-        unreachable!()
+        try_again::<Self, S, A, F, W>(rt, state, 1, attempt)
     }
 
     /// Like [`retry`](RelaxStrategy::retry), but each [`pause`](RelaxStrategy::pause) has twice as many hints as
@@ -109,24 +79,39 @@ pub trait RelaxStrategy {
     ///
     /// # Contract
     /// Like that of `retry`.
-    #[cold]
-    #[inline(never)]
     final fn back_off<S, A, F: Fn(S) -> Result<A, S>, W: Wait>(rt: &W, state: S, attempt: F) -> A
         requires { F.IsAlwaysCallable attempt }
         ensures { Succeeds (F.post attempt) state result }
     {
-        let mut hints = 1;
-        let mut state = state;
-        for _ in rt.forever() {
-            Self::pause(rt, hints);
-            match attempt(state) {
-                Ok(answer) => return answer,
-                Err(next) => state = next,
-            }
-            hints = hints.saturating_mul(2).min(MAX_HINTS);
-        }
-        unreachable!()
+        try_again::<Self, S, A, F, W>(rt, state, MAX_HINTS, attempt)
     }
+}
+
+// Pauses and tries again, until an attempt succeeds. The first pause has one hint, and each later one has twice as many
+// hints as the last one, up to `most`. It is not inlined, since inlining would lengthen the path of each caller that does
+// not wait.
+#[cold]
+#[inline(never)]
+fn try_again<R: RelaxStrategy, S, A, F: Fn(S) -> Result<A, S>, W: Wait>(
+    rt: &W,
+    state: S,
+    most: u32,
+    attempt: F,
+) -> A
+    requires { F.IsAlwaysCallable attempt }
+    ensures { Succeeds (F.post attempt) state result }
+{
+    let mut hints = 1;
+    let mut state = state;
+    for _ in rt.forever() {
+        R::pause(rt, hints);
+        match attempt(state) {
+            Ok(answer) => return answer,
+            Err(next) => state = next,
+        }
+        hints = hints.saturating_mul(2).min(most);
+    }
+    unreachable!()
 }
 
 /// The strategy that gives the processor's hint for spinning. It is the default of every lock that has a parameter `R`.

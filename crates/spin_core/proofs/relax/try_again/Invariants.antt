@@ -1,5 +1,5 @@
 use Rattle.spin_core.specs.Retries.{Succeeds}
-use Rattle.spin_core.proofs.relax.RelaxStrategy.retry_after.Given as goal
+use Rattle.spin_core.proofs.relax.try_again.Given as goal
 
 -- each answer that is possible from this state is possible from the first state too
 abbrev pub invariant-loop : goal.invariant-loop

@@ -1,5 +1,5 @@
 use Rattle.std.proofs.Common.{zero, suc, refl}
-use Rattle.spin_core.proofs.relax.RelaxStrategy.retry_after.Goals as goal
+use Rattle.spin_core.proofs.relax.try_again.Goals as goal
 
 pub returns-in-Ok : goal.returns-in-Ok
 returns-in-Ok g c = c.loop.invariant.3 _ (zero, c.loop.state, refl, c.in-Ok.ensures)
