@@ -14,7 +14,6 @@ use crate::trace::{Trace, Watch};
 use std::marker::{Model, Move, Owns, PhantomData};
 use std::mem::ManuallyDrop;
 
-mod ending;
 pub mod stable;
 mod steps;
 

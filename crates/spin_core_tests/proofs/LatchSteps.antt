@@ -137,6 +137,10 @@ is_writing : (v : View) → use_of_view v ≡ writes → v ≡ Writing
 is_writing Writing e = refl
 is_writing _ e = absurd cc
 
+-- a `try_write` that has found another word than 0 has failed
+pub missed_write : (found : ℕ) → found ≢ 0 → either_at 0 Writing Idle found ≡ Idle
+missed_write found other = ap (λ b. if b then Writing else Idle) (ne_eqb found 0 other)
+
 module _ (name : ℕ) where
   abbrev Keeps : Option (Numbered View) → (ℕ → ℕ) → (ℕ → View) → Type 0
   Keeps view f to = Traces (IsLatch name) own_ways view None f (Leads to view)
@@ -180,12 +184,12 @@ module _ (name : ℕ) where
   pub idle_rests : (v : Numbered View) → v.0 ≡ Idle → Rests (IsLatch name) use_of_party (Some v)
   idle_rests v is = tie.rests latch_machine seat_of words_of IsWord name (Unit {0}) lends use_of_view no_fact v (ap seat_of is) (plays.idle_rests latch v.0 is)
 
-  pub missed_rests : (found : ℕ) → found ≢ 0 → (v : Numbered View) → v.0 ≡ either_at 0 Writing Idle found → Rests (IsLatch name) use_of_party (Some v)
-  missed_rests found other v is = idle_rests v (is ∙ ap (λ b. if b then Writing else Idle) (ne_eqb found 0 other))
-
-  pub left_rests : (named : Type 0) (before view : Option (Numbered View)) (known now : Watch rule.Done) (found : ℕ) → Moved (Watches named known now (Leads (λ w. Idle) before) found) view → Rests (IsLatch name) use_of_party view
-  left_rests named before None known now found moved = absurd moved
-  left_rests named before (Some v) known now found moved = idle_rests v moved.1.4.6
+  -- a party may leave after a step that has left it idle
+  pub left_rests : (named : Type 0) (to : ℕ → View) (before view : Option (Numbered View)) (known now : Watch rule.Done)
+      (found : ℕ) → to found ≡ Idle → Moved (Watches named known now (Leads to before) found) view
+      → Rests (IsLatch name) use_of_party view
+  left_rests named to before None known now found is moved = absurd moved
+  left_rests named to before (Some v) known now found is moved = idle_rests v (moved.1.4.6 ∙ is)
 
   -- a try that has found a word without room for a reader has failed, and its party may leave
   pub gives_up : (word : ℕ) → None ≡ let_in word → (view : Option (Numbered View)) → what view ≡ Some (at_word false word) → Rests (IsLatch name) use_of_party view

@@ -106,24 +106,9 @@ pub fn watched_word() -> u64 {
     let cell: Words = Cell::new(5, 1, trace, &start);
     let seen = mark_both(&cell, start.copy());
     seen.compare(&start);
-    cell.enter().look::<TellNothing>(seen).0
-}
-
-// Returns `Ok` of what a load after the exchange finds, or `Err` of the word that a failed exchange found.
-fn attempt(cell: &Words, old: u64, new: u64) -> Result<u64, u64> {
-    let (party, _) = cell.enter().attempt::<Mark>(old, new, Watch::nothing());
-    Ok(party?.look::<TellNothing>(Watch::nothing()).0)
-}
-
-/// Returns the results of an exchange that succeeds and of one that fails, and the word afterwards.
-pub fn two_attempts() -> (Result<u64, u64>, Result<u64, u64>, u64) {
-    let cell = words();
-    let (first, second) = (attempt(&cell, 1, 6), attempt(&cell, 1, 7));
-    (
-        first,
-        second,
-        cell.enter().look::<TellNothing>(Watch::nothing()).0,
-    )
+    let (found, party, _) = cell.enter().load::<TellNothing>(seen);
+    party.leave();
+    found
 }
 
 /// Returns what the owner finds before it writes, and what it finds at the end, after a step of a party.

@@ -72,13 +72,16 @@ impl<T> Latch<T> {
     #[must_use = "dropping the guard at once releases the latch: bind the answer"]
     pub fn try_write<'a>(&'a self) -> Option<WriteGuard<'a, T>> {
         let next = steps::write(0)?;
-        let permit = self
+        let (found, permit, _) = self
             .cell
             .enter()
-            .attempt::<TriesToWrite>(0, next as u64, Watch::nothing())
-            .0
-            .ok()?;
-        Some(Guard::new(permit.into_writer()))
+            .exchange::<TriesToWrite>(0, next as u64, Watch::nothing());
+        if found == 0 {
+            Some(Guard::new(permit.into_writer()))
+        } else {
+            permit.leave();
+            None
+        }
     }
 
     /// Acquires exclusive access, spinning until no thread holds the latch.

@@ -29,7 +29,6 @@ fn steps_find_the_words_of_a_cell(rt: HostRuntime) {
     );
     equal(&rt, cell::steps_on_the_second_word(), [2, 8, 1]);
     equal(&rt, cell::watched_word(), 2);
-    equal(&rt, cell::two_attempts(), (Ok(6), Err(6), 6));
     equal(&rt, cell::owned_values(), (5, 7));
 }
 

@@ -279,16 +279,16 @@ impl<'a, T, K: Kind, R: RelaxStrategy> Coming<'a, T, K, Waits, R> {
 
 /// Tries to read for `{:?}`, by one load and at most one exchange.
 pub(super) fn peek<T, R>(cell: &Cell<T, Party, RwRule<T>>) -> Option<RwLockReadGuard<'_, T, R>> {
-    let word = cell
+    let (found, permit, _) = cell.enter().load::<Makes<CountsReaders>>(Watch::nothing());
+    permit.leave();
+    let next = rw::read(found as usize, rw::MAX_READERS)?;
+    let (now, permit, _) = cell
         .enter()
-        .look::<Makes<CountsReaders>>(Watch::nothing())
-        .0 as usize;
-    let next = rw::read(word, rw::MAX_READERS)?;
-    let (tried, _) = cell
-        .enter()
-        .attempt::<Makes<Peeks>>(word as u64, next as u64, Watch::nothing());
-    match tried {
-        Ok(permit) => Some(SharedGuard::new(permit)),
-        Err(_) => None,
+        .exchange::<Makes<Peeks>>(found, next as u64, Watch::nothing());
+    if now == found {
+        Some(SharedGuard::new(permit))
+    } else {
+        permit.leave();
+        None
     }
 }

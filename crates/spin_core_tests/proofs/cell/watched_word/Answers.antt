@@ -9,5 +9,5 @@ use Rattle.spin_core_tests.proofs.cell.watched_word.Goals as goal
 pub new-cell-requires-clause-known : goal.new-cell-requires-clause-known
 new-cell-requires-clause-known c = (λ no. absurd no, λ _ e. absurd cc, sends_word unit)
 
-pub look-requires-clause-step : goal.look-requires-clause-step
-look-requires-clause-step c = (inr (named ℕ c.enter.result.key.name c.mark_both-seen.result.name cc), first_word ℕ _ Stands _ None (λ n. n) [])
+pub load-found-requires : goal.load-found-requires
+load-found-requires c = (inr (named ℕ c.enter.result.key.name c.mark_both-seen.result.name cc), first_word ℕ _ Stands _ None (λ n. n) [])
