@@ -19,16 +19,15 @@ use Rattle.spin_model.specs.Schedules.{State, after}
 use Rattle.spin_step_more.specs.declared.rw_calls.RwPoint.{RwPoint}
 use Rattle.spin_model.specs.declared.schedule.Move.TheVariants.{Begin, Step, Write}
 use Rattle.spin_model.specs.declared.schedule.Outcome.TheVariants.{Begun, Answered, Written}
-use Rattle.spin_core.specs.Cell.{Use, off, reads, lends, writes, use_of, Meets, Moved, Allows, Rests}
+use Rattle.spin_core.specs.Cell.{Use, off, reads, lends, writes, use_of, Meets, Allows, Rests}
 use Rattle.spin_core.specs.Own.{Numbered, what}
 use Rattle.spin_core.specs.Run.{AreMoves, by_first, is_of_call, is_played, outcomes, of_one, sits}
 use Rattle.spin_core.specs.Passes.{Writes}
-use Rattle.spin_core.specs.Traced.{Traces, Watches}
+use Rattle.spin_core.specs.Traced.{Traces}
 use Rattle.spin_core.specs.Values.{left, Leaves, last}
 use Rattle.spin_core.specs.Views.{Knows, idle, holds, entries_of, use_of_part, no_word}
 use Rattle.spin_core.specs.declared.tie.Opening.{Opening}
 use Rattle.spin_core.specs.declared.trace.Trace.{Trace}
-use Rattle.spin_core.specs.declared.trace.Watch.{Watch}
 use Rattle.spin_step.specs.Orders.{IsInOrder}
 use Rattle.spin_step.proofs.Sums.{by_kinds, all_kinds, sum-turned, length-with_kind}
 use Rattle.spin_step.proofs.Holders.{is_holder-from_entries}
@@ -554,21 +553,10 @@ module _ {T : Type 0} (opening : Opening T) where
       tie.rests (model opening.value) seat_of words_of Word opening.name T lends use_of_view (last opening) (v, m, k) sits
       (plays.rests rw-lock v (rw is refl) (λ p. rw is refl))
 
-  pub idle_rests : (v : Numbered View) → v.0 ≡ Idle → Rests (IsRw opening) use_of_party (Some v)
-  idle_rests v is = rw is (rests_at Idle refl refl v.1 v.2)
-
   -- a party that is in no call, and holds nothing, may leave
   pub out_rests : (view : Option (Numbered View)) → IsOut (what view) → Rests (IsRw opening) use_of_party view
   out_rests None out = tt
   out_rests (Some v) out = rests_at v.0 (seat_idle (seat_of v.0) out) (out_holds_none (Some v.0) out) v.1 v.2
-
-  -- a party may leave after a step that has left it idle
-  pub left_rests : (named : Type 0) (turn : ℕ → Turn T) (before view : Option (Numbered View)) (known now : Watch (rws.Done T))
-      (found : ℕ) → (turn found).to ≡ Idle → Moved (Watches named known now (Told opening.value turn before) found) view
-      → Rests (IsRw opening) use_of_party view
-  unfolding Told
-  left_rests named turn before None known now found is moved = absurd moved
-  left_rests named turn before (Some v) known now found is moved = idle_rests v (moved.1.4.1.6.0 ∙ is)
 
 -- A try has failed if the word that it found does not admit the reader. Its party is then in no call, and holds nothing.
 pub refused_out : (won : View) → Comes won → (n : ℕ) → grants (call_of won false) n ≡ None → (view : Option View)

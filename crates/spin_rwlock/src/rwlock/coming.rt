@@ -12,8 +12,8 @@ ghost use Rattle.spin_rwlock.specs.declared.rwlock.rule.View.TheVariants as view
 
 use super::account::{Account, Lent};
 use super::pass::Pass;
-use super::reader::{RwLockReadGuard, SharedGuard};
-use super::rule::{CountsReaders, Kind, Makes, Party, RwRule, Turns};
+use super::reader::RwLockReadGuard;
+use super::rule::{CountsReaders, Kind, Party, RwRule, Turns};
 use spin_core::cell::Cell;
 use spin_core::relax::{RelaxStrategy, Spin};
 use spin_core::trace::Watch;
@@ -279,16 +279,22 @@ impl<'a, T, K: Kind, R: RelaxStrategy> Coming<'a, T, K, Waits, R> {
 
 /// Tries to read for `{:?}`, by one load and at most one exchange.
 pub(super) fn peek<T, R>(cell: &Cell<T, Party, RwRule<T>>) -> Option<RwLockReadGuard<'_, T, R>> {
-    let (found, permit, _) = cell.enter().load::<Makes<CountsReaders>>(Watch::nothing());
-    permit.leave();
+    let looking = Account {
+        permit: cell.enter(),
+        seen: Watch::nothing(),
+    };
+    let (found, looking) = looking.load::<CountsReaders>();
+    looking.leave();
     let next = rw::read(found as usize, rw::MAX_READERS)?;
-    let (now, permit, _) = cell
-        .enter()
-        .exchange::<Makes<Peeks>>(found, next as u64, Watch::nothing());
+    let reading = Account {
+        permit: cell.enter(),
+        seen: Watch::nothing(),
+    };
+    let (now, reading) = reading.exchange::<Peeks>(found, next as u64);
     if now == found {
-        Some(SharedGuard::new(permit))
+        Some(reading.into_reader().0)
     } else {
-        permit.leave();
+        reading.leave();
         None
     }
 }
