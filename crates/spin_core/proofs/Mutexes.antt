@@ -16,13 +16,13 @@ use Rattle.spin_core.proofs.Spots as spots
 use Rattle.spin_core.proofs.Plays.{Lock, Holds, idle_rests}
 use Rattle.spin_core.proofs.Ties as tie
 use Rattle.spin_core.proofs.Values.{step_leaves, write_leaves, owed, found, gave, wrote}
-use Rattle.spin_model.specs.declared.answer.Answer.{Answer}
-use Rattle.spin_model.specs.declared.place.Seat.{Seat}
-use Rattle.spin_model.specs.declared.place.Seat.TheVariants.{Idle}
-use Rattle.spin_model.specs.declared.schedule.Move.{Move}
-use Rattle.spin_model.specs.declared.schedule.Outcome.TheVariants.{Answered}
-use Rattle.spin_model.specs.Machines.{Machine}
-use Rattle.spin_model.specs.Schedules.{Entry}
+use Rattle.spin_step.specs.declared.answer.Answer.{Answer}
+use Rattle.spin_step.specs.declared.place.Seat.{Seat}
+use Rattle.spin_step.specs.declared.place.Seat.TheVariants.{Idle}
+use Rattle.spin_step.specs.declared.schedule.Move.{Move}
+use Rattle.spin_step.specs.declared.schedule.Outcome.TheVariants.{Answered}
+use Rattle.spin_step.specs.Machines.{Machine}
+use Rattle.spin_step.specs.Schedules.{Entry}
 
 -- A party is out if it is in no call and holds nothing (`IsOut`). If f gives the same for the idle view and for no
 -- view, f gives the same for each party that is out and for a new party.

@@ -4,21 +4,21 @@ use Rattle.std.proofs.Math.Seq.{drop-append_seam}
 use Rattle.std.proofs.lemmas.List.{append_assoc, map-append, replicate-append-replicate}
 use Rattle.std.proofs.lemmas.List.Elements.{filter-append}
 use Rattle.std.proofs.Math.Nat.{add_assoc}
-use Rattle.spin_model.specs.declared.schedule.Move.{Move}
-use Rattle.spin_model.specs.declared.schedule.Move.TheVariants.{Step}
-use Rattle.spin_model.specs.declared.schedule.Outcome.{Outcome}
-use Rattle.spin_model.specs.declared.schedule.Outcome.TheVariants.{GoingOn, Answered}
-use Rattle.spin_model.specs.Machines.{Machine}
-use Rattle.spin_model.specs.Schedules.{State, Entry, after, at_first, happens}
+use Rattle.spin_step.specs.declared.schedule.Move.{Move}
+use Rattle.spin_step.specs.declared.schedule.Move.TheVariants.{Step}
+use Rattle.spin_step.specs.declared.schedule.Outcome.{Outcome}
+use Rattle.spin_step.specs.declared.schedule.Outcome.TheVariants.{GoingOn, Answered}
+use Rattle.spin_step.specs.Machines.{Machine}
+use Rattle.spin_step.specs.Schedules.{State, Entry, after, at_first, happens}
 use Rattle.spin_core.specs.declared.trace.Watch.{Watch}
-use Rattle.spin_model.specs.declared.place.Seat.{Seat}
+use Rattle.spin_step.specs.declared.place.Seat.{Seat}
 use Rattle.spin_core.specs.Run.{outcomes}
 use Rattle.spin_core.specs.Own.{Numbered, what, by_party, entries_by, Tells}
 use Rattle.spin_core.specs.Passes.{mark_of, Course, Waits, Ends, Begins, IsCall, Says, IsStep, outcomes_by, Did, Made}
 use Rattle.spin_core.specs.Cell.{Ways, Moved}
 use Rattle.spin_core.specs.Traced.{Watches, Named}
 use Rattle.spin_core.specs.declared.trace.Trace.{Trace}
-use Rattle.spin_model.proofs.Schedules.{after-append}
+use Rattle.spin_step.proofs.Schedules.{after-append}
 use Rattle.spin_core.proofs.Owns.{by_of}
 
 -- R accepts moves of P followed by moves of Q

@@ -14,7 +14,7 @@ use Rattle.spin_core.proofs.trace.Trace.TheLaws as traces
 use Rattle.spin_core.proofs.Sends.{entry_over}
 use Rattle.spin_core.specs.contracts.tie.Opening as opening
 use Rattle.spin_core.proofs.tie.Opening.TheLaws as openings
-use Rattle.spin_model.proofs.schedule.Move.TheLaws as moves
+use Rattle.spin_step.proofs.schedule.Move.TheLaws as moves
 
 abbrev numbers : Laws usize
 numbers = of_field usize-field usize-laws refl (copy_shared usize-field usize-copy)

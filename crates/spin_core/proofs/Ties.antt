@@ -7,12 +7,12 @@ use Rattle.std.proofs.lemmas.List.Folds.{fold-map}
 use Rattle.spin_core.specs.declared.trace.Trace.{Trace}
 use Rattle.spin_core.specs.Cell.{Way, Ways, no_fact, Use, use_of, Rests, reading, writing, Limits, Knowledge, Owed, Meets, Stands, readers_of, writers_of, after, OnWord, AllowsTo}
 use Rattle.spin_core.specs.Traced.{grown_at, TracesTo}
-use Rattle.spin_model.specs.declared.place.Seat.{Seat}
-use Rattle.spin_model.specs.declared.place.Seat.TheVariants.{Idle}
-use Rattle.spin_model.specs.declared.schedule.Move.{Move}
-use Rattle.spin_model.specs.declared.schedule.Outcome.{Outcome}
-use Rattle.spin_model.specs.Machines.{Machine}
-use Rattle.spin_model.specs.Schedules.{Entry}
+use Rattle.spin_step.specs.declared.place.Seat.{Seat}
+use Rattle.spin_step.specs.declared.place.Seat.TheVariants.{Idle}
+use Rattle.spin_step.specs.declared.schedule.Move.{Move}
+use Rattle.spin_step.specs.declared.schedule.Outcome.{Outcome}
+use Rattle.spin_step.specs.Machines.{Machine}
+use Rattle.spin_step.specs.Schedules.{Entry}
 use Rattle.spin_core.specs.Run.{AreMoves}
 use Rattle.spin_core.specs.Passes.{Says}
 use Rattle.spin_core.specs.Own.{Numbered, by_party, what, Tells, Runs}

@@ -3,11 +3,11 @@
 use Rattle.std.specs.Prelude.{◌≡◌, ℕ, suc, ◌≤◌, Option, Some, None, List, [], ◌∷◌, ◌++◌, length, map, drop, ◌==◌}
 use Rattle.std.specs.Option.{IfSome, option_map}
 use Rattle.std.specs.List.{filter}
-use Rattle.spin_model.specs.declared.place.Seat.{Seat}
-use Rattle.spin_model.specs.declared.schedule.Move.{Move}
-use Rattle.spin_model.specs.declared.schedule.Outcome.{Outcome}
-use Rattle.spin_model.specs.Machines.{Machine}
-use Rattle.spin_model.specs.Schedules.{Entry}
+use Rattle.spin_step.specs.declared.place.Seat.{Seat}
+use Rattle.spin_step.specs.declared.schedule.Move.{Move}
+use Rattle.spin_step.specs.declared.schedule.Outcome.{Outcome}
+use Rattle.spin_step.specs.Machines.{Machine}
+use Rattle.spin_step.specs.Schedules.{Entry}
 use Rattle.spin_core.specs.Run.{IsPlayed, LeadsTo, AreOwn}
 use Rattle.spin_core.specs.declared.trace.Trace.{Trace}
 

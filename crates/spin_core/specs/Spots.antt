@@ -1,8 +1,8 @@
 -- What a party has done from one of its steps to a later one, in one lock.
 use Rattle.std.specs.Prelude.{◌≡◌, Bool, true, Option, Some}
-use Rattle.spin_model.specs.declared.schedule.Outcome.{Outcome}
-use Rattle.spin_model.specs.Machines.{Machine}
-use Rattle.spin_model.specs.Schedules.{Entry}
+use Rattle.spin_step.specs.declared.schedule.Outcome.{Outcome}
+use Rattle.spin_step.specs.Machines.{Machine}
+use Rattle.spin_step.specs.Schedules.{Entry}
 use Rattle.spin_core.specs.Own.{Numbered, what}
 use Rattle.spin_core.specs.Passes.{Course, Made, IsCall, IsStep, Begins, Waits, WritesSome}
 use Rattle.spin_core.specs.Values.{IsLast}

@@ -2,9 +2,9 @@
 use Rattle.std.specs.Prelude.{◌≡◌, true, false, Option, List}
 use Rattle.std.specs.Option.{IfSome}
 use Rattle.std.specs.List.{fold}
-use Rattle.spin_model.specs.declared.schedule.Move.{Move}
-use Rattle.spin_model.specs.declared.schedule.Move.TheVariants.{Write}
-use Rattle.spin_model.specs.Schedules.{Entry}
+use Rattle.spin_step.specs.declared.schedule.Move.{Move}
+use Rattle.spin_step.specs.declared.schedule.Move.TheVariants.{Write}
+use Rattle.spin_step.specs.Schedules.{Entry}
 use Rattle.spin_core.specs.Cell.{Use, writes, Knowledge, knows}
 use Rattle.spin_core.specs.declared.tie.Opening.{Opening}
 use Rattle.spin_core.specs.declared.trace.Trace.{Trace}

@@ -1,7 +1,7 @@
 //! What callers of any lock know of the values under it. Each law is the contract of a function that does nothing;
 //! begin at [`a_guard_reads_the_last_value_written`].
 ghost use Rattle.std.specs.Prelude.{◌≡◌, ◌++◌, List, true};
-ghost use Rattle.spin_model.specs.Schedules.{Entry};
+ghost use Rattle.spin_step.specs.Schedules.{Entry};
 ghost use Rattle.spin_core.specs.Values.{IsLast, latest};
 ghost use Rattle.spin_core.specs.declared.tie.Opening.{Opening};
 

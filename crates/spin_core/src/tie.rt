@@ -2,7 +2,7 @@
 ghost use Rattle.std.specs.Prelude.{◌≡◌, ℕ, Bool, true};
 
 use crate::trace::Trace;
-use spin_model::Move;
+use spin_step::Move;
 use std::marker::{Model, PhantomData};
 
 /// An entry of a lock's trace: the number of a party, and its move in the lock's model. No such value exists at run

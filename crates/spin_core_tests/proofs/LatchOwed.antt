@@ -4,8 +4,8 @@ use Rattle.spin_step.specs.Plain.{Plain, Kind, reading, writing, to_read, to_wri
 use Rattle.spin_step.specs.Parties.{Entries, entries, IsExclusive}
 use Rattle.spin_step.proofs.Sums.{sum-less}
 use Rattle.spin_step.proofs.Holders.{is_holder-from_entries}
-use Rattle.spin_model.specs.declared.place.Hold.{Hold}
-use Rattle.spin_model.specs.Acts.{begin_of}
+use Rattle.spin_step.specs.declared.place.Hold.{Hold}
+use Rattle.spin_step.specs.Acts.{begin_of}
 use Rattle.spin_world_core.proofs.Steps.{Plays}
 use Rattle.spin_world_core.proofs.Stands.{holds, entries_at}
 use Rattle.spin_world_core.proofs.Rows.{Point, starts, looked}

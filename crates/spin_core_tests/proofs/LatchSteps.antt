@@ -19,9 +19,9 @@ use Rattle.spin_core.proofs.Plays as plays
 use Rattle.spin_core.proofs.Plays.{Lock, Grants, Weighs, less_by, ways, looks_at, exchanges_at, leaves_at, begins}
 use Rattle.spin_core.proofs.Ties as tie
 use Rattle.spin_core.proofs.Views.{part_before}
-use Rattle.spin_model.specs.declared.answer.Answer.TheVariants.{Done}
-use Rattle.spin_model.specs.declared.schedule.Move.TheVariants.{Begin, Step}
-use Rattle.spin_model.specs.declared.schedule.Outcome.TheVariants.{Begun, Answered}
+use Rattle.spin_step.specs.declared.answer.Answer.TheVariants.{Done}
+use Rattle.spin_step.specs.declared.schedule.Move.TheVariants.{Begin, Step}
+use Rattle.spin_step.specs.declared.schedule.Outcome.TheVariants.{Begun, Answered}
 use Rattle.spin_core_tests.specs.declared.latch.calls.LatchCall.TheVariants as call
 use Rattle.spin_core_tests.specs.declared.latch.rule.View.{View}
 use Rattle.spin_core_tests.specs.declared.latch.rule.View.TheVariants.{Idle, Reading, Writing, Coming, WaitingToRead, WaitingToWrite}

@@ -2,12 +2,12 @@
 -- `Write` are answered.
 use Rattle.std.specs.Prelude.{◌≡◌, ℕ, true, Option, Some, None, [], ◌∷◌}
 use Rattle.spin_step.specs.Plain.{to_read, to_write, fresh}
-use Rattle.spin_model.specs.declared.place.Hold.{Hold}
-use Rattle.spin_model.specs.declared.place.Hold.TheVariants.{Read, Write}
-use Rattle.spin_model.specs.declared.answer.Answer.{Answer}
-use Rattle.spin_model.specs.Calls.{says_of}
-use Rattle.spin_model.specs.Asks.{gives_back, is_read, is_write, looks_and_tries, spins_to_write, tries, waits}
-use Rattle.spin_model.specs.Machines.{opening_plain}
+use Rattle.spin_step.specs.declared.place.Hold.{Hold}
+use Rattle.spin_step.specs.declared.place.Hold.TheVariants.{Read, Write}
+use Rattle.spin_step.specs.declared.answer.Answer.{Answer}
+use Rattle.spin_step.specs.Calls.{says_of}
+use Rattle.spin_step.specs.Asks.{gives_back, is_read, is_write, looks_and_tries, spins_to_write, tries, waits}
+use Rattle.spin_step.specs.Machines.{opening_plain}
 use Rattle.spin_world_core.specs.Kinds.{BeginAt, AnswersIn}
 use Rattle.spin_core_tests.specs.Latch.{latch_limit}
 use Rattle.spin_core_tests.specs.LatchTable.{LatchMachine}

@@ -6,13 +6,13 @@ use Rattle.spin_core.specs.Cell.{Use, lends, no_fact, Ways}
 use Rattle.spin_core.specs.Own.{Numbered, Runs, Tells}
 use Rattle.spin_core.specs.Views.{Part, idle, holds, Encodes, used_by, no_word}
 use Rattle.spin_core.specs.declared.trace.Trace.{Trace}
-use Rattle.spin_model.specs.declared.answer.Answer.{Answer}
-use Rattle.spin_model.specs.declared.place.Hold.TheVariants as hold
-use Rattle.spin_model.specs.declared.place.Seat.{Seat}
-use Rattle.spin_model.specs.declared.place.Seat.TheVariants as seat
-use Rattle.spin_model.specs.declared.schedule.Move.{Move}
-use Rattle.spin_model.specs.declared.schedule.Outcome.{Outcome}
-use Rattle.spin_model.specs.Schedules.{Entry}
+use Rattle.spin_step.specs.declared.answer.Answer.{Answer}
+use Rattle.spin_step.specs.declared.place.Hold.TheVariants as hold
+use Rattle.spin_step.specs.declared.place.Seat.{Seat}
+use Rattle.spin_step.specs.declared.place.Seat.TheVariants as seat
+use Rattle.spin_step.specs.declared.schedule.Move.{Move}
+use Rattle.spin_step.specs.declared.schedule.Outcome.{Outcome}
+use Rattle.spin_step.specs.Schedules.{Entry}
 use Rattle.spin_core_tests.specs.Latch.{latch_limit, latch_word, let_in}
 use Rattle.spin_core_tests.specs.LatchTable.{latch_machine}
 use Rattle.spin_core_tests.specs.declared.latch.calls.LatchCall.{LatchCall}

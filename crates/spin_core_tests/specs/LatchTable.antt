@@ -1,18 +1,18 @@
 -- The calls of a latch, step by step, what each step is in the plain lock, and what kind of lock a latch is.
 use Rattle.std.specs.Prelude.{ℕ, Bool, true, false, Option, Some, None, List, [], ◌∷◌, nat_lt}
 use Rattle.spin_step.specs.Plain.{reading, writing, Change, gets, releases, to_read, to_write}
-use Rattle.spin_model.specs.declared.place.Hold.{Hold}
-use Rattle.spin_model.specs.declared.place.Hold.TheVariants.{Read, Write}
-use Rattle.spin_model.specs.declared.step.Next.{Next}
-use Rattle.spin_model.specs.declared.step.Next.TheVariants.{Continue, Answers}
-use Rattle.spin_model.specs.declared.answer.Answer.{Answer}
-use Rattle.spin_model.specs.declared.answer.Answer.TheVariants.{Granted, Refused, Done}
-use Rattle.spin_model.specs.Calls.{Asked, LockKind, usual}
-use Rattle.spin_model.specs.Asks.{gives_back, is_read, is_write, looks_and_tries, spins_to_write, tries, waits}
-use Rattle.spin_model.specs.Machines.{Machine}
-use Rattle.spin_model.specs.Acts.{one_number, Act, load_for, exchange, weak_exchange, retry, store, swap, Table, machine_of}
-use Rattle.spin_model.specs.Tables.{usual_table}
-use Rattle.spin_model.specs.Operations.{subtracts}
+use Rattle.spin_step.specs.declared.place.Hold.{Hold}
+use Rattle.spin_step.specs.declared.place.Hold.TheVariants.{Read, Write}
+use Rattle.spin_step.specs.declared.stepped.Next.{Next}
+use Rattle.spin_step.specs.declared.stepped.Next.TheVariants.{Continue, Answers}
+use Rattle.spin_step.specs.declared.answer.Answer.{Answer}
+use Rattle.spin_step.specs.declared.answer.Answer.TheVariants.{Granted, Refused, Done}
+use Rattle.spin_step.specs.Calls.{Asked, LockKind, usual}
+use Rattle.spin_step.specs.Asks.{gives_back, is_read, is_write, looks_and_tries, spins_to_write, tries, waits}
+use Rattle.spin_step.specs.Machines.{Machine}
+use Rattle.spin_step.specs.Acts.{one_number, Act, load_for, exchange, weak_exchange, retry, store, swap, Table, machine_of}
+use Rattle.spin_step.specs.Tables.{usual_table}
+use Rattle.spin_step.specs.Operations.{subtracts}
 use Rattle.spin_core_tests.specs.Latch.{latch_limit, latch_word, let_in, taken}
 use Rattle.spin_core_tests.specs.declared.latch.calls.LatchCall.{LatchCall}
 use Rattle.spin_core_tests.specs.declared.latch.calls.LatchCall.TheVariants as call

@@ -8,12 +8,12 @@ use prog.Atomic.{either}
 use Rattle.spin_step_more.specs.Starvers.{most_starvers, is_set, starve}
 use Rattle.spin_core.specs.Passes.{Ending, leaves_by}
 use Rattle.spin_core.specs.Run.{AreMoves, by_first}
-use Rattle.spin_model.specs.declared.answer.Answer.TheVariants.{Granted, Refused, Is, Done}
-use Rattle.spin_model.specs.declared.place.Hold.TheVariants.{Write}
-use Rattle.spin_model.specs.declared.place.Seat.TheVariants as seat
-use Rattle.spin_model.specs.declared.schedule.Move.TheVariants.{Begin, Step}
-use Rattle.spin_model.specs.declared.schedule.Move.TheVariants as move
-use Rattle.spin_model.specs.declared.schedule.Outcome.TheVariants.{Begun, Answered, GoingOn, Written}
+use Rattle.spin_step.specs.declared.answer.Answer.TheVariants.{Granted, Refused, Is, Done}
+use Rattle.spin_step.specs.declared.place.Hold.TheVariants.{Write}
+use Rattle.spin_step.specs.declared.place.Seat.TheVariants as seat
+use Rattle.spin_step.specs.declared.schedule.Move.TheVariants.{Begin, Step}
+use Rattle.spin_step.specs.declared.schedule.Move.TheVariants as move
+use Rattle.spin_step.specs.declared.schedule.Outcome.TheVariants.{Begun, Answered, GoingOn, Written}
 use Rattle.spin_step_more.specs.declared.fair_calls.FairCall.{FairCall}
 use Rattle.spin_step_more.specs.declared.fair_calls.FairCall.TheVariants.{Lock, TryLock, TryLockStarver, IsLocked, Starve, StarverTryLockFair, StarverTryLock, StarverLock, StarverDrop, Release}
 use Rattle.spin_fair.specs.Fair.{seat_of, model, words_of, Says, Turn, says_of, refusal, looks_by, tries_by, alone_by, gives_up_by, tried_by, looked_by, registers_by, no_room_end, sets_by, awaits_by, served_by}

@@ -2,7 +2,7 @@
 use Rattle.std.specs.Prelude.{◌≡◌, ℕ, Bool, Option, List}
 use Rattle.spin_core.specs.Own.{Numbered}
 use Rattle.spin_core.specs.declared.tie.Opening.{Opening}
-use Rattle.spin_model.specs.declared.answer.Answer.TheVariants.{Granted, Is}
+use Rattle.spin_step.specs.declared.answer.Answer.TheVariants.{Granted, Is}
 use Rattle.spin_step_more.specs.declared.fair_calls.FairCall.TheVariants.{Lock, IsLocked, StarverLock}
 use Rattle.spin_fair.specs.Fair.{Done, Called, Left}
 use Rattle.spin_fair.specs.declared.fair.FairMutex.{FairMutex}

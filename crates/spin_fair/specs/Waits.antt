@@ -10,8 +10,8 @@ use Rattle.spin_core.specs.Passes.{Course, Waits, Ends}
 use Rattle.spin_core.specs.Traced.{Traces}
 use Rattle.spin_core.specs.Spots as spots
 use Rattle.spin_core.specs.Spots.{spot, Since}
-use Rattle.spin_model.specs.declared.answer.Answer.{Answer}
-use Rattle.spin_model.specs.declared.answer.Answer.TheVariants.{Granted}
+use Rattle.spin_step.specs.declared.answer.Answer.{Answer}
+use Rattle.spin_step.specs.declared.answer.Answer.TheVariants.{Granted}
 use Rattle.spin_step_more.specs.declared.fair_calls.FairCall.{FairCall}
 use Rattle.spin_step_more.specs.declared.fair_calls.FairCall.TheVariants.{Lock}
 use Rattle.spin_fair.specs.Fair.{Done, IsFair, fair_ways, Told, Turn, says_of, AreSteps, use_of_view, model_at, Comes, in_call, call_of, registered, registered_so, finds_no_room, no_room_so, finds_flag_set, flag_set_so}

@@ -23,14 +23,14 @@ use Rattle.spin_core.proofs.Plays as plays
 use Rattle.spin_core.proofs.Spots.{stays_in, is_answered}
 use Rattle.std.specs.Prelude.{Result, Ok, Err, IfOk, IfErr}
 use Rattle.spin_core.specs.declared.guard.Guard.{Guard}
-use Rattle.spin_model.specs.declared.answer.Answer.{Answer}
+use Rattle.spin_step.specs.declared.answer.Answer.{Answer}
 use Rattle.spin_core.proofs.Views.{release-own, part_before}
-use Rattle.spin_model.specs.declared.answer.Answer.TheVariants.{Granted, Refused, Is, Done}
-use Rattle.spin_model.specs.declared.flag.FlagCall.{FlagCall}
-use Rattle.spin_model.specs.declared.flag.FlagCall.TheVariants.{Lock, TryLock, IsLocked, Release}
-use Rattle.spin_model.specs.declared.flag.FlagPoint.{FlagPoint}
-use Rattle.spin_model.specs.declared.schedule.Move.TheVariants.{Begin, Step, Write}
-use Rattle.spin_model.specs.declared.schedule.Outcome.TheVariants.{Begun, Answered, GoingOn, Written}
+use Rattle.spin_step.specs.declared.answer.Answer.TheVariants.{Granted, Refused, Is, Done}
+use Rattle.spin_step.specs.declared.flag_calls.FlagCall.{FlagCall}
+use Rattle.spin_step.specs.declared.flag_calls.FlagCall.TheVariants.{Lock, TryLock, IsLocked, Release}
+use Rattle.spin_step.specs.declared.flag_calls.FlagPoint.{FlagPoint}
+use Rattle.spin_step.specs.declared.schedule.Move.TheVariants.{Begin, Step, Write}
+use Rattle.spin_step.specs.declared.schedule.Outcome.TheVariants.{Begun, Answered, GoingOn, Written}
 use Rattle.spin_flag.specs.Flag as flags
 use Rattle.spin_flag.specs.Flag.{part, IsFlag, Told, use_of_view, seat_of, model, model_at, words_of, flag_ways, use_of_party, Called, MayTry, has_begun, call_of, missed, missed_end, Says, looks_by, tries_by, frees_by, looked_by, if_clear}
 use Rattle.spin_flag.specs.Guards.{IsGranted}

@@ -14,20 +14,20 @@ use Rattle.spin_core.specs.declared.tie.Opening.{Opening}
 use Rattle.spin_core.specs.declared.trace.Trace.{Trace}
 use Rattle.spin_flag.specs.declared.spin.rule.View.{View}
 use Rattle.spin_flag.specs.declared.spin.rule.View.TheVariants.{Idle, Holding, Trying, Looking}
-use Rattle.spin_model.specs.declared.place.Hold.TheVariants.{Write}
-use Rattle.spin_model.specs.declared.place.Seat.{Seat}
-use Rattle.spin_model.specs.declared.place.Seat.TheVariants as seat
-use Rattle.spin_model.specs.declared.answer.Answer.{Answer}
-use Rattle.spin_model.specs.declared.answer.Answer.TheVariants.{Granted, Refused, Is}
-use Rattle.spin_model.specs.declared.answer.Answer.TheVariants as answer
-use Rattle.spin_model.specs.declared.flag.FlagCall.{FlagCall}
-use Rattle.spin_model.specs.declared.flag.FlagCall.TheVariants.{Lock, TryLock, IsLocked, Release}
-use Rattle.spin_model.specs.declared.flag.FlagPoint.{FlagPoint}
-use Rattle.spin_model.specs.declared.flag.FlagPoint.TheVariants.{First, Second}
-use Rattle.spin_model.specs.declared.schedule.Outcome.TheVariants.{Answered, GoingOn}
-use Rattle.spin_model.specs.Flag.{flag_machine}
-use Rattle.spin_model.specs.Machines.{Machine}
-use Rattle.spin_model.specs.Schedules.{Entry}
+use Rattle.spin_step.specs.declared.place.Hold.TheVariants.{Write}
+use Rattle.spin_step.specs.declared.place.Seat.{Seat}
+use Rattle.spin_step.specs.declared.place.Seat.TheVariants as seat
+use Rattle.spin_step.specs.declared.answer.Answer.{Answer}
+use Rattle.spin_step.specs.declared.answer.Answer.TheVariants.{Granted, Refused, Is}
+use Rattle.spin_step.specs.declared.answer.Answer.TheVariants as answer
+use Rattle.spin_step.specs.declared.flag_calls.FlagCall.{FlagCall}
+use Rattle.spin_step.specs.declared.flag_calls.FlagCall.TheVariants.{Lock, TryLock, IsLocked, Release}
+use Rattle.spin_step.specs.declared.flag_calls.FlagPoint.{FlagPoint}
+use Rattle.spin_step.specs.declared.flag_calls.FlagPoint.TheVariants.{First, Second}
+use Rattle.spin_step.specs.declared.schedule.Outcome.TheVariants.{Answered, GoingOn}
+use Rattle.spin_step.specs.FlagCalls.{flag_machine}
+use Rattle.spin_step.specs.Machines.{Machine}
+use Rattle.spin_step.specs.Schedules.{Entry}
 
 abbrev pub part : View → Part
 part Holding = holds writing

@@ -1,8 +1,8 @@
 -- What a pass knows: the lock's history up to the pass's last step, and which moves of the history are its own.
 use Rattle.std.specs.Prelude.{◌≡◌, ℕ, Bool, Option, List}
 use Rattle.spin_core.specs.Own.{Numbered}
-use Rattle.spin_model.specs.declared.answer.Answer.TheVariants.{Granted, Is}
-use Rattle.spin_model.specs.declared.flag.FlagCall.TheVariants.{Lock, IsLocked}
+use Rattle.spin_step.specs.declared.answer.Answer.TheVariants.{Granted, Is}
+use Rattle.spin_step.specs.declared.flag_calls.FlagCall.TheVariants.{Lock, IsLocked}
 use Rattle.spin_core.specs.declared.tie.Opening.{Opening}
 use Rattle.spin_flag.specs.Flag.{Done, Called, Left}
 use Rattle.spin_flag.specs.declared.spin.SpinMutex.{SpinMutex}

@@ -8,9 +8,9 @@ use Rattle.spin_core.specs.Spots.{spot, Since, Stepped, IsIn, HasCalled}
 use Rattle.spin_core.specs.declared.guard.Guard.{Guard}
 use Rattle.spin_core.specs.declared.tie.Opening.{Opening}
 use Rattle.spin_core.specs.declared.trace.Watch.{Watch}
-use Rattle.spin_model.specs.declared.answer.Answer.TheVariants.{Granted}
-use Rattle.spin_model.specs.declared.flag.FlagCall.TheVariants.{Lock}
-use Rattle.spin_model.specs.declared.schedule.Outcome.TheVariants.{Answered}
+use Rattle.spin_step.specs.declared.answer.Answer.TheVariants.{Granted}
+use Rattle.spin_step.specs.declared.flag_calls.FlagCall.TheVariants.{Lock}
+use Rattle.spin_step.specs.declared.schedule.Outcome.TheVariants.{Answered}
 use Rattle.spin_flag.specs.Flag.{Done, model_at, call_of, has_begun, missed, missed_end}
 use Rattle.spin_flag.specs.Guards.{IsGranted}
 use Rattle.spin_flag.specs.declared.spin.account.Account.{Account}

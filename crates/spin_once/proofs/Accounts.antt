@@ -11,20 +11,20 @@ use Rattle.spin_once.specs.declared.once_core.account.Found.{Found}
 use Rattle.spin_core.specs.declared.trace.Watch.{Watch}
 use Rattle.spin_core.proofs.Passes as passes
 use Rattle.spin_core.proofs.Passes.{Learnt}
-use Rattle.spin_model.specs.declared.answer.Answer.{Answer}
-use Rattle.spin_model.specs.declared.once.OnceCall.{OnceCall}
-use Rattle.spin_model.specs.declared.once.OnceCall.TheVariants.{CallOnce, TryCallOnceOk}
-use Rattle.spin_model.specs.declared.once.OncePoint.{OncePoint}
-use Rattle.spin_model.specs.declared.once.OncePoint.TheVariants.{Look, Run}
-use Rattle.spin_model.specs.declared.schedule.Move.TheVariants.{Step, Weak}
-use Rattle.spin_model.specs.declared.schedule.Outcome.TheVariants.{GoingOn, Answered}
-use Rattle.spin_model.specs.declared.step.Next.TheVariants.{Continue, Answers}
-use Rattle.spin_model.specs.declared.answer.Answer.TheVariants.{Failed, Value, Is}
+use Rattle.spin_step.specs.declared.answer.Answer.{Answer}
+use Rattle.spin_step.specs.declared.once_calls.OnceCall.{OnceCall}
+use Rattle.spin_step.specs.declared.once_calls.OnceCall.TheVariants.{CallOnce, TryCallOnceOk}
+use Rattle.spin_step.specs.declared.once_calls.OncePoint.{OncePoint}
+use Rattle.spin_step.specs.declared.once_calls.OncePoint.TheVariants.{Look, Run}
+use Rattle.spin_step.specs.declared.schedule.Move.TheVariants.{Step, Weak}
+use Rattle.spin_step.specs.declared.schedule.Outcome.TheVariants.{GoingOn, Answered}
+use Rattle.spin_step.specs.declared.stepped.Next.TheVariants.{Continue, Answers}
+use Rattle.spin_step.specs.declared.answer.Answer.TheVariants.{Failed, Value, Is}
 use Rattle.spin_core.proofs.Ties as tie
 use Rattle.spin_core.specs.Stable.{maybe_stable}
 use Rattle.spin_core.specs.declared.cell.stable.MaybeStable.{MaybeStable}
 use Rattle.spin_core.specs.declared.tie.Opening.{Opening}
-use Rattle.spin_model.specs.Machines.{Machine}
+use Rattle.spin_step.specs.Machines.{Machine}
 use Rattle.spin_once.specs.Accounts.{Place, Since, Turned, here, Claims, Attempts, Finds}
 use Rattle.spin_once.specs.Model.{Point, model}
 use Rattle.spin_once.specs.OnceValues.{Valued, Made, bare, bare_watch, given_of, IsValue, Sees}

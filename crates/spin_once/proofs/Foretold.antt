@@ -6,15 +6,15 @@ use Rattle.std.specs.List.{list_all}
 use Rattle.std.proofs.Math.Seq.{take-append_seam}
 use Rattle.std.proofs.lemmas.Bool.{and_parts, eqb-false}
 use Rattle.std.proofs.lemmas.List.{append-nil}
-use Rattle.spin_model.specs.declared.once.OnceCall.TheVariants.{TryCallOnceOk}
-use Rattle.spin_model.specs.declared.once.OncePoint.{OncePoint}
-use Rattle.spin_model.specs.declared.once.OncePoint.TheVariants.{Run}
-use Rattle.spin_model.specs.declared.place.Hold.{Hold}
-use Rattle.spin_model.specs.declared.place.Seat.{Seat}
-use Rattle.spin_model.specs.declared.place.Seat.TheVariants.{Idle, Calling}
-use Rattle.spin_model.specs.declared.schedule.Move.TheVariants.{Begin, Step, Weak}
-use Rattle.spin_model.specs.Schedules.{after, happens, moves, moves_at, at_first}
-use Rattle.spin_model.proofs.Lists.{get-set_same}
+use Rattle.spin_step.specs.declared.once_calls.OnceCall.TheVariants.{TryCallOnceOk}
+use Rattle.spin_step.specs.declared.once_calls.OncePoint.{OncePoint}
+use Rattle.spin_step.specs.declared.once_calls.OncePoint.TheVariants.{Run}
+use Rattle.spin_step.specs.declared.place.Hold.{Hold}
+use Rattle.spin_step.specs.declared.place.Seat.{Seat}
+use Rattle.spin_step.specs.declared.place.Seat.TheVariants.{Idle, Calling}
+use Rattle.spin_step.specs.declared.schedule.Move.TheVariants.{Begin, Step, Weak}
+use Rattle.spin_step.specs.Schedules.{after, happens, moves, moves_at, at_first}
+use Rattle.spin_step.proofs.Lists.{get-set_same}
 use Rattle.spin_core.specs.Own.{Numbered, IsRun, Rested, present_from, kind, entries_by}
 use Rattle.spin_core.specs.Run.{is_played, outcomes, IsPlayed, LeadsTo, sits}
 use Rattle.spin_once.specs.Foretold.{fails_by, will_fail, named, told_of, foretold, place_of, counted}

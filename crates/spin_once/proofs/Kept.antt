@@ -12,12 +12,12 @@ use Rattle.spin_core.specs.declared.trace.Trace.{Trace}
 use Rattle.spin_core.proofs.CellWays.{knowing_rest}
 use Rattle.spin_core.proofs.Ties as tie
 use Rattle.spin_core.specs.Run.{by_first}
-use Rattle.spin_model.specs.declared.once.OnceCall.{OnceCall}
-use Rattle.spin_model.specs.declared.once.OnceCall.TheVariants.{CallOnce, TryCallOnceOk}
-use Rattle.spin_model.specs.declared.once.OncePoint.TheVariants.{TryBegin, Run}
-use Rattle.spin_model.specs.declared.place.Seat.TheVariants as seat
-use Rattle.spin_model.specs.declared.schedule.Move.TheVariants.{Write, Weak, Step}
-use Rattle.spin_model.specs.Schedules.{State}
+use Rattle.spin_step.specs.declared.once_calls.OnceCall.{OnceCall}
+use Rattle.spin_step.specs.declared.once_calls.OnceCall.TheVariants.{CallOnce, TryCallOnceOk}
+use Rattle.spin_step.specs.declared.once_calls.OncePoint.TheVariants.{TryBegin, Run}
+use Rattle.spin_step.specs.declared.place.Seat.TheVariants as seat
+use Rattle.spin_step.specs.declared.schedule.Move.TheVariants.{Write, Weak, Step}
+use Rattle.spin_step.specs.Schedules.{State}
 use Rattle.spin_once.specs.Model.{Point, model}
 use Rattle.spin_once.specs.OnceValues.{Valued, bare, bare_trace, given_of, made, AtMostOne, IsMade, lent_key}
 use Rattle.spin_once.specs.Once.{OneMove, Ending, use_of_view, use_of_party, Word, is_done, IsMadeFrom, once_ways, seat_of, words_of, Says, IsOnce, Told, call_from, point_of, has_begun, next_at, outcome_of, view_of, turn_by, is_load, closure_call, in_closure, is_running, fails_by}

@@ -3,21 +3,21 @@
 use Rattle.std.proofs.Common.{◌≡◌, ◌≢◌, Bool, true, false, ℕ, ◌==◌, [], ◌∷◌, Option, Some, None, refl, sym, ap, subst, ◌∙◌, ne_eqb, eqb-true}
 use Rattle.std.specs.List.{list_all}
 use Rattle.spin_core.specs.Run.{AreMoves, is_played, by_first}
-use Rattle.spin_model.specs.declared.answer.Answer.{Answer}
-use Rattle.spin_model.specs.declared.answer.Answer.TheVariants.{Value, NoValue, Is, Failed}
-use Rattle.spin_model.specs.declared.once.OnceCall.{OnceCall}
-use Rattle.spin_model.specs.declared.once.OnceCall.TheVariants.{CallOnce, Wait, Poll, Get, IsCompleted}
-use Rattle.spin_model.specs.declared.once.OncePoint.{OncePoint}
-use Rattle.spin_model.specs.declared.once.OncePoint.TheVariants.{Look, TryBegin, Await, Run}
-use Rattle.spin_model.specs.declared.place.Seat.TheVariants as seat
-use Rattle.spin_model.specs.declared.schedule.Move.TheVariants.{Begin, Step, Weak}
-use Rattle.spin_model.specs.declared.schedule.Outcome.TheVariants.{Begun, GoingOn, Answered}
-use Rattle.spin_model.specs.declared.step.Next.{Next}
-use Rattle.spin_model.specs.declared.step.Next.TheVariants.{Continue, Answers}
-use Rattle.spin_model.specs.declared.step.Stepped.{Stepped}
-use Rattle.spin_model.specs.Acts.{either, filled}
-use Rattle.spin_model.specs.Once.{OnceMachine, once_machine}
-use Rattle.spin_model.specs.Schedules.{State, begun, goes_on, happens, placed}
+use Rattle.spin_step.specs.declared.answer.Answer.{Answer}
+use Rattle.spin_step.specs.declared.answer.Answer.TheVariants.{Value, NoValue, Is, Failed}
+use Rattle.spin_step.specs.declared.once_calls.OnceCall.{OnceCall}
+use Rattle.spin_step.specs.declared.once_calls.OnceCall.TheVariants.{CallOnce, Wait, Poll, Get, IsCompleted}
+use Rattle.spin_step.specs.declared.once_calls.OncePoint.{OncePoint}
+use Rattle.spin_step.specs.declared.once_calls.OncePoint.TheVariants.{Look, TryBegin, Await, Run}
+use Rattle.spin_step.specs.declared.place.Seat.TheVariants as seat
+use Rattle.spin_step.specs.declared.schedule.Move.TheVariants.{Begin, Step, Weak}
+use Rattle.spin_step.specs.declared.schedule.Outcome.TheVariants.{Begun, GoingOn, Answered}
+use Rattle.spin_step.specs.declared.stepped.Next.{Next}
+use Rattle.spin_step.specs.declared.stepped.Next.TheVariants.{Continue, Answers}
+use Rattle.spin_step.specs.declared.stepped.Stepped.{Stepped}
+use Rattle.spin_step.specs.Acts.{either, filled}
+use Rattle.spin_step.specs.OnceCalls.{OnceMachine, once_machine}
+use Rattle.spin_step.specs.Schedules.{State, begun, goes_on, happens, placed}
 use Rattle.spin_once.specs.Model.{Point, at, onward, model}
 use mathlib.Core.Logic.{◌⊎◌, inl, inr}
 use Rattle.spin_core.specs.Cell.{off, reads}

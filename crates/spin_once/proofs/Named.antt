@@ -4,22 +4,22 @@ use Rattle.std.proofs.Common.{◌≡◌, ℕ, zero, suc, Bool, true, false, Opti
 use Rattle.std.specs.Option.{option_map}
 use Rattle.std.specs.List.{list_all}
 use Rattle.std.specs.Prelude.{if◌then◌else◌}
-use Rattle.spin_model.specs.declared.answer.Answer.{Answer}
-use Rattle.spin_model.specs.declared.once.OnceCall.TheVariants.{TryCallOnceOk, TryCallOnceErr}
-use Rattle.spin_model.specs.declared.once.OncePoint.{OncePoint}
-use Rattle.spin_model.specs.declared.once.OncePoint.TheVariants.{Run}
-use Rattle.spin_model.specs.declared.place.Hold.{Hold}
-use Rattle.spin_model.specs.declared.place.Seat.{Seat}
-use Rattle.spin_model.specs.declared.place.Seat.TheVariants.{Idle, Calling, Holding, Leaked, Gone}
-use Rattle.spin_model.specs.declared.schedule.Move.TheVariants.{Begin, Step, Weak, Read, Write, Leak, OwnerGet, OwnerSet}
-use Rattle.spin_model.specs.declared.step.Next.{Next}
-use Rattle.spin_model.specs.declared.step.Next.TheVariants.{Continue, Answers}
-use Rattle.spin_model.specs.declared.step.Stepped.{Stepped}
-use Rattle.spin_model.specs.Acts.{one_number, step_by, completes_by, filled}
-use Rattle.spin_model.specs.Machines.{Machine}
-use Rattle.spin_model.specs.Once.{OnceMachine, once_machine, act_of, brings_of}
-use Rattle.spin_model.specs.Schedules.{State, Happened, moves, seated, begun, goes_on, stepped, resting, placed, read_by, written_by, yields_to_owner, seen_by_owner, owner_gets, owner_sets, owner_writes}
-use Rattle.spin_model.proofs.Lists.{get-set_same}
+use Rattle.spin_step.specs.declared.answer.Answer.{Answer}
+use Rattle.spin_step.specs.declared.once_calls.OnceCall.TheVariants.{TryCallOnceOk, TryCallOnceErr}
+use Rattle.spin_step.specs.declared.once_calls.OncePoint.{OncePoint}
+use Rattle.spin_step.specs.declared.once_calls.OncePoint.TheVariants.{Run}
+use Rattle.spin_step.specs.declared.place.Hold.{Hold}
+use Rattle.spin_step.specs.declared.place.Seat.{Seat}
+use Rattle.spin_step.specs.declared.place.Seat.TheVariants.{Idle, Calling, Holding, Leaked, Gone}
+use Rattle.spin_step.specs.declared.schedule.Move.TheVariants.{Begin, Step, Weak, Read, Write, Leak, OwnerGet, OwnerSet}
+use Rattle.spin_step.specs.declared.stepped.Next.{Next}
+use Rattle.spin_step.specs.declared.stepped.Next.TheVariants.{Continue, Answers}
+use Rattle.spin_step.specs.declared.stepped.Stepped.{Stepped}
+use Rattle.spin_step.specs.Acts.{one_number, step_by, completes_by, filled}
+use Rattle.spin_step.specs.Machines.{Machine}
+use Rattle.spin_step.specs.OnceCalls.{OnceMachine, once_machine, act_of, brings_of}
+use Rattle.spin_step.specs.Schedules.{State, Happened, moves, seated, begun, goes_on, stepped, resting, placed, read_by, written_by, yields_to_owner, seen_by_owner, owner_gets, owner_sets, owner_writes}
+use Rattle.spin_step.proofs.Lists.{get-set_same}
 use Rattle.spin_core.specs.Run.{is_played}
 use Rattle.spin_once.specs.Foretold.{named}
 use Rattle.spin_once.specs.Model.{Point, at, failed, onward, model}

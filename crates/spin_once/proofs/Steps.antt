@@ -10,8 +10,8 @@ use Rattle.spin_core.specs.Cell.{Use, off, reads, writes, reading, writing, use_
 use Rattle.spin_core.specs.Stable.{maybe_stable}
 use Rattle.spin_core.specs.declared.cell.stable.MaybeStable.{MaybeStable}
 use Rattle.spin_core.proofs.CellCounts.{moves, without}
-use Rattle.spin_model.specs.declared.once.OnceCall.{OnceCall}
-use Rattle.spin_model.specs.declared.once.OncePoint.TheVariants.{TryBegin, Run}
+use Rattle.spin_step.specs.declared.once_calls.OnceCall.{OnceCall}
+use Rattle.spin_step.specs.declared.once_calls.OncePoint.TheVariants.{TryBegin, Run}
 use Rattle.spin_once.specs.Once.{use_of_view, readers, runs, IsPhaseOf, in_phase, Word, once_ways, point_of, is_load}
 use Rattle.spin_once.specs.declared.once_core.rule.Key.{Key}
 use Rattle.spin_once.specs.declared.once_core.rule.View.{View}

@@ -12,9 +12,9 @@ use Rattle.spin_core.specs.declared.tie.Opening.{Opening}
 use Rattle.spin_core.specs.declared.trace.Trace.{Trace}
 use Rattle.spin_core.specs.declared.trace.Watch.{Watch}
 use Rattle.spin_core.proofs.CellWays.{going_map}
-use Rattle.spin_model.specs.declared.once.OnceCall.{OnceCall}
-use Rattle.spin_model.specs.declared.schedule.Move.{Move}
-use Rattle.spin_model.specs.declared.schedule.Move.TheVariants.{Begin, Step, Weak}
+use Rattle.spin_step.specs.declared.once_calls.OnceCall.{OnceCall}
+use Rattle.spin_step.specs.declared.schedule.Move.{Move}
+use Rattle.spin_step.specs.declared.schedule.Move.TheVariants.{Begin, Step, Weak}
 use Rattle.spin_once.specs.Model.{model}
 use Rattle.spin_once.specs.Once.{OneMove, Ending, Says, Word, use_of_view, use_of_party, once_ways, seat_of, words_of, IsOnce, Told}
 use Rattle.spin_once.specs.OnceValues.{Valued, Made, bare_move, bare, bare_trace, bare_watch, value_of, values_of, values, lies_in, given_of, made, AtMostOne, IsMade, IsValue, uses, Sees}

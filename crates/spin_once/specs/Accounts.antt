@@ -5,9 +5,9 @@ use Rattle.spin_core.specs.Own.{Numbered, what}
 use Rattle.spin_core.specs.Passes.{Ends, Waits, IsCall}
 use Rattle.spin_core.specs.Stable.{maybe_stable}
 use Rattle.spin_core.specs.declared.trace.Watch.{Watch}
-use Rattle.spin_model.specs.declared.answer.Answer.TheVariants.{Value, NoValue}
-use Rattle.spin_model.specs.declared.once.OnceCall.{OnceCall}
-use Rattle.spin_model.specs.declared.once.OncePoint.TheVariants.{Await, Run}
+use Rattle.spin_step.specs.declared.answer.Answer.TheVariants.{Value, NoValue}
+use Rattle.spin_step.specs.declared.once_calls.OnceCall.{OnceCall}
+use Rattle.spin_step.specs.declared.once_calls.OncePoint.TheVariants.{Await, Run}
 use Rattle.spin_once.specs.OnceValues.{Valued, bare, given_of}
 use Rattle.spin_once.specs.Once.{Moving, Moves, use_of_party, call_from, point_of, has_begun, next_at, view_of, Comes, in_closure}
 use Rattle.spin_once.specs.declared.once_core.account.Account.{Account}

@@ -3,12 +3,12 @@
 -- out the move that reports the failure.
 use Rattle.std.specs.Prelude.{ℕ, Bool, true, false, None, List, [], ◌∷◌, length, take, if◌then◌else◌, ◌==◌}
 use Rattle.spin_core.specs.Own.{Numbered}
-use Rattle.spin_model.specs.declared.once.OnceCall.{OnceCall}
-use Rattle.spin_model.specs.declared.once.OnceCall.TheVariants.{TryCallOnceOk, TryCallOnceErr}
-use Rattle.spin_model.specs.declared.once.OncePoint.{OncePoint}
-use Rattle.spin_model.specs.declared.place.Seat.{Seat}
-use Rattle.spin_model.specs.declared.place.Seat.TheVariants as seat
-use Rattle.spin_model.specs.declared.schedule.Move.TheVariants.{Begin, Weak}
+use Rattle.spin_step.specs.declared.once_calls.OnceCall.{OnceCall}
+use Rattle.spin_step.specs.declared.once_calls.OnceCall.TheVariants.{TryCallOnceOk, TryCallOnceErr}
+use Rattle.spin_step.specs.declared.once_calls.OncePoint.{OncePoint}
+use Rattle.spin_step.specs.declared.place.Seat.{Seat}
+use Rattle.spin_step.specs.declared.place.Seat.TheVariants as seat
+use Rattle.spin_step.specs.declared.schedule.Move.TheVariants.{Begin, Weak}
 use Rattle.spin_once.specs.OnceValues.{Made}
 use Rattle.spin_once.specs.Once.{OneMove}
 use Rattle.spin_once.specs.declared.once_core.rule.View.{View}

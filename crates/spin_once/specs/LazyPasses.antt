@@ -1,8 +1,8 @@
 -- What a pass of a `LazyLock` knows: the history up to the pass's last step, and which moves of the history are its own.
 use Rattle.std.specs.Prelude.{ℕ, List}
 use Rattle.spin_core.specs.Passes.{IsCall}
-use Rattle.spin_model.specs.declared.answer.Answer.TheVariants.{Value}
-use Rattle.spin_model.specs.declared.once.OnceCall.TheVariants.{CallOnce}
+use Rattle.spin_step.specs.declared.answer.Answer.TheVariants.{Value}
+use Rattle.spin_step.specs.declared.once_calls.OnceCall.TheVariants.{CallOnce}
 use Rattle.spin_once.specs.Accounts.{here, seed_of, Since}
 use Rattle.spin_core.specs.declared.tie.Opening.{Opening}
 use Rattle.spin_once.specs.OnceValues.{Valued}

@@ -14,21 +14,21 @@ use Rattle.spin_core.specs.Views.{no_word}
 use Rattle.spin_core.specs.declared.cell.stable.MaybeStable.{MaybeStable}
 use Rattle.spin_core.specs.declared.tie.Opening.{Opening}
 use Rattle.spin_core.specs.declared.trace.Trace.{Trace}
-use Rattle.spin_model.specs.declared.answer.Answer.{Answer}
-use Rattle.spin_model.specs.declared.answer.Answer.TheVariants.{Value, Is, Failed}
-use Rattle.spin_model.specs.declared.once.OnceCall.{OnceCall}
-use Rattle.spin_model.specs.declared.once.OnceCall.TheVariants.{CallOnce, TryCallOnceOk}
-use Rattle.spin_model.specs.declared.once.OncePoint.{OncePoint}
-use Rattle.spin_model.specs.declared.once.OncePoint.TheVariants.{Look, Await, Run}
-use Rattle.spin_model.specs.declared.place.Seat.{Seat}
-use Rattle.spin_model.specs.declared.place.Seat.TheVariants as seat
-use Rattle.spin_model.specs.declared.schedule.Move.{Move}
-use Rattle.spin_model.specs.declared.schedule.Move.TheVariants.{Step, Weak}
-use Rattle.spin_model.specs.declared.schedule.Outcome.{Outcome}
-use Rattle.spin_model.specs.declared.schedule.Outcome.TheVariants.{GoingOn, Answered}
-use Rattle.spin_model.specs.declared.step.Next.{Next}
-use Rattle.spin_model.specs.declared.step.Next.TheVariants.{Continue, Answers}
-use Rattle.spin_model.specs.Once.{OnceMachine, once_machine}
+use Rattle.spin_step.specs.declared.answer.Answer.{Answer}
+use Rattle.spin_step.specs.declared.answer.Answer.TheVariants.{Value, Is, Failed}
+use Rattle.spin_step.specs.declared.once_calls.OnceCall.{OnceCall}
+use Rattle.spin_step.specs.declared.once_calls.OnceCall.TheVariants.{CallOnce, TryCallOnceOk}
+use Rattle.spin_step.specs.declared.once_calls.OncePoint.{OncePoint}
+use Rattle.spin_step.specs.declared.once_calls.OncePoint.TheVariants.{Look, Await, Run}
+use Rattle.spin_step.specs.declared.place.Seat.{Seat}
+use Rattle.spin_step.specs.declared.place.Seat.TheVariants as seat
+use Rattle.spin_step.specs.declared.schedule.Move.{Move}
+use Rattle.spin_step.specs.declared.schedule.Move.TheVariants.{Step, Weak}
+use Rattle.spin_step.specs.declared.schedule.Outcome.{Outcome}
+use Rattle.spin_step.specs.declared.schedule.Outcome.TheVariants.{GoingOn, Answered}
+use Rattle.spin_step.specs.declared.stepped.Next.{Next}
+use Rattle.spin_step.specs.declared.stepped.Next.TheVariants.{Continue, Answers}
+use Rattle.spin_step.specs.OnceCalls.{OnceMachine, once_machine}
 use Rattle.spin_once.specs.Model.{Point, at, model}
 use Rattle.spin_once.specs.OnceValues.{Valued, Made, bare, bare_trace, given_of, made, AtMostOne, IsMade}
 use Rattle.spin_once.specs.declared.once_core.rule.Key.{Key}

@@ -8,10 +8,10 @@ use Rattle.spin_core.specs.declared.cell.stable.MaybeStable.{MaybeStable}
 use Rattle.spin_core.specs.declared.tie.Opening.{Opening}
 use Rattle.spin_core.specs.declared.trace.Trace.{Trace}
 use Rattle.spin_core.specs.declared.trace.Watch.{Watch}
-use Rattle.spin_model.specs.declared.once.OnceCall.{OnceCall}
-use Rattle.spin_model.specs.declared.schedule.Move.{Move}
-use Rattle.spin_model.specs.declared.schedule.Move.TheVariants.{Begin, Step, Weak, Read, Write, Leak, OwnerGet, OwnerSet}
-use Rattle.spin_model.specs.Schedules.{Entry}
+use Rattle.spin_step.specs.declared.once_calls.OnceCall.{OnceCall}
+use Rattle.spin_step.specs.declared.schedule.Move.{Move}
+use Rattle.spin_step.specs.declared.schedule.Move.TheVariants.{Begin, Step, Weak, Read, Write, Leak, OwnerGet, OwnerSet}
+use Rattle.spin_step.specs.Schedules.{Entry}
 use Rattle.spin_once.specs.declared.once_core.rule.Key.{Key}
 use Rattle.spin_once.specs.declared.once_core.rule.Stage.{Stage}
 use Rattle.spin_once.specs.declared.once_core.rule.Stage.TheVariants.{Done}

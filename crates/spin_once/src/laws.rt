@@ -4,7 +4,7 @@ ghost use mathlib.Core.List.{IsPrefix};
 ghost use Rattle.spin_core.specs.Own.{Numbered, IsRun};
 ghost use Rattle.spin_core.specs.declared.tie.Opening.{Opening};
 ghost use Rattle.spin_core.specs.declared.trace.Trace.{Trace};
-ghost use Rattle.spin_model.specs.Once.{once_machine};
+ghost use Rattle.spin_step.specs.OnceCalls.{once_machine};
 ghost use Rattle.spin_once.specs.Foretold.{foretold, counted, place_of};
 ghost use Rattle.spin_once.specs.Once.{IsOnce, words_of};
 ghost use Rattle.spin_once.specs.OnceValues.{Valued, bare, given_of, IsValue};

@@ -3,12 +3,12 @@
 ghost use Rattle.std.specs.Prelude.{◌≡◌, Some, true, false, []};
 ghost use Rattle.spin_core.specs.Own.{what};
 ghost use Rattle.spin_core.specs.Passes.{Ends, IsCall};
-ghost use Rattle.spin_model.specs.declared.answer.Answer.TheVariants.{Value};
-ghost use Rattle.spin_model.specs.declared.once.OnceCall.TheVariants.{CallOnce};
+ghost use Rattle.spin_step.specs.declared.answer.Answer.TheVariants.{Value};
+ghost use Rattle.spin_step.specs.declared.once_calls.OnceCall.TheVariants.{CallOnce};
 ghost use Rattle.spin_once.specs.Accounts.{here, seed_of, Since};
 ghost use Rattle.spin_once.specs.Lazy.{initialiser, promise};
 ghost use Rattle.spin_once.specs.LazyPasses.{opening};
-ghost use Rattle.spin_model.specs.declared.once.OncePoint.TheVariants.{TryBegin};
+ghost use Rattle.spin_step.specs.declared.once_calls.OncePoint.TheVariants.{TryBegin};
 ghost use Rattle.spin_once.specs.Once.{is_out, in_closure};
 ghost use Rattle.spin_once.specs.OnceValues.{lies_in};
 

@@ -10,15 +10,15 @@ use Rattle.spin_step.specs.Steps.{Decides}
 use Rattle.spin_step_more.specs.Readers.{reader_limit, OneOfEach, readers_in, writers_in}
 use Rattle.spin_step_more.specs.declared.rw_calls.RwCall.{RwCall}
 use Rattle.spin_step_more.specs.declared.rw_calls.RwCall.TheVariants as call
-use Rattle.spin_model.specs.declared.answer.Answer.{Answer}
-use Rattle.spin_model.specs.declared.answer.Answer.TheVariants.{Done}
-use Rattle.spin_model.specs.declared.place.Hold.TheVariants as hold
-use Rattle.spin_model.specs.declared.place.Seat.{Seat}
-use Rattle.spin_model.specs.declared.place.Seat.TheVariants as seat
-use Rattle.spin_model.specs.Schedules.{State, after}
+use Rattle.spin_step.specs.declared.answer.Answer.{Answer}
+use Rattle.spin_step.specs.declared.answer.Answer.TheVariants.{Done}
+use Rattle.spin_step.specs.declared.place.Hold.TheVariants as hold
+use Rattle.spin_step.specs.declared.place.Seat.{Seat}
+use Rattle.spin_step.specs.declared.place.Seat.TheVariants as seat
+use Rattle.spin_step.specs.Schedules.{State, after}
 use Rattle.spin_step_more.specs.declared.rw_calls.RwPoint.{RwPoint}
-use Rattle.spin_model.specs.declared.schedule.Move.TheVariants.{Begin, Step, Write}
-use Rattle.spin_model.specs.declared.schedule.Outcome.TheVariants.{Begun, Answered, Written}
+use Rattle.spin_step.specs.declared.schedule.Move.TheVariants.{Begin, Step, Write}
+use Rattle.spin_step.specs.declared.schedule.Outcome.TheVariants.{Begun, Answered, Written}
 use Rattle.spin_core.specs.Cell.{Use, off, reads, lends, writes, use_of, Meets, Allows, Rests}
 use Rattle.spin_core.specs.Own.{Numbered, what}
 use Rattle.spin_core.specs.Run.{AreMoves, by_first, is_of_call, is_played, outcomes, of_one, sits}

@@ -2,8 +2,8 @@
 use Rattle.std.specs.Prelude.{◌≡◌, ℕ, Option, List}
 use Rattle.spin_core.specs.Own.{Numbered}
 use Rattle.spin_core.specs.declared.tie.Opening.{Opening}
-use Rattle.spin_model.specs.declared.answer.Answer.TheVariants.{Granted, Count}
-use Rattle.spin_model.specs.declared.answer.Answer.TheVariants as answer
+use Rattle.spin_step.specs.declared.answer.Answer.TheVariants.{Granted, Count}
+use Rattle.spin_step.specs.declared.answer.Answer.TheVariants as answer
 use Rattle.spin_step_more.specs.declared.rw_calls.RwCall.TheVariants.{Read, UpgradeableRead, Write, Upgrade, ReaderCount, WriterCount, Release}
 use Rattle.spin_rwlock.specs.Rw.{Done, Called, Wrote}
 use Rattle.spin_rwlock.specs.declared.rwlock.RwLock.{RwLock}

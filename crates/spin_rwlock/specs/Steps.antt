@@ -7,9 +7,9 @@ use Rattle.spin_core.specs.Spots as spots
 use Rattle.spin_core.specs.Traced.{Traces}
 use Rattle.spin_core.specs.Values.{IsLast}
 use Rattle.spin_core.specs.declared.tie.Opening.{Opening}
-use Rattle.spin_model.specs.Machines.{Machine}
-use Rattle.spin_model.specs.declared.answer.Answer.{Answer}
-use Rattle.spin_model.specs.declared.answer.Answer.TheVariants.{Granted, Done}
+use Rattle.spin_step.specs.Machines.{Machine}
+use Rattle.spin_step.specs.declared.answer.Answer.{Answer}
+use Rattle.spin_step.specs.declared.answer.Answer.TheVariants.{Granted, Done}
 use Rattle.spin_step_more.specs.declared.rw_calls.RwCall.{RwCall}
 use Rattle.spin_step_more.specs.declared.rw_calls.RwPoint.{RwPoint}
 use Rattle.spin_rwlock.specs.declared.rwlock.rule.View.{View}

@@ -3,7 +3,7 @@ use Rattle.std.specs.Prelude.{Some}
 use Rattle.spin_core.specs.Passes.{IsCall}
 use Rattle.spin_core.specs.Spots.{spot}
 use Rattle.spin_core.specs.declared.trace.Watch.{Watch}
-use Rattle.spin_model.specs.declared.answer.Answer.TheVariants.{Granted, Refused}
+use Rattle.spin_step.specs.declared.answer.Answer.TheVariants.{Granted, Refused}
 use Rattle.spin_step_more.specs.declared.rw_calls.RwCall.{RwCall}
 use Rattle.spin_rwlock.specs.Rw.{Done, Seeks}
 use Rattle.spin_rwlock.specs.Sights.{sight}

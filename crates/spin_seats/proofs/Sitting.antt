@@ -21,9 +21,9 @@ use Rattle.spin_core.proofs.Plays.{Lock, Holds, allows, by_step, gets_at, begins
 use Rattle.spin_core.proofs.Plays as plays
 use Rattle.spin_core.proofs.Ties as tie
 use Rattle.spin_core.proofs.Views.{release-own, part_before}
-use Rattle.spin_model.specs.declared.answer.Answer.TheVariants.{Granted, Done, Count}
-use Rattle.spin_model.specs.declared.schedule.Move.TheVariants.{Begin, Step}
-use Rattle.spin_model.specs.declared.schedule.Outcome.TheVariants.{Begun, Answered, GoingOn}
+use Rattle.spin_step.specs.declared.answer.Answer.TheVariants.{Granted, Done, Count}
+use Rattle.spin_step.specs.declared.schedule.Move.TheVariants.{Begin, Step}
+use Rattle.spin_step.specs.declared.schedule.Outcome.TheVariants.{Begun, Answered, GoingOn}
 use Rattle.spin_seats.specs.declared.calls.SeatsCall.TheVariants as call
 use Rattle.spin_seats.specs.declared.seats.rule.View.{View}
 use Rattle.spin_seats.specs.declared.seats.rule.View.TheVariants.{Idle, Seated, Coming, Waiting}

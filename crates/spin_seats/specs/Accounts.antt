@@ -1,8 +1,8 @@
 -- What a party knows of its own moves, from one of its steps or calls up to a later one.
 use Rattle.std.specs.Prelude.{Bool, ℕ, true, false, nat_lt}
 use Rattle.spin_core.specs.Spots as spots
-use Rattle.spin_model.specs.declared.answer.Answer.{Answer}
-use Rattle.spin_model.specs.declared.answer.Answer.TheVariants.{Refused}
+use Rattle.spin_step.specs.declared.answer.Answer.{Answer}
+use Rattle.spin_step.specs.declared.answer.Answer.TheVariants.{Refused}
 use Rattle.spin_seats.specs.Rule.{Done, Ending, model}
 use Rattle.spin_seats.specs.Seats.{seats}
 use Rattle.spin_seats.specs.declared.calls.SeatsCall.{SeatsCall}

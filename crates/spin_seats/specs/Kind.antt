@@ -1,9 +1,9 @@
 -- What kind of lock the seats are: the word, the plain steps that it makes, and its calls.
 use Rattle.std.specs.Prelude.{ℕ, Bool, true, false, [], Option, List, ◌∷◌}
 use Rattle.spin_step.specs.Plain.{reading, to_read, Change, gets, releases, flag_word}
-use Rattle.spin_model.specs.declared.place.Hold.{Hold}
-use Rattle.spin_model.specs.Calls.{Asked, LockKind, usual}
-use Rattle.spin_model.specs.Asks.{counts_readers, gives_back, is_read, looks_and_tries, waits}
+use Rattle.spin_step.specs.declared.place.Hold.{Hold}
+use Rattle.spin_step.specs.Calls.{Asked, LockKind, usual}
+use Rattle.spin_step.specs.Asks.{counts_readers, gives_back, is_read, looks_and_tries, waits}
 
 -- whether this is a plain step of the seats: a party takes a seat (becomes a reader), or frees it (releases as one)
 abbrev pub seats_plain_steps : Change → Bool

@@ -1,6 +1,6 @@
 -- What a pass knows: the lock's history so far, and which moves of it are the pass's own.
 use Rattle.std.specs.Prelude.{ℕ, List}
-use Rattle.spin_model.specs.declared.answer.Answer.TheVariants as answer
+use Rattle.spin_step.specs.declared.answer.Answer.TheVariants as answer
 use Rattle.spin_seats.specs.Accounts.{Called}
 use Rattle.spin_seats.specs.Rule.{Done}
 use Rattle.spin_seats.specs.declared.calls.SeatsCall.TheVariants as call

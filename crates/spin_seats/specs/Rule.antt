@@ -7,16 +7,16 @@ use Rattle.spin_core.specs.Own.{Numbered, Runs, Tells}
 use Rattle.spin_core.specs.Passes.{step_by}
 use Rattle.spin_core.specs.Views.{Part, idle, holds, Encodes, used_by, no_word}
 use Rattle.spin_core.specs.declared.trace.Trace.{Trace}
-use Rattle.spin_model.specs.declared.answer.Answer.{Answer}
-use Rattle.spin_model.specs.declared.answer.Answer.TheVariants.{Granted, Refused, Count}
-use Rattle.spin_model.specs.declared.answer.Answer.TheVariants as answer
-use Rattle.spin_model.specs.declared.place.Hold.TheVariants.{Read}
-use Rattle.spin_model.specs.declared.place.Seat.{Seat}
-use Rattle.spin_model.specs.declared.place.Seat.TheVariants as seat
-use Rattle.spin_model.specs.declared.schedule.Move.{Move}
-use Rattle.spin_model.specs.declared.schedule.Outcome.{Outcome}
-use Rattle.spin_model.specs.declared.schedule.Outcome.TheVariants.{Answered, GoingOn}
-use Rattle.spin_model.specs.Schedules.{Entry}
+use Rattle.spin_step.specs.declared.answer.Answer.{Answer}
+use Rattle.spin_step.specs.declared.answer.Answer.TheVariants.{Granted, Refused, Count}
+use Rattle.spin_step.specs.declared.answer.Answer.TheVariants as answer
+use Rattle.spin_step.specs.declared.place.Hold.TheVariants.{Read}
+use Rattle.spin_step.specs.declared.place.Seat.{Seat}
+use Rattle.spin_step.specs.declared.place.Seat.TheVariants as seat
+use Rattle.spin_step.specs.declared.schedule.Move.{Move}
+use Rattle.spin_step.specs.declared.schedule.Outcome.{Outcome}
+use Rattle.spin_step.specs.declared.schedule.Outcome.TheVariants.{Answered, GoingOn}
+use Rattle.spin_step.specs.Schedules.{Entry}
 use Rattle.spin_seats.specs.Seats.{seats, seats_word}
 use Rattle.spin_seats.specs.Table.{SeatsMachine, seats_machine}
 use Rattle.spin_seats.specs.declared.calls.SeatsCall.{SeatsCall}

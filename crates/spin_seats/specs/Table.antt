@@ -2,23 +2,23 @@
 use Rattle.std.specs.Prelude.{ℕ, Option, Some, None, nat_lt}
 use Rattle.spin_step.specs.Plain.{reading, to_read, gets, releases}
 use Rattle.spin_seats.specs.Seats.{seats, entered}
-use Rattle.spin_model.specs.declared.place.Hold.{Hold}
-use Rattle.spin_model.specs.declared.place.Hold.TheVariants.{Read}
-use Rattle.spin_model.specs.declared.step.Next.{Next}
-use Rattle.spin_model.specs.declared.step.Next.TheVariants.{Continue, Answers}
-use Rattle.spin_model.specs.declared.answer.Answer.{Answer}
-use Rattle.spin_model.specs.declared.answer.Answer.TheVariants.{Granted, Refused, Done, Count}
+use Rattle.spin_step.specs.declared.place.Hold.{Hold}
+use Rattle.spin_step.specs.declared.place.Hold.TheVariants.{Read}
+use Rattle.spin_step.specs.declared.stepped.Next.{Next}
+use Rattle.spin_step.specs.declared.stepped.Next.TheVariants.{Continue, Answers}
+use Rattle.spin_step.specs.declared.answer.Answer.{Answer}
+use Rattle.spin_step.specs.declared.answer.Answer.TheVariants.{Granted, Refused, Done, Count}
 use Rattle.spin_seats.specs.declared.calls.SeatsCall.{SeatsCall}
 use Rattle.spin_seats.specs.declared.calls.SeatsCall.TheVariants as call
 use Rattle.spin_seats.specs.declared.calls.SeatsPoint.{SeatsPoint}
 use Rattle.spin_seats.specs.declared.calls.SeatsPoint.TheVariants.{First, Exchange}
-use Rattle.spin_model.specs.Calls.{Asked}
-use Rattle.spin_model.specs.Asks.{is_read, looks_and_tries, waits, counts_readers, gives_back}
+use Rattle.spin_step.specs.Calls.{Asked}
+use Rattle.spin_step.specs.Asks.{is_read, looks_and_tries, waits, counts_readers, gives_back}
 use Rattle.spin_seats.specs.Kind as kind
-use Rattle.spin_model.specs.Machines.{Machine}
-use Rattle.spin_model.specs.Acts.{one_number, Act, load, load_for, retry, store, Table, machine_of}
-use Rattle.spin_model.specs.Tables.{usual_table}
-use Rattle.spin_model.specs.Operations.{subtracts}
+use Rattle.spin_step.specs.Machines.{Machine}
+use Rattle.spin_step.specs.Acts.{one_number, Act, load, load_for, retry, store, Table, machine_of}
+use Rattle.spin_step.specs.Tables.{usual_table}
+use Rattle.spin_step.specs.Operations.{subtracts}
 
 abbrev pub Answered : Type 0
 Answered = Next SeatsPoint (Answer (Unit {0}))

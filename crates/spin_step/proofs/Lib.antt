@@ -1,3 +1,5 @@
+pub mod Lists
+pub mod Schedules
 pub mod Sums
 pub mod Holders
 pub mod Exclusive

@@ -5,3 +5,17 @@ pub mod Tickets
 pub mod Barriers
 pub mod Orders
 pub mod Flags
+pub mod StepKinds
+pub mod Calls
+pub mod Asks
+pub mod Machines
+pub mod Operations
+pub mod Schedules
+pub mod Acts
+pub mod Tables
+pub mod FlagKind
+pub mod FlagCalls
+pub mod TicketKind
+pub mod TicketCalls
+pub mod OnceKind
+pub mod OnceCalls

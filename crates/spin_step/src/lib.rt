@@ -1,7 +1,10 @@
 //! Each change of the words of the flag, the ticket lock and the `Once`, as a pure function from the word before to the
-//! word after. Each of these functions makes one step of the plain lock, which is defined here too.
+//! word after. Each of these functions makes one step of the plain lock, which is defined here too. Also the model of
+//! parties: a party's place, the outcomes of its moves, and what a schedule does.
 //!
-//! Begin with [`flag`], the smallest lock. A function that may fail returns `None` in place of a new word.
+//! Begin with [`flag`], the smallest lock. A function that may fail returns `None` in place of a new word. In the model,
+//! begin with [`Move`] and [`Stepped`]: `after` in `specs/Schedules.antt` says what a schedule does. `spin_world_core`
+//! plays schedules by these definitions, and proves what holds of every schedule.
 //!
 //! # Contract
 //! The plain lock is a state without words or bits: lists of the threads that hold or wait
@@ -13,6 +16,22 @@
 //!   never fails returns that word wherever the plain lock allows the step (`Gives`).
 #![tactic(auto)]
 
+mod answer;
+mod copies;
 pub mod flag;
+mod flag_calls;
 pub mod once;
+mod once_calls;
+mod place;
+mod schedule;
+mod stepped;
 pub mod ticket;
+mod ticket_calls;
+
+pub use answer::Answer;
+pub use flag_calls::{FlagCall, FlagPoint};
+pub use once_calls::{OnceCall, OncePoint};
+pub use place::{Hold, Place, Seat};
+pub use schedule::{Event, Move, Outcome};
+pub use stepped::{Next, Stepped};
+pub use ticket_calls::{TicketCall, TicketPoint, TicketWords};

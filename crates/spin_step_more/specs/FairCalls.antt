@@ -2,23 +2,23 @@
 use Rattle.std.specs.Prelude.{ℕ, ◌+◌, Option, Some, None, ◌==◌, nat_lt, min}
 use Rattle.spin_step.specs.Plain.{writing, to_lock_unregistered, to_lock_starving, to_lock_starving_alone, to_starve, gets, releases, stops_starving, holder_weight, starver_weight}
 use Rattle.spin_step_more.specs.Starvers.{most_starvers, is_set, lock, starve, lock_fair}
-use Rattle.spin_model.specs.declared.place.Hold.{Hold}
-use Rattle.spin_model.specs.declared.place.Hold.TheVariants.{Write, Starver}
-use Rattle.spin_model.specs.declared.step.Next.{Next}
-use Rattle.spin_model.specs.declared.step.Next.TheVariants.{Continue, Answers}
-use Rattle.spin_model.specs.declared.answer.Answer.{Answer}
-use Rattle.spin_model.specs.declared.answer.Answer.TheVariants.{Granted, Refused, Locked, Starved, Done, Is}
+use Rattle.spin_step.specs.declared.place.Hold.{Hold}
+use Rattle.spin_step.specs.declared.place.Hold.TheVariants.{Write, Starver}
+use Rattle.spin_step.specs.declared.stepped.Next.{Next}
+use Rattle.spin_step.specs.declared.stepped.Next.TheVariants.{Continue, Answers}
+use Rattle.spin_step.specs.declared.answer.Answer.{Answer}
+use Rattle.spin_step.specs.declared.answer.Answer.TheVariants.{Granted, Refused, Locked, Starved, Done, Is}
 use Rattle.spin_step_more.specs.declared.fair_calls.FairCall.{FairCall}
 use Rattle.spin_step_more.specs.declared.fair_calls.FairCall.TheVariants.{Lock, TryLock, TryLockStarver, IsLocked, Starve, StarverTryLockFair, StarverTryLock, StarverLock, StarverDrop, Release}
 use Rattle.spin_step_more.specs.declared.fair_calls.FairPoint.{FairPoint}
 use Rattle.spin_step_more.specs.declared.fair_calls.FairPoint.TheVariants.{First, Attempt, Look, Load, Register, SetFlag, Await, Unregister}
-use Rattle.spin_model.specs.Calls.{Asked}
-use Rattle.spin_model.specs.Asks.{gives_back, is_registered, is_write, looks, looks_and_tries, tries, tries_in, tries_to_know, waits_or_starves, waits_starving}
+use Rattle.spin_step.specs.Calls.{Asked}
+use Rattle.spin_step.specs.Asks.{gives_back, is_registered, is_write, looks, looks_and_tries, tries, tries_in, tries_to_know, waits_or_starves, waits_starving}
 use Rattle.spin_step_more.specs.FairKind.{fair}
-use Rattle.spin_model.specs.Machines.{Machine}
-use Rattle.spin_model.specs.Acts.{one_number, Act, either, load, load_if, load_for, exchange, weak_exchange, retry, store, swap, Table, machine_of}
-use Rattle.spin_model.specs.Tables.{usual_table}
-use Rattle.spin_model.specs.Operations.{subtracts, sets_lowest_bit}
+use Rattle.spin_step.specs.Machines.{Machine}
+use Rattle.spin_step.specs.Acts.{one_number, Act, either, load, load_if, load_for, exchange, weak_exchange, retry, store, swap, Table, machine_of}
+use Rattle.spin_step.specs.Tables.{usual_table}
+use Rattle.spin_step.specs.Operations.{subtracts, sets_lowest_bit}
 
 -- the point at which a call begins
 abbrev pub starts_at : FairCall → FairPoint

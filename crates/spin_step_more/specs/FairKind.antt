@@ -1,10 +1,10 @@
 -- What kind of lock a fair lock is: its word, the plain steps that it makes, and its calls.
 use Rattle.std.specs.Prelude.{Bool, true, false, [], ℕ, Option, Some, List, ◌∷◌}
 use Rattle.spin_step.specs.Plain.{writing, to_lock_unregistered, to_lock_starving, to_lock_starving_alone, to_starve, Change, gets, releases, stops_starving, fair_word}
-use Rattle.spin_model.specs.declared.place.Hold.{Hold}
-use Rattle.spin_model.specs.declared.place.Hold.TheVariants.{Write, Starver}
-use Rattle.spin_model.specs.Calls.{Asked, LockKind, usual}
-use Rattle.spin_model.specs.Asks.{gives_back, is_registered, is_write, looks, looks_and_tries, tries, tries_in, tries_to_know, waits_or_starves, waits_starving}
+use Rattle.spin_step.specs.declared.place.Hold.{Hold}
+use Rattle.spin_step.specs.declared.place.Hold.TheVariants.{Write, Starver}
+use Rattle.spin_step.specs.Calls.{Asked, LockKind, usual}
+use Rattle.spin_step.specs.Asks.{gives_back, is_registered, is_write, looks, looks_and_tries, tries, tries_in, tries_to_know, waits_or_starves, waits_starving}
 
 abbrev pub fair_plain_steps : Change → Bool
 fair_plain_steps (gets p to_lock_unregistered) = true

@@ -2,23 +2,23 @@
 use Rattle.std.specs.Prelude.{ℕ, ◌-◌, ◌/◌, ◌&&◌, Option, Some, None, nat_lt, min}
 use Rattle.spin_step.specs.Plain.{reading, upgradable, asking, writing, weight, Ask, to_read, to_read_upgradable, to_write, to_upgrade, to_upgrade_asked, gets, releases, turns}
 use Rattle.spin_step_more.specs.Readers.{reader_limit, readers_in, writers_in, tells, read, read_upgradable, write, upgrade, upgrade_asked}
-use Rattle.spin_model.specs.declared.place.Hold.{Hold}
-use Rattle.spin_model.specs.declared.place.Hold.TheVariants as hold
-use Rattle.spin_model.specs.declared.step.Next.{Next}
-use Rattle.spin_model.specs.declared.step.Next.TheVariants.{Continue, Answers}
-use Rattle.spin_model.specs.declared.answer.Answer.{Answer}
-use Rattle.spin_model.specs.declared.answer.Answer.TheVariants.{Granted, Refused, Done, Count}
+use Rattle.spin_step.specs.declared.place.Hold.{Hold}
+use Rattle.spin_step.specs.declared.place.Hold.TheVariants as hold
+use Rattle.spin_step.specs.declared.stepped.Next.{Next}
+use Rattle.spin_step.specs.declared.stepped.Next.TheVariants.{Continue, Answers}
+use Rattle.spin_step.specs.declared.answer.Answer.{Answer}
+use Rattle.spin_step.specs.declared.answer.Answer.TheVariants.{Granted, Refused, Done, Count}
 use Rattle.spin_step_more.specs.declared.rw_calls.RwCall.{RwCall}
 use Rattle.spin_step_more.specs.declared.rw_calls.RwCall.TheVariants.{TryRead, Read, TryUpgradeableRead, UpgradeableRead, TryWrite, TryWriteWeak, Write, ReaderCount, WriterCount, TryUpgrade, TryUpgradeWeak, Upgrade, Downgrade, DowngradeToUpgradeable, Release}
 use Rattle.spin_step_more.specs.declared.rw_calls.RwPoint.{RwPoint}
 use Rattle.spin_step_more.specs.declared.rw_calls.RwPoint.TheVariants.{First, Exchange, Asking}
-use Rattle.spin_model.specs.Calls.{Asked}
-use Rattle.spin_model.specs.Asks.{is_above_read, is_held_some, is_write, looks_and_tries, spins_to_write, waits_to_upgrade, waits, tries, tries_weakly, counts_readers, counts_writers, turns_to, gives_back}
+use Rattle.spin_step.specs.Calls.{Asked}
+use Rattle.spin_step.specs.Asks.{is_above_read, is_held_some, is_write, looks_and_tries, spins_to_write, waits_to_upgrade, waits, tries, tries_weakly, counts_readers, counts_writers, turns_to, gives_back}
 use Rattle.spin_step_more.specs.RwKind.{rw}
-use Rattle.spin_model.specs.Machines.{Machine}
-use Rattle.spin_model.specs.Acts.{one_number, Act, load, load_for, exchange, weak_exchange, retry, store, swap, Table, machine_of}
-use Rattle.spin_model.specs.Tables.{usual_table}
-use Rattle.spin_model.specs.Operations.{adds, subtracts}
+use Rattle.spin_step.specs.Machines.{Machine}
+use Rattle.spin_step.specs.Acts.{one_number, Act, load, load_for, exchange, weak_exchange, retry, store, swap, Table, machine_of}
+use Rattle.spin_step.specs.Tables.{usual_table}
+use Rattle.spin_step.specs.Operations.{adds, subtracts}
 
 abbrev pub granted : {V : Type 0} → Hold → Next RwPoint (Answer V)
 granted held = Answers Granted (Some held)

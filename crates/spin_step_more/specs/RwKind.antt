@@ -1,9 +1,9 @@
 -- What kind of lock a read-write lock is: its word, the plain steps that it makes, and its calls.
 use Rattle.std.specs.Prelude.{ℕ, Bool, true, false, [], Option, List, ◌∷◌}
 use Rattle.spin_step.specs.Plain.{reading, upgradable, to_read, to_read_upgradable, to_write, to_upgrade, to_upgrade_asked, Change, gets, releases, turns, rw_word}
-use Rattle.spin_model.specs.declared.place.Hold.{Hold}
-use Rattle.spin_model.specs.Calls.{Asked, LockKind, usual}
-use Rattle.spin_model.specs.Asks.{counts_readers, counts_writers, gives_back, is_above_read, is_held_some, is_write, looks_and_tries, spins_to_write, tries, tries_weakly, turns_to, waits, waits_to_upgrade}
+use Rattle.spin_step.specs.declared.place.Hold.{Hold}
+use Rattle.spin_step.specs.Calls.{Asked, LockKind, usual}
+use Rattle.spin_step.specs.Asks.{counts_readers, counts_writers, gives_back, is_above_read, is_held_some, is_write, looks_and_tries, spins_to_write, tries, tries_weakly, turns_to, waits, waits_to_upgrade}
 
 abbrev pub rw_plain_steps : Change → Bool
 rw_plain_steps (gets p to_read) = true

@@ -2,13 +2,13 @@
 use Rattle.std.proofs.Common.{◌≡◌, ℕ, ◌<◌, ◌^◌, Bool, true, false, ◌&&◌, Option, Some, List, [], ◌∷◌, codes, decimal, refl, ap, subst, ◌∙◌}
 use Rattle.std.specs.Str.{bytes_eq}
 use Rattle.std.proofs.lemmas.Bool.{ltb-true, lt-ltb}
-use Rattle.spin_model.specs.declared.flag.FlagCall.TheVariants as flag
+use Rattle.spin_step.specs.declared.flag_calls.FlagCall.TheVariants as flag
 use Rattle.spin_step_more.specs.declared.fair_calls.FairCall.TheVariants as fair
 use Rattle.spin_step_more.specs.declared.rw_calls.RwCall.TheVariants as rw
-use Rattle.spin_model.specs.declared.ticket.TicketCall.TheVariants as ticket
+use Rattle.spin_step.specs.declared.ticket_calls.TicketCall.TheVariants as ticket
 use Rattle.spin_world.specs.declared.barrier.BarrierCall.TheVariants as barrier
-use Rattle.spin_model.specs.declared.once.OnceCall.{OnceCall}
-use Rattle.spin_model.specs.declared.once.OnceCall.TheVariants as once
+use Rattle.spin_step.specs.declared.once_calls.OnceCall.{OnceCall}
+use Rattle.spin_step.specs.declared.once_calls.OnceCall.TheVariants as once
 use Rattle.spin_text.specs.declared.objects.TheConstants.{FLAG_CALLS, TICKET_CALLS, RW_CALLS, FAIR_CALLS, BARRIER_CALLS, PLAIN_ONCE_CALLS}
 use Rattle.spin_text.specs.Objects.{flag_calls, ticket_calls, rw_calls, fair_calls, barrier_calls, once_calls}
 use Rattle.spin_text.specs.Spelling.{Calls}

@@ -1,13 +1,13 @@
 -- The lines of a transcript, which are written while the moves are played.
 use Rattle.std.proofs.Common.{◌≡◌, ℕ, zero, suc, ◌+◌, ◌<◌, ◌^◌, ◌==◌, ◌&&◌, Bool, true, false, if◌then◌else◌, Option, Some, None, List, [], ◌∷◌, ◌++◌, length, take, drop, get_or, sym, ◌∙◌, ap, refl, subst, arith, append_assoc, append-nil, zero-add, length-take-le}
 use Rattle.std.proofs.lemmas.List.{take-append-drop}
-use Rattle.spin_model.specs.declared.answer.Answer.{Answer}
-use Rattle.spin_model.specs.declared.schedule.Event.{Event}
-use Rattle.spin_model.specs.declared.schedule.Move.{Move}
-use Rattle.spin_model.specs.declared.schedule.Outcome.{Outcome}
-use Rattle.spin_model.specs.declared.schedule.Outcome.TheVariants as outcome
-use Rattle.spin_model.specs.Machines.{Machine}
-use Rattle.spin_model.specs.Schedules.{State, Happened, happens, after, events_of, with_begins, with_begin, begin_of, begins_after, last_begin, is_begun}
+use Rattle.spin_step.specs.declared.answer.Answer.{Answer}
+use Rattle.spin_step.specs.declared.schedule.Event.{Event}
+use Rattle.spin_step.specs.declared.schedule.Move.{Move}
+use Rattle.spin_step.specs.declared.schedule.Outcome.{Outcome}
+use Rattle.spin_step.specs.declared.schedule.Outcome.TheVariants as outcome
+use Rattle.spin_step.specs.Machines.{Machine}
+use Rattle.spin_step.specs.Schedules.{State, Happened, happens, after, events_of, with_begins, with_begin, begin_of, begins_after, last_begin, is_begun}
 use Rattle.spin_world_core.proofs.Schedules.{events_of-append, length-events_of}
 use Rattle.spin_world_core.proofs.Playing.{Played, played_next}
 use Rattle.spin_text.specs.Pieces.{HasLine, TellsLine}

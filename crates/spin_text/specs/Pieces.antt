@@ -1,8 +1,8 @@
 -- Text that is written into a buffer from its end towards its start.
 use Rattle.std.specs.Prelude.{◌≡◌, ℕ, ◌+◌, ◌<◌, ◌^◌, List, length, drop, ◌++◌, Option, Some, None}
-use Rattle.spin_model.specs.declared.answer.Answer.{Answer}
-use Rattle.spin_model.specs.declared.schedule.Outcome.{Outcome}
-use Rattle.spin_model.specs.declared.schedule.Outcome.TheVariants as outcome
+use Rattle.spin_step.specs.declared.answer.Answer.{Answer}
+use Rattle.spin_step.specs.declared.schedule.Outcome.{Outcome}
+use Rattle.spin_step.specs.declared.schedule.Outcome.TheVariants as outcome
 
 -- The buffer now has the text from `start` to `end`, and after the text what the buffer had before.
 pub record PutBefore (text before : List ℕ) (end : ℕ) (now : List ℕ) (start : ℕ) : Type 0 where

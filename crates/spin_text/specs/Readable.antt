@@ -1,7 +1,7 @@
 -- How reading relates to spelling.
 use Rattle.std.specs.Prelude.{◌≡◌, ℕ, true, ◌+◌, Option, Some, None, IsSome, List, ◌∷◌, ◌++◌, map, length}
 use Rattle.std.specs.List.{AllByRecursion}
-use Rattle.spin_model.specs.declared.schedule.Move.{Move}
+use Rattle.spin_step.specs.declared.schedule.Move.{Move}
 use Rattle.spin_text.specs.declared.text.RunError.{RunError}
 use Rattle.spin_text.specs.declared.text.RunError.TheVariants as errors
 use Rattle.spin_text.specs.Spelling.{Calls, entry_words, EntriesFit}

@@ -1,8 +1,8 @@
 -- How the entries of a schedule are written: one line each, in words.
 use Rattle.std.specs.Prelude.{◌≡◌, ℕ, Bool, true, ◌^◌, ◌<◌, List, [], ◌∷◌, codes, decimal}
 use Rattle.std.specs.List.{AllByRecursion}
-use Rattle.spin_model.specs.declared.schedule.Move.{Move}
-use Rattle.spin_model.specs.declared.schedule.Move.TheVariants.{Begin, Step, Weak, Read, Write, Leak, OwnerGet, OwnerSet}
+use Rattle.spin_step.specs.declared.schedule.Move.{Move}
+use Rattle.spin_step.specs.declared.schedule.Move.TheVariants.{Begin, Step, Weak, Read, Write, Leak, OwnerGet, OwnerSet}
 
 -- how the calls of an object are spelled (`words`), and which calls can be spelled: those with numbers below 2^64
 -- (`fits`)

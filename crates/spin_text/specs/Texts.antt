@@ -1,15 +1,15 @@
 -- Which bytes are the text of a schedule, which line of other bytes is the first bad one, and what is written.
 use Rattle.std.specs.Prelude.{◌≡◌, ℕ, ◌+◌, ◌-◌, ◌<◌, ◌≤◌, Bool, true, false, List, ◌∷◌, length, map, take, Option, None}
 use Rattle.std.specs.Io.KnownBytes.{Appends, Consumes, IsAtEnd}
-use Rattle.spin_model.specs.declared.answer.Answer.{Answer}
-use Rattle.spin_model.specs.declared.schedule.Move.{Move}
-use Rattle.spin_model.specs.Machines.{Machine}
-use Rattle.spin_model.specs.Flag.{flag_machine}
+use Rattle.spin_step.specs.declared.answer.Answer.{Answer}
+use Rattle.spin_step.specs.declared.schedule.Move.{Move}
+use Rattle.spin_step.specs.Machines.{Machine}
+use Rattle.spin_step.specs.FlagCalls.{flag_machine}
 use Rattle.spin_step_more.specs.FairCalls.{fair_machine}
 use Rattle.spin_step_more.specs.RwCalls.{rw_machine}
-use Rattle.spin_model.specs.Ticket.{ticket_machine}
+use Rattle.spin_step.specs.TicketCalls.{ticket_machine}
 use Rattle.spin_world.specs.BarrierTable.{barrier_machine}
-use Rattle.spin_model.specs.Once.{once_machine}
+use Rattle.spin_step.specs.OnceCalls.{once_machine}
 use Rattle.spin_text.specs.declared.header.Header.{Header}
 use Rattle.spin_text.specs.declared.header.Header.TheVariants.{Flag, Ticket, Rw, Fair, Barrier, Once}
 use Rattle.spin_text.specs.declared.text.RunError.{RunError}

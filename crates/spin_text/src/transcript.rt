@@ -2,7 +2,7 @@
 //! part first.
 ghost use Rattle.std.specs.Prelude.{◌≡◌, ◌≤◌, ◌<◌, ◌++◌, ◌+◌, ◌^◌, OnOk, OnErr, IfOk, IfErr, ℕ, None, true, take, drop, length};
 ghost use Rattle.std.specs.Io.KnownBytes.{Appends};
-ghost use Rattle.spin_model.specs.Schedules.{after, begin_of};
+ghost use Rattle.spin_step.specs.Schedules.{after, begin_of};
 ghost use Rattle.spin_text.specs.declared.text.RunError.TheVariants.{Memory};
 ghost use Rattle.spin_text.specs.Ends.{AppendsBeginning, AppendsBut};
 ghost use Rattle.spin_text.specs.Texts.{StopsWriting};

@@ -8,18 +8,18 @@ use Rattle.std.proofs.lemmas.List.Elements.{All-nil, All-cons}
 use Rattle.spin_core.specs.Own.{Numbered, by_party, entries_by}
 use Rattle.spin_core.specs.Passes.{IsNumber, IsCall, outcomes_by, Made}
 use Rattle.spin_core.specs.Run.{IsPlayed}
-use Rattle.spin_model.specs.Calls.{Mark}
-use Rattle.spin_model.specs.declared.place.Hold.{Hold}
-use Rattle.spin_model.specs.declared.place.Seat.{Seat}
-use Rattle.spin_model.specs.declared.place.Seat.TheVariants.{Calling}
-use Rattle.spin_model.specs.declared.schedule.Move.{Move}
-use Rattle.spin_model.specs.declared.schedule.Move.TheVariants.{Begin, Step}
-use Rattle.spin_model.specs.declared.schedule.Outcome.{Outcome}
-use Rattle.spin_model.specs.declared.schedule.Outcome.TheVariants as outcome
-use Rattle.spin_model.specs.declared.schedule.Outcome.TheVariants.{Begun, GoingOn, Answered}
-use Rattle.spin_model.specs.Acts.{Table}
-use Rattle.spin_model.specs.Machines.{Machine}
-use Rattle.spin_model.specs.Schedules.{Entry, after, at_first}
+use Rattle.spin_step.specs.Calls.{Mark}
+use Rattle.spin_step.specs.declared.place.Hold.{Hold}
+use Rattle.spin_step.specs.declared.place.Seat.{Seat}
+use Rattle.spin_step.specs.declared.place.Seat.TheVariants.{Calling}
+use Rattle.spin_step.specs.declared.schedule.Move.{Move}
+use Rattle.spin_step.specs.declared.schedule.Move.TheVariants.{Begin, Step}
+use Rattle.spin_step.specs.declared.schedule.Outcome.{Outcome}
+use Rattle.spin_step.specs.declared.schedule.Outcome.TheVariants as outcome
+use Rattle.spin_step.specs.declared.schedule.Outcome.TheVariants.{Begun, GoingOn, Answered}
+use Rattle.spin_step.specs.Acts.{Table}
+use Rattle.spin_step.specs.Machines.{Machine}
+use Rattle.spin_step.specs.Schedules.{Entry, after, at_first}
 use Rattle.spin_world_core.specs.Runs.{seat_of, Seen, Scene, scene, opening, span_after, own_count, held_at, InItsCall}
 use Rattle.spin_world_core.specs.Users.{seen_after}
 use Rattle.spin_world_core.proofs.Shapes.{Notes}

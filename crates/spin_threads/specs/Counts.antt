@@ -4,10 +4,10 @@ use mathlib.Core.List.{IsPrefix}
 use Rattle.spin_core.specs.Own.{Numbered, entries_by}
 use Rattle.spin_core.specs.Passes.{IsNumber, IsCall, Made}
 use Rattle.spin_core.specs.Run.{IsPlayed}
-use Rattle.spin_model.specs.Calls.{Mark, limit}
-use Rattle.spin_model.specs.declared.place.Hold.{Hold}
-use Rattle.spin_model.specs.Machines.{Machine}
-use Rattle.spin_model.specs.Schedules.{Entry}
+use Rattle.spin_step.specs.Calls.{Mark, limit}
+use Rattle.spin_step.specs.declared.place.Hold.{Hold}
+use Rattle.spin_step.specs.Machines.{Machine}
+use Rattle.spin_step.specs.Schedules.{Entry}
 use Rattle.spin_world_core.specs.Runs.{opening, own_count, failures, changes, EndsWithin}
 use Rattle.spin_world_core.specs.Users.{seen_after}
 

@@ -6,10 +6,10 @@ use Rattle.spin_step.specs.Plain.{Plain, is_complete}
 use Rattle.spin_core.specs.Own.{Numbered}
 use Rattle.spin_core.specs.Passes as passes
 use Rattle.spin_core.specs.Passes.{IsCall}
-use Rattle.spin_model.specs.declared.answer.Answer.{Answer}
-use Rattle.spin_model.specs.declared.answer.Answer.TheVariants.{Value}
-use Rattle.spin_model.specs.declared.once.OnceCall.{OnceCall}
-use Rattle.spin_model.specs.Once.{once_machine}
+use Rattle.spin_step.specs.declared.answer.Answer.{Answer}
+use Rattle.spin_step.specs.declared.answer.Answer.TheVariants.{Value}
+use Rattle.spin_step.specs.declared.once_calls.OnceCall.{OnceCall}
+use Rattle.spin_step.specs.OnceCalls.{once_machine}
 use Rattle.spin_once.specs.Foretold.{foretold}
 use Rattle.spin_once.specs.Model.{model}
 use Rattle.spin_once.specs.OnceValues.{Made}

@@ -4,9 +4,9 @@ use mathlib.Core.List.{IsPrefix}
 use Rattle.spin_core.specs.Own.{Numbered}
 use Rattle.spin_core.specs.Passes.{IsNumber}
 use Rattle.spin_core.specs.Run.{IsPlayed}
-use Rattle.spin_model.specs.declared.place.Hold.TheVariants.{Ticket}
-use Rattle.spin_model.specs.declared.place.Seat.TheVariants.{Holding}
-use Rattle.spin_model.specs.Schedules.{after, at_first}
+use Rattle.spin_step.specs.declared.place.Hold.TheVariants.{Ticket}
+use Rattle.spin_step.specs.declared.place.Seat.TheVariants.{Holding}
+use Rattle.spin_step.specs.Schedules.{after, at_first}
 use Rattle.spin_ticket.specs.Queue.{Key, Made, model}
 use Rattle.spin_world_core.specs.Runs.{opening}
 use Rattle.spin_world_core.specs.Users.{seen_after}

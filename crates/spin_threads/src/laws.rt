@@ -8,7 +8,7 @@ ghost use Rattle.spin_fair.specs.Fair as fair_mutex;
 ghost use Rattle.spin_fair.specs.declared.fair.rule.View.{View as FairMutexView};
 ghost use Rattle.spin_flag.specs.Flag as spin_mutex;
 ghost use Rattle.spin_flag.specs.declared.spin.rule.View.{View as SpinMutexView};
-ghost use Rattle.spin_model.specs.Once.{once_machine};
+ghost use Rattle.spin_step.specs.OnceCalls.{once_machine};
 ghost use Rattle.spin_once.specs.Foretold.{foretold, place_of};
 ghost use Rattle.spin_once.specs.Once as once;
 ghost use Rattle.spin_once.specs.OnceValues as once_values;

@@ -2,7 +2,7 @@
 //! function learns what the law states.
 //!
 //! Each law but the last speaks of every call of every pass of its lock. The call kept the limit that it has in the
-//! model (`limit` of `spin_model`). A step is one of the model. Changes of the first word by others during the call may
+//! model (`limit` of `spin_step`). A step is one of the model. Changes of the first word by others during the call may
 //! raise this limit. The exchanges that the call repeats failed at most as often as others changed that word
 //! (`KeepsLimits`, `IsWithinLimit`).
 ghost use Rattle.std.specs.Prelude.{ℕ, Option, List};
@@ -11,8 +11,8 @@ ghost use Rattle.spin_fair.specs.Fair as fair_mutex;
 ghost use Rattle.spin_fair.specs.declared.fair.rule.View.{View as FairMutexView};
 ghost use Rattle.spin_flag.specs.Flag as spin_mutex;
 ghost use Rattle.spin_flag.specs.declared.spin.rule.View.{View as SpinMutexView};
-ghost use Rattle.spin_model.specs.declared.answer.Answer.TheVariants.{Granted};
-ghost use Rattle.spin_model.specs.declared.ticket.TicketCall.TheVariants.{Lock};
+ghost use Rattle.spin_step.specs.declared.answer.Answer.TheVariants.{Granted};
+ghost use Rattle.spin_step.specs.declared.ticket_calls.TicketCall.TheVariants.{Lock};
 ghost use Rattle.spin_rwlock.specs.Rw as rwlock;
 ghost use Rattle.spin_rwlock.specs.declared.rwlock.rule.View.{View as RwLockView};
 ghost use Rattle.spin_seats.specs.Rule as seats;

@@ -16,13 +16,13 @@ use Rattle.spin_core.proofs.Mutexes as mutexes
 use Rattle.spin_core.proofs.Mutexes.{released}
 use Rattle.spin_core.proofs.Spots as spots
 use Rattle.spin_core.proofs.Spots.{comes_in, stays_in, is_answered}
-use Rattle.spin_model.specs.declared.answer.Answer.{Answer}
-use Rattle.spin_model.specs.declared.answer.Answer.TheVariants.{Granted, Refused, Done}
-use Rattle.spin_model.specs.declared.schedule.Move.{Move}
-use Rattle.spin_model.specs.declared.schedule.Outcome.TheVariants.{Answered, GoingOn}
-use Rattle.spin_model.specs.declared.ticket.TicketCall.{TicketCall}
-use Rattle.spin_model.specs.declared.ticket.TicketCall.TheVariants.{Lock, TryLock, Release}
-use Rattle.spin_model.specs.Ticket.{is_free}
+use Rattle.spin_step.specs.declared.answer.Answer.{Answer}
+use Rattle.spin_step.specs.declared.answer.Answer.TheVariants.{Granted, Refused, Done}
+use Rattle.spin_step.specs.declared.schedule.Move.{Move}
+use Rattle.spin_step.specs.declared.schedule.Outcome.TheVariants.{Answered, GoingOn}
+use Rattle.spin_step.specs.declared.ticket_calls.TicketCall.{TicketCall}
+use Rattle.spin_step.specs.declared.ticket_calls.TicketCall.TheVariants.{Lock, TryLock, Release}
+use Rattle.spin_step.specs.TicketCalls.{is_free}
 use Rattle.spin_ticket.specs.Accounts.{Spot, here, Attempts, Tries, Releases}
 use Rattle.spin_ticket.specs.Queue.{Key, Made, IsQueue, Says, Told, queue_ways, model, seat_of, words_of, use_of_view}
 use Rattle.spin_ticket.specs.Queue.{entered, answers_turn, awaits_by, freed, answers_free, attempted, answers_attempt, serves_by}

@@ -24,14 +24,14 @@ use Rattle.spin_core.proofs.Plays.{Lock as CellLock, ways, Reaches, allows, allo
 use Rattle.spin_core.proofs.Ties as tie
 use Rattle.spin_core.specs.Run.{by_first, by_second}
 use Rattle.spin_core.specs.Values.{Leaves}
-use Rattle.spin_model.specs.declared.answer.Answer.TheVariants.{Done}
-use Rattle.spin_model.specs.declared.schedule.Move.TheVariants.{Begin, Step, Write}
-use Rattle.spin_model.specs.declared.schedule.Outcome.TheVariants.{Begun, GoingOn, Answered, Written}
-use Rattle.spin_model.specs.declared.ticket.TicketCall.{TicketCall}
-use Rattle.spin_model.specs.declared.ticket.TicketCall.TheVariants.{Lock, TryLock, IsLocked, Release}
-use Rattle.spin_model.specs.declared.ticket.TicketPoint.{TicketPoint}
-use Rattle.spin_model.specs.declared.ticket.TicketWords.{TicketWords}
-use Rattle.spin_model.specs.Ticket.{is_left, is_free}
+use Rattle.spin_step.specs.declared.answer.Answer.TheVariants.{Done}
+use Rattle.spin_step.specs.declared.schedule.Move.TheVariants.{Begin, Step, Write}
+use Rattle.spin_step.specs.declared.schedule.Outcome.TheVariants.{Begun, GoingOn, Answered, Written}
+use Rattle.spin_step.specs.declared.ticket_calls.TicketCall.{TicketCall}
+use Rattle.spin_step.specs.declared.ticket_calls.TicketCall.TheVariants.{Lock, TryLock, IsLocked, Release}
+use Rattle.spin_step.specs.declared.ticket_calls.TicketPoint.{TicketPoint}
+use Rattle.spin_step.specs.declared.ticket_calls.TicketWords.{TicketWords}
+use Rattle.spin_step.specs.TicketCalls.{is_left, is_free}
 use Rattle.spin_ticket.specs.declared.ticket.rule.View.{View}
 use Rattle.spin_ticket.specs.declared.ticket.rule.View.TheVariants.{Idle, Coming, Going, Waiting, Entered, LoadedNext, Trying, LoadedServing}
 use Rattle.spin_ticket.specs.Queue.{Key, part, IsQueue, queue_ways, Told, serves_by, use_of_view, use_of_party, seat_of, model, words_of, Made, Says, goes_on, going, taken, entered, answers_turn, freed, answers_free, attempted, answers_attempt, gone, answers_look, compares_with, compares_by, finds, finds_by, awaits_by, tries_by, number_of}

@@ -8,8 +8,8 @@ use denote.Struct.Field.{u64-field}
 use denote.Struct.Laws.{u64-laws, u64-copy}
 use denote.Struct.Tuple.{Tuple, tuple_laws}
 use Rattle.spin_core.proofs.TieLaws.{numbered, numbered_laws, opened, opening_laws, traced_over, trace_over_laws}
-use Rattle.spin_model.specs.contracts.ticket.TicketCall as call
-use Rattle.spin_model.proofs.ticket.TicketCall.TheLaws as calls
+use Rattle.spin_step.specs.contracts.ticket_calls.TicketCall as call
+use Rattle.spin_step.proofs.ticket_calls.TicketCall.TheLaws as calls
 use Rattle.spin_ticket.specs.contracts.ticket.rule.View as view
 use Rattle.spin_ticket.proofs.ticket.rule.View.TheLaws as views
 

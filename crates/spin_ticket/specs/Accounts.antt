@@ -9,10 +9,10 @@ use Rattle.spin_core.specs.Values.{IsLast}
 use Rattle.spin_core.specs.declared.cell.Permit.{Permit}
 use Rattle.spin_core.specs.declared.guard.Guard.{Guard}
 use Rattle.spin_core.specs.declared.trace.Watch.{Watch}
-use Rattle.spin_model.specs.declared.answer.Answer.TheVariants.{Granted, Refused, Done}
-use Rattle.spin_model.specs.declared.schedule.Outcome.TheVariants.{Answered}
-use Rattle.spin_model.specs.declared.ticket.TicketCall.{TicketCall}
-use Rattle.spin_model.specs.declared.ticket.TicketCall.TheVariants.{Lock, TryLock, Release}
+use Rattle.spin_step.specs.declared.answer.Answer.TheVariants.{Granted, Refused, Done}
+use Rattle.spin_step.specs.declared.schedule.Outcome.TheVariants.{Answered}
+use Rattle.spin_step.specs.declared.ticket_calls.TicketCall.{TicketCall}
+use Rattle.spin_step.specs.declared.ticket_calls.TicketCall.TheVariants.{Lock, TryLock, Release}
 use Rattle.spin_step.specs.Plain.{ticket_limit}
 use Rattle.spin_ticket.specs.Guards.{Holds}
 use Rattle.spin_ticket.specs.Queue.{Key, Made, Called, model, use_of_party}

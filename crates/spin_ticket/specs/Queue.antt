@@ -10,20 +10,20 @@ use Rattle.spin_core.specs.Passes.{Course, Ending, IsCall, WritesSome, step_by, 
 use Rattle.spin_core.specs.Values.{last, untold}
 use Rattle.spin_core.specs.declared.tie.Opening.{Opening}
 use Rattle.spin_core.specs.declared.trace.Trace.{Trace}
-use Rattle.spin_model.specs.declared.answer.Answer.{Answer}
-use Rattle.spin_model.specs.declared.answer.Answer.TheVariants.{Granted, Refused, Is, Done}
-use Rattle.spin_model.specs.declared.place.Hold.TheVariants.{Ticket}
-use Rattle.spin_model.specs.declared.place.Seat.{Seat}
-use Rattle.spin_model.specs.declared.place.Seat.TheVariants as seat
-use Rattle.spin_model.specs.declared.schedule.Outcome.TheVariants.{GoingOn, Answered}
-use Rattle.spin_model.specs.declared.ticket.TicketCall.{TicketCall}
-use Rattle.spin_model.specs.declared.ticket.TicketCall.TheVariants.{Lock, TryLock, IsLocked, Release}
-use Rattle.spin_model.specs.declared.ticket.TicketPoint.{TicketPoint}
-use Rattle.spin_model.specs.declared.ticket.TicketPoint.TheVariants.{LoadNext, Take, Await, TryLoadServing, TryTake, LookNext}
-use Rattle.spin_model.specs.declared.ticket.TicketWords.{TicketWords}
-use Rattle.spin_model.specs.Machines.{Machine}
-use Rattle.spin_model.specs.Schedules.{Entry}
-use Rattle.spin_model.specs.Ticket.{is_left, is_free, ticket_machine}
+use Rattle.spin_step.specs.declared.answer.Answer.{Answer}
+use Rattle.spin_step.specs.declared.answer.Answer.TheVariants.{Granted, Refused, Is, Done}
+use Rattle.spin_step.specs.declared.place.Hold.TheVariants.{Ticket}
+use Rattle.spin_step.specs.declared.place.Seat.{Seat}
+use Rattle.spin_step.specs.declared.place.Seat.TheVariants as seat
+use Rattle.spin_step.specs.declared.schedule.Outcome.TheVariants.{GoingOn, Answered}
+use Rattle.spin_step.specs.declared.ticket_calls.TicketCall.{TicketCall}
+use Rattle.spin_step.specs.declared.ticket_calls.TicketCall.TheVariants.{Lock, TryLock, IsLocked, Release}
+use Rattle.spin_step.specs.declared.ticket_calls.TicketPoint.{TicketPoint}
+use Rattle.spin_step.specs.declared.ticket_calls.TicketPoint.TheVariants.{LoadNext, Take, Await, TryLoadServing, TryTake, LookNext}
+use Rattle.spin_step.specs.declared.ticket_calls.TicketWords.{TicketWords}
+use Rattle.spin_step.specs.Machines.{Machine}
+use Rattle.spin_step.specs.Schedules.{Entry}
+use Rattle.spin_step.specs.TicketCalls.{is_left, is_free, ticket_machine}
 use Rattle.spin_ticket.specs.declared.ticket.rule.View.{View}
 use Rattle.spin_ticket.specs.declared.ticket.rule.View.TheVariants.{Idle, Coming, Going, Waiting, Entered, LoadedNext, Trying, LoadedServing}
 

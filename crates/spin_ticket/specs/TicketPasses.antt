@@ -1,8 +1,8 @@
 -- What a pass knows: the lock's history up to the pass's last step, and which moves of the history are its own.
 use Rattle.std.specs.Prelude.{◌≡◌, ℕ, Bool, Option, List}
 use Rattle.spin_core.specs.Own.{Numbered}
-use Rattle.spin_model.specs.declared.answer.Answer.TheVariants.{Granted, Is}
-use Rattle.spin_model.specs.declared.ticket.TicketCall.TheVariants.{Lock, IsLocked}
+use Rattle.spin_step.specs.declared.answer.Answer.TheVariants.{Granted, Is}
+use Rattle.spin_step.specs.declared.ticket_calls.TicketCall.TheVariants.{Lock, IsLocked}
 use Rattle.spin_ticket.specs.Queue.{Key, Made, Called, Left}
 use Rattle.spin_ticket.specs.declared.ticket.TicketMutex.{TicketMutex}
 use Rattle.spin_ticket.specs.declared.ticket.pass.Pass.{Pass}

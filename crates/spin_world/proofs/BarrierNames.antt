@@ -4,8 +4,8 @@ pub use Rattle.std.specs.Prelude.{max}
 pub use Rattle.spin_step.specs.Plain.{arrives, Plain, Change, apply, count_word, generation_word}
 pub use Rattle.spin_step.specs.Barriers.{may_leave, IsBarrier, is_leading, generation_at}
 pub use Rattle.spin_step_more.proofs.Barriers.{barrier_arrive-words, barrier_may_leave-tells, barrier_count-below, barrier_may_leave-full}
-pub use Rattle.spin_model.specs.declared.answer.Answer.TheVariants.{Leader, Follower}
-pub use Rattle.spin_model.specs.declared.place.Hold.{Hold}
+pub use Rattle.spin_step.specs.declared.answer.Answer.TheVariants.{Leader, Follower}
+pub use Rattle.spin_step.specs.declared.place.Hold.{Hold}
 pub use Rattle.spin_world.specs.declared.barrier.BarrierWords.{BarrierWords}
 pub use Rattle.spin_world.specs.declared.barrier.BarrierCall.{BarrierCall}
 pub use Rattle.spin_world.specs.declared.barrier.BarrierPoint.{BarrierPoint}
@@ -14,5 +14,5 @@ pub use Rattle.spin_world_core.specs.Runs.{Seen, scene, step_at, opening, own, m
 pub use Rattle.spin_world_core.specs.Undisturbed.{arrived}
 pub use Rattle.spin_world_core.specs.Users.{seen_at, seen_after, passes, steps_made}
 pub use Rattle.spin_world.specs.BarrierTable.{BarrierMachine, leads, barrier_machine, barrier_table}
-pub use Rattle.spin_model.specs.Asks.{is_arrival}
+pub use Rattle.spin_step.specs.Asks.{is_arrival}
 pub use Rattle.spin_world.specs.Groups.{Entries, arrivals, InGroups, FollowersLeave}

@@ -2,9 +2,9 @@
 use Rattle.spin_world.proofs.BarrierNames.{◌≡◌, ℕ, ◌+◌, ◌≤◌, ◌==◌, false, ◌&&◌, is_some, Option, Some, None, List, ◌∷◌, refl, arith, Plain, Change, arrives, count_word, generation_word, IsBarrier, is_leading, generation_at, barrier_arrive-words, barrier_count-below, barrier_may_leave-full, Hold, BarrierWords, BarrierPoint, Arrive, Leave, arrived, mark_of, passes, is_arrival, barrier_table, barrier_machine, []}
 use Rattle.std.proofs.Math.Bool.{and-false}
 use Rattle.spin_step.specs.Parties.{apply_some}
-use Rattle.spin_model.specs.StepKinds.{StepKind, look}
-use Rattle.spin_model.specs.Calls.{AnyOf, BelongsTo, Mark, follows}
-use Rattle.spin_model.specs.Asks.{arrives_leading, finds_full}
+use Rattle.spin_step.specs.StepKinds.{StepKind, look}
+use Rattle.spin_step.specs.Calls.{AnyOf, BelongsTo, Mark, follows}
+use Rattle.spin_step.specs.Asks.{arrives_leading, finds_full}
 use Rattle.spin_world.specs.BarrierKind.{barrier}
 use Rattle.spin_step.specs.Steps.{bit}
 use Rattle.spin_world_core.proofs.Steps.{Plays}

@@ -1,8 +1,8 @@
 -- Proofs of what users of a `Once` may rely on when a closure begins, also after another closure has failed.
 use Rattle.spin_world_core.specs.Users.{IsCalling}
 use Rattle.spin_world.proofs.OnceNames.{◌≡◌, ℕ, true, Option, Some, ◌∷◌, ◌++◌, slice_get, refl, arith, ap, ◌∙◌, ◌⊎◌, Hold, Calling, Step, to_begin, gets, Seen, step_at, happens, at_first, OnceCall, OncePoint, Look, TryBegin, Await, Run, asks_of, OnceMachine, once_machine, Entries, once_after, RunsClosure, seen_at, has_just_looked, has_closure, MayRunAgain, LooksFirst, after-append, Invariant, in_call, []}
-use Rattle.spin_model.specs.declared.place.Seat.{Seat}
-use Rattle.spin_model.proofs.Lists.{get-set_same}
+use Rattle.spin_step.specs.declared.place.Seat.{Seat}
+use Rattle.spin_step.proofs.Lists.{get-set_same}
 use Rattle.spin_world.proofs.OnceOwed.{once_facts}
 use Rattle.spin_world_core.proofs.Reached.{good}
 use Rattle.spin_world.proofs.Keeping.{OnceState, not_at_run, run_here}

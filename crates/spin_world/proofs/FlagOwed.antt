@@ -3,8 +3,8 @@ use Rattle.std.proofs.Common.{◌≡◌, [], refl, arith}
 use Rattle.spin_step.specs.Plain.{writing}
 use Rattle.spin_step.proofs.Holders.{is_holder-from_entries, length-held}
 use Rattle.spin_step.proofs.Flags.{flag_lock-grants, flag_unlock-gives}
-use Rattle.spin_model.specs.Acts.{begin_of}
-use Rattle.spin_model.specs.Flag.{flag_table, flag_machine}
+use Rattle.spin_step.specs.Acts.{begin_of}
+use Rattle.spin_step.specs.FlagCalls.{flag_table, flag_machine}
 use Rattle.spin_world_core.proofs.Steps.{Plays}
 use Rattle.spin_world_core.proofs.Rows.{starts}
 use Rattle.spin_world_core.proofs.Shapes.{Notes}

@@ -5,9 +5,9 @@ use Rattle.spin_world_core.specs.Users.{seen_at}
 use Rattle.spin_world_core.specs.Runs.{state_at}
 use Rattle.spin_world_core.specs.Runs.{Schedule}
 use Rattle.spin_world.proofs.FairNames.{◌≡◌, ℕ, ◌+◌, ◌%◌, ◌==◌, ◌⊎◌, Bool, true, not, ◌&&◌, Option, Some, refl, ap, sym, ◌∙◌, arith, inl, inr, ⊎_elim, eq-eqb, is_empty, fair_word, Entries, Hold, Continue, FairCall, FairPoint, SetFlag, Await, Unregister, asks_of, fair_machine, IsGrantedNext, SetsAClearFlag, GoesForAClearFlag}
-use Rattle.spin_model.specs.declared.place.Seat.TheVariants.{Calling}
-use Rattle.spin_model.specs.declared.schedule.Move.TheVariants.{Step}
-use Rattle.spin_model.specs.Schedules.{moves_at}
+use Rattle.spin_step.specs.declared.place.Seat.TheVariants.{Calling}
+use Rattle.spin_step.specs.declared.schedule.Move.TheVariants.{Step}
+use Rattle.spin_step.specs.Schedules.{moves_at}
 use Rattle.spin_world_core.proofs.Reached.{numbers_are, StandsSo, calls_so}
 use Rattle.spin_world.proofs.FairKnowledge.{flag_clear}
 use Rattle.spin_world.proofs.FairOwed.{fair_notes, fair_facts}

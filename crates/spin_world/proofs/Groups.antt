@@ -2,11 +2,11 @@
 use Rattle.spin_world_core.proofs.Every.{outcome-seen_at}
 use Rattle.spin_world_core.proofs.Every.{state-seen_at}
 use Rattle.spin_world.proofs.BarrierNames.{◌≡◌, ℕ, ◌+◌, ◌%◌, ◌==◌, ◌↔◌, true, Option, Some, None, ◌∷◌, slice_get, arith, max, arrives, may_leave, barrier_arrive-words, barrier_may_leave-tells, Leader, Follower, Hold, BarrierWords, BarrierCall, BarrierPoint, Seen, scene, step_at, opening, own, arrived, seen_after, passes, steps_made, BarrierMachine, leads, barrier_machine, is_arrival, Entries, seen_at, arrivals, InGroups, FollowersLeave, []}
-use Rattle.spin_model.specs.declared.place.Seat.{Seat}
-use Rattle.spin_model.specs.declared.place.Seat.TheVariants.{Calling}
-use Rattle.spin_model.specs.declared.schedule.Move.TheVariants.{Step}
-use Rattle.spin_model.specs.declared.schedule.Outcome.TheVariants.{Answered}
-use Rattle.spin_model.specs.Schedules.{State, happens, moves_at}
+use Rattle.spin_step.specs.declared.place.Seat.{Seat}
+use Rattle.spin_step.specs.declared.place.Seat.TheVariants.{Calling}
+use Rattle.spin_step.specs.declared.schedule.Move.TheVariants.{Step}
+use Rattle.spin_step.specs.declared.schedule.Outcome.TheVariants.{Answered}
+use Rattle.spin_step.specs.Schedules.{State, happens, moves_at}
 use Rattle.spin_world_core.proofs.Steps.{Plays}
 use Rattle.spin_world_core.proofs.Reached.{good}
 use Rattle.spin_world_core.proofs.Preserved.{Invariant, in_call}

@@ -3,7 +3,7 @@ use Rattle.spin_world_core.proofs.Every.{outcome-seen_at}
 use Rattle.spin_world_core.specs.Users.{IsCalling}
 use Rattle.spin_world_core.proofs.Every.{state-seen_at}
 use Rattle.spin_world.proofs.OnceNames.{Plays, ◌≡◌, ℕ, ◌==◌, true, false, is_some, Option, Some, None, ◌∷◌, ◌++◌, refl, arith, ap, ◌∙◌, and_parts, running, once_word, Value, Hold, Step, State, after, at_first, Seen, scene, OnceCall, Get, OncePoint, Run, runs, asks_of, OnceMachine, once_machine, Entries, once_after, seen_at, keeps_value, is_shared, ValueStays, RunsClosure, OneRuns, wants_value, AnswersAtOnce, GetAgrees, after-append, Invariant, []}
-use Rattle.spin_model.specs.declared.schedule.Outcome.TheVariants as outcome
+use Rattle.spin_step.specs.declared.schedule.Outcome.TheVariants as outcome
 use Rattle.spin_world_core.specs.Users.{outcome_after}
 use Rattle.spin_world_core.proofs.Every.{kept}
 use Rattle.spin_world_core.proofs.Reached.{good, numbers_are, calls}

@@ -4,7 +4,7 @@ use Rattle.spin_world_core.specs.Runs.{state_at}
 use Rattle.spin_world_core.specs.Users.{seen_at}
 use Rattle.spin_world_core.specs.Runs.{Schedule}
 use Rattle.spin_world.proofs.TicketNames.{◌≡◌, ℕ, ◌+◌, Option, Some, ◌∷◌, ◌++◌, slice_get, arith, Plain, Change, serving_word, apply_some, IsOpenStep, bit, Numbered, serving-moves, entered_is_served, Holding, TicketCall, TicketPoint, TicketWords, Seen, scene, opening, ticket_machine, seen_after, Plays, passes, serves_one, tickets_gone, InOrder, InTurn, []}
-use Rattle.spin_model.specs.declared.place.Hold.TheVariants as hold
+use Rattle.spin_step.specs.declared.place.Hold.TheVariants as hold
 use Rattle.spin_world.proofs.TicketOwed.{ticket_notes, ticket_facts}
 use Rattle.spin_world_core.proofs.Preserved.{Invariant}
 use Rattle.spin_world_core.proofs.Every.{kept}

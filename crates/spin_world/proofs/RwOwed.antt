@@ -3,11 +3,11 @@ use Rattle.spin_world.proofs.RwNames.{◌≡◌, ℕ, ◌≤◌, true, Option, S
 use Rattle.std.specs.Prelude.{min, max}
 use Rattle.spin_step.proofs.Sums.{length-with_kind}
 use Rattle.spin_step_more.proofs.ReaderSteps.{rw_read-grants, rw_upgradable-grants, rw_write-grants, rw_upgrade-grants, rw_upgrade_asked-grants, rw_release-gives, rw_turn-gives}
-use Rattle.spin_model.specs.declared.place.Hold.TheVariants as hold
-use Rattle.spin_model.specs.Calls as calls
+use Rattle.spin_step.specs.declared.place.Hold.TheVariants as hold
+use Rattle.spin_step.specs.Calls as calls
 use Rattle.spin_step_more.specs.RwCalls.{asks_of, rw_table, rw_machine}
 use Rattle.spin_world_core.proofs.Rows.{starts}
-use Rattle.spin_model.specs.Acts.{passing}
+use Rattle.spin_step.specs.Acts.{passing}
 use Rattle.spin_world_core.proofs.Steps.{Plays}
 use Rattle.spin_world_core.proofs.Rows.{Row, Point, nowhere, looked, onward}
 use Rattle.spin_world_core.proofs.Filled.{plays_of}

@@ -5,11 +5,11 @@ use Rattle.spin_world_core.specs.Users.{seen_at}
 use Rattle.spin_world_core.specs.Runs.{Schedule}
 use Rattle.spin_world.proofs.RwNames.{◌≡◌, ℕ, ◌+◌, ◌==◌, ◌↔◌, true, Option, Some, None, List, ◌∷◌, ◌++◌, slice_get, ap, sym, ◌∙◌, arith, Plain, Kind, reading, asking, Change, is_holder, is_only, count_kind, rw_word, weight, apply_some, IsOpenStep, entries, IsExclusive, bit, empty_is, is_holder-own, reader_goes, one_of_each, only_asking-word, empty-word, word_of, Hold, RwCall, RwPoint, Mark, []}
 use Rattle.spin_step_more.proofs.Upgrading.{readers_only_go, alone_when_gone}
-use Rattle.spin_model.specs.declared.answer.Answer.TheVariants.{Granted, Done}
-use Rattle.spin_model.specs.declared.place.Seat.TheVariants.{Calling, Holding}
-use Rattle.spin_model.specs.declared.schedule.Move.TheVariants.{Step}
-use Rattle.spin_model.specs.declared.schedule.Outcome.TheVariants.{Answered}
-use Rattle.spin_model.specs.Schedules.{State, moves_at, at_first}
+use Rattle.spin_step.specs.declared.answer.Answer.TheVariants.{Granted, Done}
+use Rattle.spin_step.specs.declared.place.Seat.TheVariants.{Calling, Holding}
+use Rattle.spin_step.specs.declared.schedule.Move.TheVariants.{Step}
+use Rattle.spin_step.specs.declared.schedule.Outcome.TheVariants.{Answered}
+use Rattle.spin_step.specs.Schedules.{State, moves_at, at_first}
 use Rattle.spin_world_core.proofs.Shapes.{Knows}
 use Rattle.spin_world_core.proofs.Steps.{Plays}
 use Rattle.spin_world_core.specs.Runs.{Seen, scene, opening, entries_of}
@@ -18,10 +18,10 @@ use Rattle.spin_step_more.specs.RwCalls.{rw_machine}
 use Rattle.spin_world.specs.Standing.{StandTogether, KeepsWritersOut, less, Downgrades, readers_gone, StaysAsking, AllGone, Opens, converts}
 use Rattle.spin_world.proofs.RwOwed.{holder_by, rw_notes, rw_facts}
 use Rattle.spin_world_core.proofs.Reached.{good, numbers_are, stands, calls, calls_so, StandsSo}
-use Rattle.spin_model.proofs.Lists.{get-set_same}
+use Rattle.spin_step.proofs.Lists.{get-set_same}
 use Rattle.spin_world_core.proofs.Preserved.{Invariant}
 use Rattle.spin_world_core.proofs.Every.{kept}
-use Rattle.spin_model.proofs.Schedules.{after-append}
+use Rattle.spin_step.proofs.Schedules.{after-append}
 use Rattle.spin_world_core.proofs.Guards.{reads_agree_across, seen_after-append}
 
 -- Which parties hold together with a reader that asks to upgrade

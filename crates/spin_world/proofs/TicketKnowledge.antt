@@ -1,7 +1,7 @@
 -- What a party finds in a queue of tickets, and what answers follow from this.
 use Rattle.spin_world.proofs.TicketNames.{any_passes, ◌≡◌, ℕ, ◌==◌, ◌≤◌, ◌⊎◌, Bool, true, false, not, None, List, ◌∷◌, arith, Plain, ticket_limit, to_take_and_enter, is_empty, is_open_to, serving_word, is_held, Numbered, nobody_stands, somebody_stands, plain, mark_of, is_left, []}
-use Rattle.spin_model.specs.Calls.{AnyOf, Mark}
-use Rattle.spin_model.specs.Asks.{same}
+use Rattle.spin_step.specs.Calls.{AnyOf, Mark}
+use Rattle.spin_step.specs.Asks.{same}
 use Rattle.std.specs.List.{list_any}
 
 -- the shape of the lock: a queue, and no other holders

@@ -3,7 +3,7 @@
 use Rattle.spin_world_core.specs.Runs.{state_at}
 use Rattle.spin_world_core.specs.Runs.{Schedule}
 use Rattle.spin_world.proofs.TicketNames.{◌≡◌, ℕ, ◌<◌, ◌≤◌, Option, Some, List, ◌∷◌, arith, Plain, ticket_limit, to_take_and_enter, serving_word, Hold, Calling, Step, GoingOn, TicketCall, TicketPoint, TicketWords, State, moves_at, own_count, asks_of, ticket_machine, FoundNext, TriesByTwoLoads, []}
-use Rattle.spin_model.specs.Calls.{Mark}
+use Rattle.spin_step.specs.Calls.{Mark}
 use Rattle.spin_world_core.proofs.Shapes.{Knows}
 use Rattle.spin_world_core.proofs.Reached.{seen, numbers_are, calls}
 use Rattle.spin_world.proofs.TicketOwed.{ticket_notes, ticket_facts}

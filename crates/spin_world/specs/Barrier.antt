@@ -1,12 +1,12 @@
 -- What a barrier is: its first state, the size of its groups, and what its call promises. The promise of the call also
 -- says what its party holds when the call begins.
 use Rattle.std.specs.Prelude.{◌≡◌, ℕ, false, Option, None, [], ◌∷◌}
-use Rattle.spin_model.specs.declared.place.Hold.{Hold}
-use Rattle.spin_model.specs.declared.answer.Answer.{Answer}
+use Rattle.spin_step.specs.declared.place.Hold.{Hold}
+use Rattle.spin_step.specs.declared.answer.Answer.{Answer}
 use Rattle.spin_world.specs.declared.barrier.BarrierWords.{BarrierWords}
 use Rattle.spin_world.specs.declared.barrier.BarrierCall.TheVariants.{Wait}
-use Rattle.spin_model.specs.Calls.{says_of}
-use Rattle.spin_model.specs.Asks.{meets}
+use Rattle.spin_step.specs.Calls.{says_of}
+use Rattle.spin_step.specs.Asks.{meets}
 use Rattle.spin_world.specs.BarrierKind.{barrier}
 use Rattle.spin_world.specs.BarrierTable.{BarrierMachine}
 use Rattle.spin_world_core.specs.Kinds.{BeginAt}

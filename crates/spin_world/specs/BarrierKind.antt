@@ -2,9 +2,9 @@
 -- its steps is a section under its own lock.
 use Rattle.std.specs.Prelude.{ℕ, true, [], ◌∷◌, Option, List}
 use Rattle.spin_step.specs.Plain.{count_word, generation_word}
-use Rattle.spin_model.specs.declared.place.Hold.{Hold}
-use Rattle.spin_model.specs.Calls.{Asked, LockKind, usual}
-use Rattle.spin_model.specs.Asks.{is_arrival, meets}
+use Rattle.spin_step.specs.declared.place.Hold.{Hold}
+use Rattle.spin_step.specs.Calls.{Asked, LockKind, usual}
+use Rattle.spin_step.specs.Asks.{is_arrival, meets}
 
 abbrev pub barrier_calls : ℕ → Option Hold → List Asked
 barrier_calls n h = meets ∷ []

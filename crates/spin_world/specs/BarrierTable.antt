@@ -2,19 +2,19 @@
 use Rattle.std.specs.Prelude.{ℕ, Bool, false, not, Option, Some, None, ◌==◌, nat_lt, max}
 use Rattle.spin_step.specs.Plain.{arrives}
 use Rattle.spin_step.specs.Barriers.{arrived}
-use Rattle.spin_model.specs.declared.place.Hold.{Hold}
-use Rattle.spin_model.specs.declared.step.Next.TheVariants.{Continue, Answers}
-use Rattle.spin_model.specs.declared.answer.Answer.{Answer}
-use Rattle.spin_model.specs.declared.answer.Answer.TheVariants.{Leader, Follower}
+use Rattle.spin_step.specs.declared.place.Hold.{Hold}
+use Rattle.spin_step.specs.declared.stepped.Next.TheVariants.{Continue, Answers}
+use Rattle.spin_step.specs.declared.answer.Answer.{Answer}
+use Rattle.spin_step.specs.declared.answer.Answer.TheVariants.{Leader, Follower}
 use Rattle.spin_world.specs.declared.barrier.BarrierWords.{BarrierWords}
 use Rattle.spin_world.specs.declared.barrier.BarrierCall.{BarrierCall}
 use Rattle.spin_world.specs.declared.barrier.BarrierPoint.{BarrierPoint}
 use Rattle.spin_world.specs.declared.barrier.BarrierPoint.TheVariants.{Arrive, Leave}
 use Rattle.spin_world.specs.BarrierKind.{barrier}
-use Rattle.spin_model.specs.Machines.{Machine}
-use Rattle.spin_model.specs.Acts.{Memory, two_numbers, Act, load_if, section, either, Table, machine_of}
-use Rattle.spin_model.specs.Tables.{usual_table}
-use Rattle.spin_model.specs.Asks.{meets}
+use Rattle.spin_step.specs.Machines.{Machine}
+use Rattle.spin_step.specs.Acts.{Memory, two_numbers, Act, load_if, section, either, Table, machine_of}
+use Rattle.spin_step.specs.Tables.{usual_table}
+use Rattle.spin_step.specs.Asks.{meets}
 
 -- the words after one more arrival at a barrier with groups of n; `leads` says whether this arrival leads its group
 abbrev pub arrive : ℕ → BarrierWords → BarrierWords

@@ -4,15 +4,15 @@ use Rattle.spin_world_core.specs.Kinds.{Asks}
 use Rattle.std.specs.Prelude.{◌≡◌, ℕ, true, min, Some, None, [], ◌∷◌}
 use Rattle.spin_step.specs.Plain.{to_lock_unregistered, to_lock_starving, to_lock_starving_alone, to_starve}
 use Rattle.spin_step_more.specs.Starvers.{most_starvers}
-use Rattle.spin_model.specs.declared.place.Hold.TheVariants.{Write, Starver}
-use Rattle.spin_model.specs.declared.answer.Answer.{Answer}
+use Rattle.spin_step.specs.declared.place.Hold.TheVariants.{Write, Starver}
+use Rattle.spin_step.specs.declared.answer.Answer.{Answer}
 use Rattle.spin_step_more.specs.declared.fair_calls.FairCall.{FairCall}
 use Rattle.spin_step_more.specs.declared.fair_calls.FairCall.TheVariants.{Lock, TryLock, TryLockStarver, IsLocked, Starve, StarverTryLockFair, StarverTryLock, StarverLock, StarverDrop, Release}
 use Rattle.spin_step_more.specs.declared.fair_calls.FairPoint.{FairPoint}
-use Rattle.spin_model.specs.Calls.{says_of}
-use Rattle.spin_model.specs.Asks.{gives_back, is_registered, is_write, looks, looks_and_tries, tries, tries_in, tries_to_know, waits_or_starves, waits_starving}
+use Rattle.spin_step.specs.Calls.{says_of}
+use Rattle.spin_step.specs.Asks.{gives_back, is_registered, is_write, looks, looks_and_tries, tries, tries_in, tries_to_know, waits_or_starves, waits_starving}
 use Rattle.spin_step_more.specs.FairKind.{fair}
-use Rattle.spin_model.specs.Machines.{Machine}
+use Rattle.spin_step.specs.Machines.{Machine}
 use Rattle.spin_world_core.specs.Kinds.{BeginAt}
 
 abbrev pub FairMachine : Type 0 → Type 0

@@ -7,13 +7,13 @@ use Rattle.spin_world_core.specs.Runs.{Schedule}
 use Rattle.std.specs.Prelude.{◌≡◌, ℕ, ◌+◌, ◌%◌, ◌⊎◌, true, false, Option, Some, None, [], ◌∷◌, slice_get}
 use Rattle.spin_step.specs.Plain.{Plain, writing, holder, is_holder, is_starver}
 use Rattle.spin_step.specs.Parties.{Entries, entries, no_entries}
-use Rattle.spin_model.specs.declared.answer.Answer.TheVariants.{Granted}
-use Rattle.spin_model.specs.declared.place.Hold.{Hold}
-use Rattle.spin_model.specs.declared.place.Seat.TheVariants.{Calling}
-use Rattle.spin_model.specs.declared.schedule.Move.{Move}
-use Rattle.spin_model.specs.declared.schedule.Move.TheVariants.{Step}
-use Rattle.spin_model.specs.declared.schedule.Outcome.TheVariants.{Answered}
-use Rattle.spin_model.specs.declared.step.Next.TheVariants.{Continue}
+use Rattle.spin_step.specs.declared.answer.Answer.TheVariants.{Granted}
+use Rattle.spin_step.specs.declared.place.Hold.{Hold}
+use Rattle.spin_step.specs.declared.place.Seat.TheVariants.{Calling}
+use Rattle.spin_step.specs.declared.schedule.Move.{Move}
+use Rattle.spin_step.specs.declared.schedule.Move.TheVariants.{Step}
+use Rattle.spin_step.specs.declared.schedule.Outcome.TheVariants.{Answered}
+use Rattle.spin_step.specs.declared.stepped.Next.TheVariants.{Continue}
 use Rattle.spin_world_core.specs.Runs.{scene}
 use Rattle.spin_world_core.specs.Users.{outcome_after}
 use Rattle.spin_step_more.specs.declared.fair_calls.FairCall.{FairCall}

@@ -3,16 +3,16 @@ use Rattle.spin_world_core.specs.Kinds.{Asks}
 use Rattle.std.specs.Prelude.{◌≡◌, Bool, true, false, Option, Some, None, [], ◌∷◌}
 use Rattle.spin_step.specs.Plain.{to_write}
 use Rattle.spin_step.specs.Steps.{bit}
-use Rattle.spin_model.specs.declared.place.Hold.{Hold}
-use Rattle.spin_model.specs.declared.place.Hold.TheVariants.{Write}
-use Rattle.spin_model.specs.declared.answer.Answer.{Answer}
-use Rattle.spin_model.specs.declared.flag.FlagCall.{FlagCall}
-use Rattle.spin_model.specs.declared.flag.FlagCall.TheVariants.{Lock, TryLock, TryLockWeak, IsLocked, Release}
-use Rattle.spin_model.specs.declared.flag.FlagPoint.{FlagPoint}
-use Rattle.spin_model.specs.Calls.{says_of}
-use Rattle.spin_model.specs.Asks.{gives_back, is_write, looks, tries, tries_weakly, waits_to_write}
-use Rattle.spin_model.specs.FlagKind.{flag}
-use Rattle.spin_model.specs.Machines.{Machine}
+use Rattle.spin_step.specs.declared.place.Hold.{Hold}
+use Rattle.spin_step.specs.declared.place.Hold.TheVariants.{Write}
+use Rattle.spin_step.specs.declared.answer.Answer.{Answer}
+use Rattle.spin_step.specs.declared.flag_calls.FlagCall.{FlagCall}
+use Rattle.spin_step.specs.declared.flag_calls.FlagCall.TheVariants.{Lock, TryLock, TryLockWeak, IsLocked, Release}
+use Rattle.spin_step.specs.declared.flag_calls.FlagPoint.{FlagPoint}
+use Rattle.spin_step.specs.Calls.{says_of}
+use Rattle.spin_step.specs.Asks.{gives_back, is_write, looks, tries, tries_weakly, waits_to_write}
+use Rattle.spin_step.specs.FlagKind.{flag}
+use Rattle.spin_step.specs.Machines.{Machine}
 use Rattle.spin_world_core.specs.Kinds.{BeginAt, AnswersIn}
 
 pub record IsFlag {V : Type 0} (given : V) (m : Machine Bool V FlagCall FlagPoint (Answer V)) : Type 0 where

@@ -6,12 +6,12 @@ use Rattle.spin_world_core.specs.Users.{seen_at}
 use Rattle.std.specs.Prelude.{◌≡◌, ℕ, ◌+◌, ◌/◌, ◌%◌, ◌^◌, ◌↔◌, Bool, true, Option, None, List, [], ◌∷◌, max}
 use Rattle.spin_step.specs.Plain.{arrives}
 use Rattle.spin_step.specs.Barriers.{may_leave}
-use Rattle.spin_model.specs.Asks.{is_arrival}
-use Rattle.spin_model.specs.declared.answer.Answer.TheVariants.{Leader, Follower}
-use Rattle.spin_model.specs.declared.place.Hold.{Hold}
-use Rattle.spin_model.specs.declared.schedule.Move.{Move}
-use Rattle.spin_model.specs.declared.schedule.Move.TheVariants.{Step}
-use Rattle.spin_model.specs.declared.schedule.Outcome.TheVariants.{Answered}
+use Rattle.spin_step.specs.Asks.{is_arrival}
+use Rattle.spin_step.specs.declared.answer.Answer.TheVariants.{Leader, Follower}
+use Rattle.spin_step.specs.declared.place.Hold.{Hold}
+use Rattle.spin_step.specs.declared.schedule.Move.{Move}
+use Rattle.spin_step.specs.declared.schedule.Move.TheVariants.{Step}
+use Rattle.spin_step.specs.declared.schedule.Outcome.TheVariants.{Answered}
 use Rattle.spin_world.specs.declared.barrier.BarrierCall.{BarrierCall}
 use Rattle.spin_world.specs.declared.barrier.BarrierPoint.{BarrierPoint}
 use Rattle.spin_world_core.specs.Runs.{scene, opening, own}

@@ -5,23 +5,23 @@ use Rattle.spin_world_core.specs.Users.{IsCalling}
 use Rattle.spin_world_core.specs.Users.{seen_at}
 use Rattle.std.specs.Prelude.{◌≡◌, ℕ, ◌⊎◌, Bool, true, false, Option, Some, None, is_some, List, [], ◌∷◌, ◌++◌, ◌==◌, if◌then◌else◌, slice_get, not, ◌||◌}
 use Rattle.spin_step.specs.Plain.{to_begin, gets, is_complete, Change, is_empty}
-use Rattle.spin_model.specs.declared.answer.Answer.{Answer}
-use Rattle.spin_model.specs.declared.answer.Answer.TheVariants.{Value, NoValue, Failed}
-use Rattle.spin_model.specs.declared.place.Hold.{Hold}
-use Rattle.spin_model.specs.declared.place.Seat.TheVariants.{Calling}
-use Rattle.spin_model.specs.declared.schedule.Move.{Move}
-use Rattle.spin_model.specs.declared.schedule.Move.TheVariants.{Step, OwnerSet}
-use Rattle.spin_model.specs.declared.schedule.Outcome.TheVariants.{Answered}
-use Rattle.spin_model.specs.declared.once.OnceCall.{OnceCall}
-use Rattle.spin_model.specs.declared.once.OnceCall.TheVariants.{Get}
-use Rattle.spin_model.specs.declared.once.OncePoint.{OncePoint}
-use Rattle.spin_model.specs.Calls.{Asked, Mark, failed, gives_value, is_for, own_steps}
-use Rattle.spin_model.specs.StepKinds.{is_look}
-use Rattle.spin_model.specs.Schedules.{State}
+use Rattle.spin_step.specs.declared.answer.Answer.{Answer}
+use Rattle.spin_step.specs.declared.answer.Answer.TheVariants.{Value, NoValue, Failed}
+use Rattle.spin_step.specs.declared.place.Hold.{Hold}
+use Rattle.spin_step.specs.declared.place.Seat.TheVariants.{Calling}
+use Rattle.spin_step.specs.declared.schedule.Move.{Move}
+use Rattle.spin_step.specs.declared.schedule.Move.TheVariants.{Step, OwnerSet}
+use Rattle.spin_step.specs.declared.schedule.Outcome.TheVariants.{Answered}
+use Rattle.spin_step.specs.declared.once_calls.OnceCall.{OnceCall}
+use Rattle.spin_step.specs.declared.once_calls.OnceCall.TheVariants.{Get}
+use Rattle.spin_step.specs.declared.once_calls.OncePoint.{OncePoint}
+use Rattle.spin_step.specs.Calls.{Asked, Mark, failed, gives_value, is_for, own_steps}
+use Rattle.spin_step.specs.StepKinds.{is_look}
+use Rattle.spin_step.specs.Schedules.{State}
 use Rattle.spin_world_core.specs.Runs.{scene, own}
 use Rattle.spin_world_core.specs.Users.{outcome_after}
-use Rattle.spin_model.specs.Once.{OnceMachine}
-use Rattle.spin_model.specs.declared.once.OnceCall.TheVariants.{Poll}
+use Rattle.spin_step.specs.OnceCalls.{OnceMachine}
+use Rattle.spin_step.specs.declared.once_calls.OnceCall.TheVariants.{Poll}
 use Rattle.std.specs.List.{list_all, list_any}
 
 abbrev pub Entries : Type 0 → Type 0

@@ -1,18 +1,18 @@
 -- What a `Once` is: its first state, what each of its calls promises, and which value the closure of a call makes. The
 -- promise of a call also says what its party holds when the call begins.
-use Rattle.spin_model.specs.declared.place.Hold.{Hold}
+use Rattle.spin_step.specs.declared.place.Hold.{Hold}
 use Rattle.std.specs.Prelude.{◌≡◌, ℕ, true, Option, Some, None, [], ◌∷◌}
 use Rattle.spin_step.specs.Plain.{nothing, complete}
-use Rattle.spin_model.specs.declared.answer.Answer.{Answer}
-use Rattle.spin_model.specs.declared.once.OnceCall.{OnceCall}
-use Rattle.spin_model.specs.declared.once.OnceCall.TheVariants.{CallOnce, TryCallOnceOk, TryCallOnceErr, InitFromRef, Wait, Poll, Get, IsCompleted}
-use Rattle.spin_model.specs.Calls.{Asked, says_of}
-use Rattle.spin_model.specs.Asks.{fails_to_initialize, initializes, looks_complete, looks_for_value, polls, waits_for_value}
-use Rattle.spin_model.specs.OnceKind.{once}
-use Rattle.spin_model.specs.Machines.{opening_plain}
-use Rattle.spin_model.specs.Acts.{gives_of}
+use Rattle.spin_step.specs.declared.answer.Answer.{Answer}
+use Rattle.spin_step.specs.declared.once_calls.OnceCall.{OnceCall}
+use Rattle.spin_step.specs.declared.once_calls.OnceCall.TheVariants.{CallOnce, TryCallOnceOk, TryCallOnceErr, InitFromRef, Wait, Poll, Get, IsCompleted}
+use Rattle.spin_step.specs.Calls.{Asked, says_of}
+use Rattle.spin_step.specs.Asks.{fails_to_initialize, initializes, looks_complete, looks_for_value, polls, waits_for_value}
+use Rattle.spin_step.specs.OnceKind.{once}
+use Rattle.spin_step.specs.Machines.{opening_plain}
+use Rattle.spin_step.specs.Acts.{gives_of}
 use Rattle.spin_world_core.specs.Kinds.{BeginAt}
-use Rattle.spin_model.specs.Once.{OnceMachine}
+use Rattle.spin_step.specs.OnceCalls.{OnceMachine}
 
 -- the call promises this, and its closure makes this value, if any
 abbrev pub Takes : {V : Type 0} → OnceMachine V → OnceCall V → Asked → Option V → Type 0

@@ -4,16 +4,16 @@ use Rattle.spin_world_core.specs.Kinds.{Asks}
 use Rattle.std.specs.Prelude.{◌≡◌, ℕ, true, Option, Some, None, [], ◌∷◌, min}
 use Rattle.spin_step.specs.Plain.{reading, upgradable, to_read, to_read_upgradable, to_write, to_upgrade, fresh}
 use Rattle.spin_step_more.specs.Readers.{reader_limit}
-use Rattle.spin_model.specs.declared.place.Hold.{Hold}
-use Rattle.spin_model.specs.declared.place.Hold.TheVariants as hold
-use Rattle.spin_model.specs.declared.answer.Answer.{Answer}
+use Rattle.spin_step.specs.declared.place.Hold.{Hold}
+use Rattle.spin_step.specs.declared.place.Hold.TheVariants as hold
+use Rattle.spin_step.specs.declared.answer.Answer.{Answer}
 use Rattle.spin_step_more.specs.declared.rw_calls.RwCall.{RwCall}
 use Rattle.spin_step_more.specs.declared.rw_calls.RwCall.TheVariants.{TryRead, Read, TryUpgradeableRead, UpgradeableRead, TryWrite, TryWriteWeak, Write, ReaderCount, WriterCount, TryUpgrade, TryUpgradeWeak, Upgrade, Downgrade, DowngradeToUpgradeable, Release}
 use Rattle.spin_step_more.specs.declared.rw_calls.RwPoint.{RwPoint}
-use Rattle.spin_model.specs.Calls.{says_of}
-use Rattle.spin_model.specs.Asks.{counts_readers, counts_writers, gives_back, is_above_read, is_held_some, is_write, looks_and_tries, spins_to_write, tries, tries_weakly, turns_to, waits, waits_to_upgrade}
+use Rattle.spin_step.specs.Calls.{says_of}
+use Rattle.spin_step.specs.Asks.{counts_readers, counts_writers, gives_back, is_above_read, is_held_some, is_write, looks_and_tries, spins_to_write, tries, tries_weakly, turns_to, waits, waits_to_upgrade}
 use Rattle.spin_step_more.specs.RwKind.{rw}
-use Rattle.spin_model.specs.Machines.{Machine, opening_plain}
+use Rattle.spin_step.specs.Machines.{Machine, opening_plain}
 use Rattle.spin_world_core.specs.Kinds.{BeginAt, AnswersIn}
 
 abbrev pub RwMachine : Type 0 → Type 0

@@ -7,16 +7,16 @@ use Rattle.spin_world_core.specs.Runs.{Schedule}
 use Rattle.std.specs.Prelude.{◌≡◌, ℕ, ◌+◌, ◌<◌, ◌≤◌, ◌↔◌, Bool, true, false, Option, Some, None, [], ◌∷◌, ◌++◌, length, slice_get, min, max}
 use Rattle.spin_step.specs.Plain.{Plain, reading, asking, writing, to_write, to_upgrade, to_upgrade_asked, is_open_to, is_holder, count_kind, upgraders, rw_word}
 use Rattle.spin_step_more.specs.Readers.{reader_limit, reader_goes}
-use Rattle.spin_model.specs.declared.answer.Answer.TheVariants.{Granted, Done}
-use Rattle.spin_model.specs.declared.place.Hold.{Hold}
-use Rattle.spin_model.specs.declared.place.Hold.TheVariants as hold
-use Rattle.spin_model.specs.declared.place.Seat.TheVariants.{Holding}
-use Rattle.spin_model.specs.declared.schedule.Move.TheVariants.{Step}
-use Rattle.spin_model.specs.declared.schedule.Outcome.TheVariants.{Answered}
+use Rattle.spin_step.specs.declared.answer.Answer.TheVariants.{Granted, Done}
+use Rattle.spin_step.specs.declared.place.Hold.{Hold}
+use Rattle.spin_step.specs.declared.place.Hold.TheVariants as hold
+use Rattle.spin_step.specs.declared.place.Seat.TheVariants.{Holding}
+use Rattle.spin_step.specs.declared.schedule.Move.TheVariants.{Step}
+use Rattle.spin_step.specs.declared.schedule.Outcome.TheVariants.{Answered}
 use Rattle.spin_step_more.specs.declared.rw_calls.RwCall.{RwCall}
 use Rattle.spin_step_more.specs.declared.rw_calls.RwCall.TheVariants.{TryUpgrade, TryUpgradeWeak, Upgrade, Downgrade, DowngradeToUpgradeable}
 use Rattle.spin_step_more.specs.declared.rw_calls.RwPoint.{RwPoint}
-use Rattle.spin_model.specs.Machines.{Machine}
+use Rattle.spin_step.specs.Machines.{Machine}
 use Rattle.spin_world_core.specs.Runs.{Seen, scene}
 use Rattle.spin_world_core.specs.Users.{outcome_after, steps_made}
 

@@ -2,17 +2,17 @@
 use Rattle.spin_world_core.specs.Kinds.{Asks}
 use Rattle.std.specs.Prelude.{◌≡◌, ℕ, true, Option, Some, None, [], ◌∷◌}
 use Rattle.spin_step.specs.Plain.{to_take_and_enter}
-use Rattle.spin_model.specs.declared.place.Hold.{Hold}
-use Rattle.spin_model.specs.declared.place.Hold.TheVariants.{Ticket}
-use Rattle.spin_model.specs.declared.answer.Answer.{Answer}
-use Rattle.spin_model.specs.declared.ticket.TicketWords.{TicketWords}
-use Rattle.spin_model.specs.declared.ticket.TicketCall.{TicketCall}
-use Rattle.spin_model.specs.declared.ticket.TicketCall.TheVariants.{Lock, TryLock, IsLocked, Release}
-use Rattle.spin_model.specs.declared.ticket.TicketPoint.{TicketPoint}
-use Rattle.spin_model.specs.Calls.{says_of}
-use Rattle.spin_model.specs.Asks.{gives_back, is_ticket, looks, tries_in, waits_to_enter}
-use Rattle.spin_model.specs.TicketKind.{ticket}
-use Rattle.spin_model.specs.Machines.{Machine}
+use Rattle.spin_step.specs.declared.place.Hold.{Hold}
+use Rattle.spin_step.specs.declared.place.Hold.TheVariants.{Ticket}
+use Rattle.spin_step.specs.declared.answer.Answer.{Answer}
+use Rattle.spin_step.specs.declared.ticket_calls.TicketWords.{TicketWords}
+use Rattle.spin_step.specs.declared.ticket_calls.TicketCall.{TicketCall}
+use Rattle.spin_step.specs.declared.ticket_calls.TicketCall.TheVariants.{Lock, TryLock, IsLocked, Release}
+use Rattle.spin_step.specs.declared.ticket_calls.TicketPoint.{TicketPoint}
+use Rattle.spin_step.specs.Calls.{says_of}
+use Rattle.spin_step.specs.Asks.{gives_back, is_ticket, looks, tries_in, waits_to_enter}
+use Rattle.spin_step.specs.TicketKind.{ticket}
+use Rattle.spin_step.specs.Machines.{Machine}
 use Rattle.spin_world_core.specs.Kinds.{BeginAt}
 
 abbrev pub TicketMachine : Type 0 → Type 0

@@ -8,17 +8,17 @@ use Rattle.std.specs.Prelude.{◌≡◌, ℕ, ◌+◌, ◌<◌, ◌↔◌, Bool,
 use Rattle.spin_step.specs.Plain.{Plain, ticket, ticket_limit, to_take_and_enter, Change, serves, next_word, serving_word}
 use Rattle.spin_step.specs.Parties.{Entries, entries, no_entries, first_alone_entered}
 use Rattle.spin_step.specs.Tickets.{Numbered}
-use Rattle.spin_model.specs.declared.answer.Answer.TheVariants.{Granted}
-use Rattle.spin_model.specs.declared.place.Hold.{Hold}
-use Rattle.spin_model.specs.declared.place.Hold.TheVariants as hold
-use Rattle.spin_model.specs.declared.place.Seat.TheVariants.{Holding}
-use Rattle.spin_model.specs.declared.schedule.Move.TheVariants.{Step}
-use Rattle.spin_model.specs.declared.schedule.Outcome.TheVariants.{GoingOn, Answered}
-use Rattle.spin_model.specs.declared.ticket.TicketCall.{TicketCall}
-use Rattle.spin_model.specs.declared.ticket.TicketPoint.{TicketPoint}
-use Rattle.spin_model.specs.declared.ticket.TicketWords.{TicketWords}
-use Rattle.spin_model.specs.Calls.{AnyOf, Mark}
-use Rattle.spin_model.specs.Machines.{Machine}
+use Rattle.spin_step.specs.declared.answer.Answer.TheVariants.{Granted}
+use Rattle.spin_step.specs.declared.place.Hold.{Hold}
+use Rattle.spin_step.specs.declared.place.Hold.TheVariants as hold
+use Rattle.spin_step.specs.declared.place.Seat.TheVariants.{Holding}
+use Rattle.spin_step.specs.declared.schedule.Move.TheVariants.{Step}
+use Rattle.spin_step.specs.declared.schedule.Outcome.TheVariants.{GoingOn, Answered}
+use Rattle.spin_step.specs.declared.ticket_calls.TicketCall.{TicketCall}
+use Rattle.spin_step.specs.declared.ticket_calls.TicketPoint.{TicketPoint}
+use Rattle.spin_step.specs.declared.ticket_calls.TicketWords.{TicketWords}
+use Rattle.spin_step.specs.Calls.{AnyOf, Mark}
+use Rattle.spin_step.specs.Machines.{Machine}
 use Rattle.spin_world_core.specs.Runs.{Seen, own_count}
 use Rattle.spin_world_core.specs.Users.{outcome_after, steps_made}
 use Rattle.spin_world_core.specs.Order.{tries_of}

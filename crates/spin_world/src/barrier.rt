@@ -1,6 +1,6 @@
 //! The barrier, as a table of the steps of its call. Begin with [`BarrierObject::new`] and [`BarrierCall`].
 ghost use Rattle.std.specs.Prelude.{◌≡◌, true};
-ghost use Rattle.spin_model.specs.Acts.{step_by, can_by, refusal_by};
+ghost use Rattle.spin_step.specs.Acts.{step_by, can_by, refusal_by};
 ghost use Rattle.spin_world_core.specs.Stepping.{result_of, refusal_of};
 ghost use Rattle.spin_world.specs.BarrierTable.{barrier_memory, word_of, act_of, barrier_machine};
 ghost use Rattle.spin_world.specs.Barrier.{IsBarrierOf};

@@ -2,9 +2,9 @@
 //!
 //! A starver is a party that has registered in order to go first. All other parties are newcomers.
 ghost use Rattle.std.specs.Prelude.{◌≡◌, ◌≢◌, ◌<◌, ◌+◌, true};
-ghost use Rattle.spin_model.specs.declared.step.Next.TheVariants.{Continue};
+ghost use Rattle.spin_step.specs.declared.stepped.Next.TheVariants.{Continue};
 ghost use Rattle.spin_step_more.specs.declared.fair_calls.FairPoint.TheVariants.{Register};
-ghost use Rattle.spin_model.specs.Acts.{one_number, step_by, can_by, refusal_by};
+ghost use Rattle.spin_step.specs.Acts.{one_number, step_by, can_by, refusal_by};
 ghost use Rattle.spin_world_core.specs.Stepping.{result_of, refusal_of, tried_again};
 ghost use Rattle.spin_step_more.specs.Starvers.{starve};
 ghost use Rattle.spin_step_more.specs.FairCalls.{rejects, finds_no_room, registered, act_of_first, act_of, fair_machine};

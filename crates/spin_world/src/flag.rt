@@ -1,15 +1,14 @@
 //! The lock of one flag, as a table of the steps of its calls. Begin with [`Flag::new`] and [`FlagCall`].
 ghost use Rattle.std.specs.Prelude.{◌≡◌, true};
-ghost use Rattle.spin_model.specs.Acts.{step_by, can_by, refusal_by};
-ghost use Rattle.spin_model.specs.Flag.{flag_memory, act_of, flag_machine};
+ghost use Rattle.spin_step.specs.Acts.{step_by, can_by, refusal_by};
+ghost use Rattle.spin_step.specs.FlagCalls.{flag_memory, act_of, flag_machine};
 ghost use Rattle.spin_world_core.specs.Stepping.{result_of, refusal_of};
 ghost use Rattle.spin_world.specs.Flag.{IsFlag};
 
 mod laws;
 
 pub use laws::a_flag_is_clear_when_nobody_holds;
-use spin_model::{FlagCall, FlagPoint};
-use spin_step::flag;
+use spin_step::{FlagCall, FlagPoint, flag};
 use spin_world_core::{Act, Answer, Hold, Next, Object};
 
 /// The lock of one flag. The flag is set while a party holds the lock.

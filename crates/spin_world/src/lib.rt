@@ -29,7 +29,7 @@ pub use rw::{
     Rw, a_downgrade_keeps_writers_out, a_word_is_zero_when_nobody_holds,
     an_upgrade_opens_by_releases, looks_agree_across_conversions, readers_stand_beside_no_writer,
 };
-pub use spin_model::{
+pub use spin_step::{
     FlagCall, FlagPoint, OnceCall, OncePoint, TicketCall, TicketPoint, TicketWords,
 };
 pub use spin_step_more::rw_calls::{RwCall, RwPoint};

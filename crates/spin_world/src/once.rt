@@ -1,8 +1,8 @@
 //! The `Once`, as a table of the steps of its calls. Begin with [`OnceObject::new`] and [`OnceCall`].
 ghost use Rattle.std.specs.Prelude.{◌≡◌, Some, None, true};
-ghost use Rattle.spin_model.specs.Acts.{one_number, either, step_by, can_by, completes_by, filled, step_with};
+ghost use Rattle.spin_step.specs.Acts.{one_number, either, step_by, can_by, completes_by, filled, step_with};
 ghost use Rattle.spin_world_core.specs.Stepping.{result_of, refusal_of};
-ghost use Rattle.spin_model.specs.Once.{is_there, tells, runs, ends, brings_of, act_of, once_machine};
+ghost use Rattle.spin_step.specs.OnceCalls.{is_there, tells, runs, ends, brings_of, act_of, once_machine};
 ghost use Rattle.spin_world.specs.Once.{IsOnceOf};
 
 mod laws;
@@ -12,8 +12,7 @@ pub use laws::{
     a_value_is_answered_at_once, a_value_is_looked_at_where_it_is_complete, a_value_stays,
     one_closure_runs_at_a_time,
 };
-use spin_model::{OnceCall, OncePoint};
-use spin_step::once;
+use spin_step::{OnceCall, OncePoint, once};
 use spin_world_core::{Act, Answer, Hold, Next, Object};
 
 /// The cell that is filled once, by the first closure that gives a value.

@@ -1,6 +1,6 @@
 //! The read-write lock, as a table of the steps of its calls. Begin with [`Rw::new`] and [`RwCall`].
 ghost use Rattle.std.specs.Prelude.{◌≡◌, ◌≤◌, true};
-ghost use Rattle.spin_model.specs.Acts.{one_number, step_by, can_by, refusal_by};
+ghost use Rattle.spin_step.specs.Acts.{one_number, step_by, can_by, refusal_by};
 ghost use Rattle.spin_world_core.specs.Stepping.{result_of, refusal_of};
 ghost use Rattle.spin_step_more.specs.RwCalls.{act_of, rw_machine};
 ghost use Rattle.spin_world.specs.Rw.{IsRw};

@@ -1,9 +1,9 @@
 //! The ticket lock, as a table of the steps of its calls. Begin with [`Ticket::new`] and [`TicketCall`].
 ghost use Rattle.std.specs.Prelude.{◌≡◌, true};
 ghost use Rattle.std.specs.Option.{option_map};
-ghost use Rattle.spin_model.specs.Acts.{step_by, can_by, refusal_by};
+ghost use Rattle.spin_step.specs.Acts.{step_by, can_by, refusal_by};
 ghost use Rattle.spin_step.specs.Tickets.{take};
-ghost use Rattle.spin_model.specs.Ticket.{ticket_memory, word_of, act_of, ticket_machine};
+ghost use Rattle.spin_step.specs.TicketCalls.{ticket_memory, word_of, act_of, ticket_machine};
 ghost use Rattle.spin_world_core.specs.Stepping.{result_of, refusal_of};
 ghost use Rattle.spin_world.specs.Ticket.{IsTicketLock};
 
@@ -12,8 +12,7 @@ mod laws;
 pub use laws::{
     a_try_finds_its_number_by_two_loads, tickets_enter_by_releases, tickets_stand_in_order,
 };
-use spin_model::{TicketCall, TicketPoint, TicketWords};
-use spin_step::ticket;
+use spin_step::{TicketCall, TicketPoint, TicketWords, ticket};
 use spin_world_core::{Act, Answer, Hold, Next, Object};
 
 /// The ticket lock: parties take tickets, and enter in the order of their numbers.

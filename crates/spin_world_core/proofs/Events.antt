@@ -2,7 +2,7 @@
 -- cases holds of every event.
 use Rattle.spin_world_core.proofs.Names.{seat_of, ◌≡◌, ℕ, Bool, true, false, Option, Some, None, refl, Hold, Seat, Idle, Calling, Holding, Leaked, Next, Move, Begin, Step, Weak, Read, Write, Leak, OwnerGet, OwnerSet, StepKind, plain, weak, Machine, skipped, begun, goes_on, resting, read_by, written_by, may_read, may_write, is_owners, owner_gets, owner_sets, Seen, Scene, scene, scene_at, scene_of, is_open_move, State, Outcome, Change, moves_at, ComesTo, slice_get, slice_get-map, seen_by_owner, arith}
 use Rattle.std.specs.Prelude.{◌↔◌}
-use Rattle.spin_model.specs.declared.schedule.Outcome.TheVariants as outcome
+use Rattle.spin_step.specs.declared.schedule.Outcome.TheVariants as outcome
 use Rattle.spin_world_core.specs.Runs.{StepLeaves, is_in_place}
 use Rattle.spin_world_core.proofs.Lists.{get-set_other}
 

@@ -1,7 +1,7 @@
 -- Every event of every schedule keeps all that is promised, for any machine that plays a table (`Plays`).
 use Rattle.spin_world_core.proofs.Names.{ap}
 use Rattle.spin_world_core.specs.Users.{outcome_after}
-use Rattle.spin_model.specs.Schedules.{happens}
+use Rattle.spin_step.specs.Schedules.{happens}
 use Rattle.spin_world_core.proofs.Names.{happens}
 use Rattle.spin_world_core.specs.Users.{seen_at}
 use Rattle.spin_world_core.specs.Runs.{state_at}

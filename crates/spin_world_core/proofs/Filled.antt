@@ -1,9 +1,9 @@
 -- Two machines that play a table. In one no closure makes the value; in the other the object's closures make it.
 use Rattle.spin_world_core.proofs.Names.{◌≡◌, ℕ, true, false, is_some, Option, Some, None, refl, sym, ◌∙◌, subst, arith, true≢false, Plain, Phase, Change, completes, is_complete, apply_some, IsOpenStep, entries, is_held, Answer, Hold, Next, Answers, encoded, says_of, placed, HasPhase, if_completed, is_writer, Act, store, step_by, change_at, change_by, makes_by, Table, machine_of, completes_by, filled, machine_with}
 use Rattle.std.specs.Prelude.{if◌then◌else◌}
-use Rattle.spin_model.specs.Asks.{is_completion}
+use Rattle.spin_step.specs.Asks.{is_completion}
 use Rattle.spin_world_core.specs.Users.{passes}
-use Rattle.spin_model.specs.declared.answer.Answer.TheVariants.{Value}
+use Rattle.spin_step.specs.declared.answer.Answer.TheVariants.{Value}
 use Rattle.spin_world_core.proofs.Operating.{change_is, fits_change, stepwise_of, stepwise_with}
 use Rattle.spin_world_core.proofs.Shapes.{Notes, Pays}
 use Rattle.spin_world_core.proofs.Steps.{told, NextGives, Plays}

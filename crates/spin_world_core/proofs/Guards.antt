@@ -3,7 +3,7 @@ use Rattle.spin_world_core.proofs.Every.{outcome-seen_at}
 use Rattle.spin_world_core.specs.Runs.{Schedule}
 use Rattle.spin_world_core.proofs.Names.{seat_of, slice_get_within, ◌≡◌, ℕ, ◌==◌, ◌||◌, Bool, true, false, not, Option, Some, None, List, [], ◌∷◌, ◌++◌, map, slice_get, slice_set, refl, arith, ap, sym, ◌∙◌, list_all, option_map, and_parts, true≢false, slice_get-map, Plain, Change, completes, entries, is_held, Hold, Seat, Calling, Holding, Leaked, Gone, Next, Continue, Answers, Move, Step, Weak, Read, OwnerSet, StepKind, plain, weak, by_step, Mark, Machine, State, moves_at, goes_on, placed, resting, may_read, may_write, yields_to_owner, seen_by_owner, owner_writes, Seen, Scene, scene, scene_at, scene_of, if_completed, is_reader, opening, seen_after, Table}
 use Rattle.spin_world_core.specs.Users.{ReadsAgree, ReadsAgreeAcross, is_quiet, is_quiet_move}
-use Rattle.spin_model.specs.declared.schedule.Outcome.TheVariants as outcome
+use Rattle.spin_step.specs.declared.schedule.Outcome.TheVariants as outcome
 use Rattle.spin_world_core.proofs.Lists.{eqb_self, get-set}
 use Rattle.spin_world_core.proofs.Steps.{played, Plays}
 use Rattle.spin_world_core.proofs.Paid.{at_step}

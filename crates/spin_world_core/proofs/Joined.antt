@@ -4,7 +4,7 @@ use Rattle.spin_world_core.specs.Runs.{Schedule}
 use Rattle.spin_world_core.proofs.Names.{◌≡◌, ℕ, suc, ◌+◌, ◌≤◌, ◌==◌, ◌&&◌, Option, Some, None, List, [], ◌∷◌, ◌++◌, length, map, take, drop, if◌then◌else◌, refl, ap, sym, ◌∙◌, arith, append_assoc, append-nil, take-append-drop, Event, Machine, State, after, at_first, events_of, with_begins, last_begin, is_begun, Seen, Scene, scene, opening, AfterAnyPast, seen_after, Lawful, scenes, EachTells, TellsAfterAnyPast, joined}
 use Rattle.std.proofs.Math.Seq.{drop-append_seam, take-append_seam}
 use Rattle.spin_world_core.specs.Joined.{IsCut, Promised, RunsAreOne, after_runs, began_from, event_from, transcripts_of}
-use Rattle.spin_model.proofs.Schedules.{after-append}
+use Rattle.spin_step.proofs.Schedules.{after-append}
 use Rattle.spin_world_core.proofs.Schedules.{events_of-append, seen_after-append, length-events_of, with_begins-append, last_begin-append}
 use Rattle.spin_world_core.proofs.Transcripts.{tells_after}
 

@@ -1,6 +1,6 @@
 -- A machine that plays a table (`Plays`) is lawful.
-use Rattle.spin_model.specs.Machines.{Machine}
-use Rattle.spin_model.specs.Acts.{Table}
+use Rattle.spin_step.specs.Machines.{Machine}
+use Rattle.spin_step.specs.Acts.{Table}
 use Rattle.spin_world_core.specs.Lawful.{Lawful}
 use Rattle.spin_world_core.proofs.Steps.{played, Plays}
 use Rattle.spin_world_core.proofs.Shapes.{Notes}

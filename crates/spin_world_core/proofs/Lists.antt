@@ -1,7 +1,7 @@
 -- Lists that are read and written by place.
 use Rattle.std.proofs.Common.{◌≡◌, ℕ, zero, suc, pred, ◌<◌, ◌==◌, true, Option, Some, None, List, [], ◌∷◌, length, replicate, slice_get, slice_set, refl, arith}
 use Rattle.std.proofs.lemmas.Bool.{eq-eqb}
-use Rattle.spin_model.proofs.Lists.{get-set_within}
+use Rattle.spin_step.proofs.Lists.{get-set_within}
 
 pub eqb_self : (p : ℕ) → (p == p) ≡ true
 eqb_self p = eq-eqb p p refl

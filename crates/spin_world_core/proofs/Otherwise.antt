@@ -1,11 +1,11 @@
 -- Ways to show that a lock is wrong: a part of a claim is false, a party takes four undisturbed steps without an answer,
 -- or a step is no single operation.
 use Rattle.std.proofs.Common.{◌≡◌, ℕ, ◌+◌, ◌<◌, ◌⊎◌, true, false, List, [], ◌∷◌, ◌++◌, slice_set, get_or, refl, arith}
-use Rattle.spin_model.specs.StepKinds.{is_weak}
-use Rattle.spin_model.specs.Calls.{LockKind, Asked, Mark}
+use Rattle.spin_step.specs.StepKinds.{is_weak}
+use Rattle.spin_step.specs.Calls.{LockKind, Asked, Mark}
 use Rattle.spin_world_core.specs.Spans.{own_count}
 use Rattle.spin_world_core.specs.Undisturbed.{is_open_now, Leaves, AllOf, UndisturbedTakes}
-use Rattle.spin_model.specs.Operations.{Operation, performed}
+use Rattle.spin_step.specs.Operations.{Operation, performed}
 
 -- what is left of a claim if its first part is false
 pub otherwise : {X : Type 0} → (true ≡ false) ⊎ X → X

@@ -2,12 +2,12 @@
 use Rattle.std.proofs.Math.Bool.{Bool-set}
 use Rattle.spin_world_core.specs.Runs.{Always, CanGoOn, Schedule}
 use Rattle.spin_world_core.proofs.Names.{slice_get-map, ◌≡◌, ℕ, map, ◌+◌, ◌<◌, ◌≤◌, ◌==◌, ◌&&◌, true, Option, Some, None, List, [], ◌∷◌, ◌++◌, length, if◌then◌else◌, ap, sym, ◌∙◌, arith, subst, length-set, take, get_or, length-take-le, zero-add, ∥∥₁_elim, ∥∥₁_map, CanStep, length-map, take_all, Move, Outcome, Event, Machine, State, Happened, happens, after, events_of, with_begins, last_begin, is_begun, at_first, IsReached}
-use Rattle.spin_model.specs.Schedules.{begin_of, begins_after, with_begin}
-use Rattle.spin_model.proofs.Lists.{get-set_within}
+use Rattle.spin_step.specs.Schedules.{begin_of, begins_after, with_begin}
+use Rattle.spin_step.proofs.Lists.{get-set_within}
 use Rattle.spin_world_core.proofs.Lists.{get-set_other}
 use Rattle.std.proofs.Common.{add-one}
 use Rattle.std.proofs.Math.Seq.{take-suc}
-use Rattle.spin_model.proofs.Schedules.{after-append}
+use Rattle.spin_step.proofs.Schedules.{after-append}
 use Rattle.spin_world_core.proofs.Schedules.{events_of-append, length-events_of, with_begins-append, last_begin-append, stranger, length-happens}
 
 begun_more : {V A : Type 0} (begins : List (Option ℕ)) (p q k : ℕ) (old : Option ℕ) (o : Outcome A V) → (is_begun o ≡ true → p < length begins)

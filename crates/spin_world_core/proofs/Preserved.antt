@@ -2,9 +2,9 @@
 use Rattle.spin_world_core.proofs.Names.{true, and_parts, slice_get-map, OwnerSet, is_owners, yields_to_owner, let_go, seen_by_owner, owner_writes, IsOwners, seat_of, slice_get_within, ◌≡◌, ℕ, ◌≤◌, ◌==◌, Bool, false, Option, Some, None, List, [], ◌∷◌, suc, if◌then◌else◌, slice_get, slice_set, refl, sym, ◌∙◌, subst, arith, ne_eqb, Plain, Ask, Change, apply_some, IsOpenStep, Entries, entries, IsExclusive, entries-other, entries-own, Hold, Seat, Calling, Next, Continue, Answers, Move, Step, Weak, StepKind, is_weak, by_step, encoded, BelongsTo, Mark, Machine, seated, goes_on, placed, resting, may_write, Seen, Scene, scene_at, scene_of, mark_of, own, failures, changes, if_completed, entries_held, StandsFor, is_writer, Keeps, IsRight, IsInTime, UndisturbedTakes, AnsweredSoon, Gets, GetsWhenDue, TriesOn, tries_of, Table, HasPhase}
 use Rattle.spin_world_core.specs.Runs.{held_at, InItsCall, InTime, IsCounted, IsWeakCall, OwnSteps, asked, entries_so_far}
 use Rattle.spin_step.proofs.Exclusive.{exclusive-kept}
-use Rattle.spin_model.specs.declared.schedule.Outcome.TheVariants as outcome
-use Rattle.spin_model.specs.StepKinds as step_kind
-use Rattle.spin_model.proofs.Lists.{get-set_same}
+use Rattle.spin_step.specs.declared.schedule.Outcome.TheVariants as outcome
+use Rattle.spin_step.specs.StepKinds as step_kind
+use Rattle.spin_step.proofs.Lists.{get-set_same}
 use Rattle.spin_world_core.proofs.Lists.{get-set, eqb_self}
 use Rattle.spin_world_core.proofs.Steps.{Makes, told, played, GoesOnOpen, ContinuesCounted, KnowsAt, Moves, AnswersWithin, AtStep, Plays}
 use Rattle.spin_world_core.proofs.Shapes.{Notes, InCall}

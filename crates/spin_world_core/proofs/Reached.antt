@@ -7,14 +7,14 @@ use Rattle.spin_world_core.specs.Runs.{Schedule}
 use Rattle.std.proofs.Common.{◌≡◌, ℕ, Bool, true, false, Option, Some, None, List, slice_get, ap, sym, ◌∙◌}
 use Rattle.spin_step.specs.Plain.{Plain}
 use Rattle.spin_step.specs.Parties.{Entries, entries}
-use Rattle.spin_model.specs.declared.place.Hold.{Hold}
-use Rattle.spin_model.specs.declared.place.Seat.{Seat}
-use Rattle.spin_model.specs.declared.place.Seat.TheVariants.{Calling}
-use Rattle.spin_model.specs.Calls.{Mark, encoded}
-use Rattle.spin_model.specs.Machines.{Machine}
-use Rattle.spin_model.specs.Schedules.{State}
+use Rattle.spin_step.specs.declared.place.Hold.{Hold}
+use Rattle.spin_step.specs.declared.place.Seat.{Seat}
+use Rattle.spin_step.specs.declared.place.Seat.TheVariants.{Calling}
+use Rattle.spin_step.specs.Calls.{Mark, encoded}
+use Rattle.spin_step.specs.Machines.{Machine}
+use Rattle.spin_step.specs.Schedules.{State}
 use Rattle.spin_world_core.specs.Runs.{Seen, StandsFor, opening, own, seat_of}
-use Rattle.spin_model.specs.Acts.{Table}
+use Rattle.spin_step.specs.Acts.{Table}
 use Rattle.spin_world_core.proofs.Steps.{played, Plays}
 use Rattle.spin_world_core.proofs.Shapes.{Notes}
 use Rattle.spin_world_core.proofs.Stands.{entries_at}

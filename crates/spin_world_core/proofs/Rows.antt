@@ -4,7 +4,7 @@ use Rattle.spin_world_core.proofs.Lists.{eqb_self}
 use Rattle.spin_world_core.proofs.Stands.{Stand, entries_at, stand_of}
 use Rattle.spin_world_core.proofs.Names.{ne_eqb, append-nil}
 use Rattle.std.proofs.lemmas.Bool.{or_right}
-use Rattle.spin_model.specs.Calls.{got_or_starved, moment, own_steps, limit, FindsClosed, changes_within, gets_within, within, within_changes, Meaning, got, grants}
+use Rattle.spin_step.specs.Calls.{got_or_starved, moment, own_steps, limit, FindsClosed, changes_within, gets_within, within, within_changes, Meaning, got, grants}
 
 -- The count of the call's steps
 

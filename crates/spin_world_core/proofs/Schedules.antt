@@ -1,7 +1,7 @@
 -- Schedules with one more entry.
 use Rattle.spin_world_core.specs.Runs.{Schedule}
 use Rattle.spin_world_core.proofs.Names.{Seat, ◌≡◌, ℕ, suc, ◌+◌, ◌≤◌, ◌==◌, ◌&&◌, Option, Some, List, [], ◌∷◌, ◌++◌, length, if◌then◌else◌, refl, ap, arith, append_assoc, length-set, slice_get_past, append-nil, length-map, Move, Event, Machine, State, happens, moves_at, after, events_of, with_begins, last_begin, is_begun, seen_by_owner, Seen, scene, seen_after}
-use Rattle.spin_model.specs.declared.schedule.Outcome.TheVariants as outcome
+use Rattle.spin_step.specs.declared.schedule.Outcome.TheVariants as outcome
 
 pub with_begins-append : {W V A : Type 0} (before xs ys : List (Event W V A))
     → with_begins before (xs ++ ys) ≡ with_begins before xs ++ with_begins (before ++ xs) ys

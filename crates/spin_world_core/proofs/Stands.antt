@@ -3,8 +3,8 @@ use Rattle.std.proofs.Common.{◌≡◌, ℕ, Bool, true, false, Option, Some, N
 use Rattle.spin_step.specs.Plain.{Plain, Kind, reading, upgradable, writing, holder, same_kind, ticket as queued, Effect, comes, becomes, enters, runs, effect, Change, gets, releases, serves, stops_starving, turns, completes, fails, arrives}
 use Rattle.spin_step.specs.Parties.{apply_some, IsOpenStep, Entries, entries, no_entries}
 use Rattle.spin_step.proofs.Entries.{entries-own}
-use Rattle.spin_model.specs.declared.place.Hold.{Hold}
-use Rattle.spin_model.specs.declared.place.Hold.TheVariants.{Read, Upgradable, Write, Ticket, Starver}
+use Rattle.spin_step.specs.declared.place.Hold.{Hold}
+use Rattle.spin_step.specs.declared.place.Hold.TheVariants.{Read, Upgradable, Write, Ticket, Starver}
 use Rattle.spin_world_core.specs.Runs.{entries_held}
 use Rattle.spin_world_core.proofs.Lists.{eqb_self}
 

@@ -1,6 +1,6 @@
 -- What holds when a party in a call is about to step, and what its step then leads to. Also what has to be shown of a machine that plays a table.
 use Rattle.spin_world_core.proofs.Names.{◌≡◌, ℕ, zero, suc, ◌<◌, true, false, Option, Some, None, List, [], ◌∷◌, Plain, Ask, Change, completes, is_open, apply_some, IsOpenStep, entries, is_held, Hold, Seat, Calling, Next, Continue, Answers, Stepped, Move, Step, Weak, StepKind, is_again, by_step, encoded, BelongsTo, Said, own_steps, Mark, AnyOf, Gets, MayTryOn, is_open_now, steps_alone, Machine, placed, HasPhase, Gives, mark_of, if_completed, entries_held, is_writer, own, failures, changes, IsBeginning, RightBy, EndsWithin, ContinuesWithin, tries_of, limit, Stepwise, Table, machine_by, step_by, change_by, refusal_by, step_kind_by, LockKind, Asked}
-use Rattle.spin_model.specs.StepKinds as step_kind
+use Rattle.spin_step.specs.StepKinds as step_kind
 use Rattle.spin_world_core.proofs.Shapes.{Notes, is_answer, Knows, KnowsRow, row_of, Pays}
 use Rattle.spin_world_core.proofs.Rows.{Row}
 

@@ -3,11 +3,11 @@ use Rattle.spin_world_core.proofs.Every.{left_after, state-seen_at}
 use Rattle.spin_world_core.specs.Users.{seen_at}
 use Rattle.spin_world_core.specs.Runs.{Schedule}
 use Rattle.spin_world_core.proofs.Names.{cases_eq, moves_at, seat_of, ne_eqb, ◌≡◌, ℕ, ◌==◌, Option, Some, List, [], ◌∷◌, ◌++◌, length, slice_get, if◌then◌else◌, refl, ap, ◌∙◌, arith, option_map, length-replicate, slice_get-map, slice_get_within, slice_get_cases, Seat, Idle, Calling, Leaked, Gone, Move, Event, Machine, opening_plain, State, happens, seen_by_owner, events_of, with_begins, Seen, Scene, scene, Keeps, KeepsAll, StandsFor, opening, seen_after, scenes, EachTells, TellsAfterAnyPast}
-use Rattle.spin_model.specs.declared.place.Place.{Place}
-use Rattle.spin_model.specs.Schedules.{place_of}
+use Rattle.spin_step.specs.declared.place.Place.{Place}
+use Rattle.spin_step.specs.Schedules.{place_of}
 use Rattle.spin_world_core.specs.Transcripts.{has_leaked, PlaceSays, SaysAfterAnyPast, Stage, at_rest, in_call, is_gone, stage_after, stage_by_own, stage_by_owner}
 use Rattle.spin_world_core.proofs.Lists.{eqb_self, get-set_other, get-replicate}
-use Rattle.spin_model.proofs.Lists.{get-set_within}
+use Rattle.spin_step.proofs.Lists.{get-set_within}
 use Rattle.spin_world_core.proofs.Schedules.{length-happens}
 
 -- The transcript

@@ -1,11 +1,11 @@
 -- Several runs, one after another, are one run of their joined schedules.
 use Rattle.spin_world_core.specs.Runs.{Schedule}
 use Rattle.std.specs.Prelude.{◌≡◌, ℕ, ◌-◌, Option, Some, None, List, [], ◌∷◌, ◌++◌, map, take, drop, nat_lt, if◌then◌else◌}
-use Rattle.spin_model.specs.declared.schedule.Outcome.{Outcome}
-use Rattle.spin_model.specs.declared.schedule.Outcome.TheVariants as outcome
-use Rattle.spin_model.specs.declared.schedule.Event.{Event}
-use Rattle.spin_model.specs.Machines.{Machine}
-use Rattle.spin_model.specs.Schedules.{State, after, events_of, with_begins}
+use Rattle.spin_step.specs.declared.schedule.Outcome.{Outcome}
+use Rattle.spin_step.specs.declared.schedule.Outcome.TheVariants as outcome
+use Rattle.spin_step.specs.declared.schedule.Event.{Event}
+use Rattle.spin_step.specs.Machines.{Machine}
+use Rattle.spin_step.specs.Schedules.{State, after, events_of, with_begins}
 use Rattle.spin_world_core.specs.Runs.{KeepsAll, MomentsAll, CountsAll, AfterAnyPast}
 use Rattle.spin_world_core.specs.Values.{ValuesAll}
 use Rattle.spin_world_core.specs.Transcripts.{TellsAfterAnyPast}

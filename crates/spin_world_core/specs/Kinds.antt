@@ -1,8 +1,8 @@
 -- What the laws of an object say of its calls by name: when a call may begin, and how soon an undisturbed call is answered.
 use Rattle.std.specs.Prelude.{◌≡◌, ℕ, true, is_some, Option, List, [], ◌∷◌, ⊤}
-use Rattle.spin_model.specs.declared.place.Hold.{Hold}
-use Rattle.spin_model.specs.Machines.{Machine}
-use Rattle.spin_model.specs.Calls.{Asked}
+use Rattle.spin_step.specs.declared.place.Hold.{Hold}
+use Rattle.spin_step.specs.Machines.{Machine}
+use Rattle.spin_step.specs.Calls.{Asked}
 
 -- the call promises this, whatever its party holds
 abbrev pub Asks : {W V C L A : Type 0} → Machine W V C L A → C → Asked → Type 0

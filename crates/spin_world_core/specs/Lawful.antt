@@ -1,6 +1,6 @@
 -- All that an object promises of every schedule, from the opening of every world.
-use Rattle.spin_model.specs.Machines.{Machine}
-use Rattle.spin_model.specs.Operations.{Stepwise}
+use Rattle.spin_step.specs.Machines.{Machine}
+use Rattle.spin_step.specs.Operations.{Stepwise}
 use Rattle.spin_world_core.specs.Runs.{Always, CanGoOn, KeepsAll, MomentsAll, CountsAll}
 use Rattle.spin_world_core.specs.Users.{ReadsAgree}
 use Rattle.spin_world_core.specs.Values.{ValuesAll}

@@ -2,12 +2,12 @@
 use Rattle.std.specs.Prelude.{◌≡◌, ℕ, ◌⊎◌, ◌==◌, ◌&&◌, ◌||◌, Bool, true, false, not, Option, Some, None, is_some, List, [], ◌∷◌, if◌then◌else◌}
 use Rattle.spin_step.specs.Plain.{Plain, Ask, to_take_and_enter, Change, gets, is_open_to, next_word, serving_word}
 use Rattle.spin_step.specs.Parties.{is_held}
-use Rattle.spin_model.specs.declared.schedule.Move.{Move}
-use Rattle.spin_model.specs.declared.schedule.Move.TheVariants.{Step}
-use Rattle.spin_model.specs.declared.schedule.Outcome.{Outcome}
-use Rattle.spin_model.specs.declared.schedule.Outcome.TheVariants as outcome
-use Rattle.spin_model.specs.StepKinds.{StepKind, is_look}
-use Rattle.spin_model.specs.Calls.{AnyOf, Asked, LockKind, Mark}
+use Rattle.spin_step.specs.declared.schedule.Move.{Move}
+use Rattle.spin_step.specs.declared.schedule.Move.TheVariants.{Step}
+use Rattle.spin_step.specs.declared.schedule.Outcome.{Outcome}
+use Rattle.spin_step.specs.declared.schedule.Outcome.TheVariants as outcome
+use Rattle.spin_step.specs.StepKinds.{StepKind, is_look}
+use Rattle.spin_step.specs.Calls.{AnyOf, Asked, LockKind, Mark}
 use Rattle.spin_world_core.specs.Spans.{own, own_count}
 
 -- the request, after these plain steps, of a waiting call that tries before it looks; a call that does not wait has none

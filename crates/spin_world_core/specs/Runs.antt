@@ -1,26 +1,26 @@
 -- The promises of each event of a schedule. A plain lock runs beside the world. An event that makes a plain step
 -- changes this lock; other events leave it unchanged.
-use Rattle.spin_model.specs.Schedules.{Entry}
+use Rattle.spin_step.specs.Schedules.{Entry}
 use Rattle.std.specs.Prelude.{◌≡◌, ℕ, ◌+◌, ◌<◌, ◌≤◌, ◌↔◌, ◌⊎◌, Bool, true, false, not, ◌||◌, Option, Some, None, List, [], ◌∷◌, ◌++◌, is_some, ◌==◌, if◌then◌else◌, slice_get, take}
 use Rattle.std.specs.List.{list_any}
 use Rattle.spin_step.specs.Plain.{Plain, reading, upgradable, writing, same_kind, Change, completes, is_open, holder, ticket, is_empty}
 use Rattle.spin_step.specs.Parties.{apply_some, IsOpenStep, Entries, entries, no_entries, entries_after, is_held, IsExclusive}
-use Rattle.spin_model.specs.declared.place.Hold.{Hold}
-use Rattle.spin_model.specs.declared.place.Hold.TheVariants as hold
-use Rattle.spin_model.specs.declared.place.Seat.{Seat}
-use Rattle.spin_model.specs.declared.place.Seat.TheVariants.{Idle, Calling, Holding, Leaked, Gone}
-use Rattle.spin_model.specs.declared.schedule.Move.{Move}
-use Rattle.spin_model.specs.declared.schedule.Move.TheVariants.{Begin, Step, Weak, Read, Write, Leak, OwnerGet, OwnerSet}
-use Rattle.spin_model.specs.declared.schedule.Outcome.{Outcome}
-use Rattle.spin_model.specs.declared.schedule.Outcome.TheVariants as outcome
-use Rattle.spin_model.specs.StepKinds.{StepKind, is_again, is_look, by_step}
-use Rattle.spin_model.specs.StepKinds as step_kind
-use Rattle.spin_model.specs.Calls.{AnyOf, Asked, BelongsTo, FindsClosed, Limit, LockKind, Mark, Registers, Said, TriesToStarve, changes_within, encoded, gets_within, HasMoment, HasWeakMoment, limit, own_steps, registers_after, unlimited, within, within_changes}
+use Rattle.spin_step.specs.declared.place.Hold.{Hold}
+use Rattle.spin_step.specs.declared.place.Hold.TheVariants as hold
+use Rattle.spin_step.specs.declared.place.Seat.{Seat}
+use Rattle.spin_step.specs.declared.place.Seat.TheVariants.{Idle, Calling, Holding, Leaked, Gone}
+use Rattle.spin_step.specs.declared.schedule.Move.{Move}
+use Rattle.spin_step.specs.declared.schedule.Move.TheVariants.{Begin, Step, Weak, Read, Write, Leak, OwnerGet, OwnerSet}
+use Rattle.spin_step.specs.declared.schedule.Outcome.{Outcome}
+use Rattle.spin_step.specs.declared.schedule.Outcome.TheVariants as outcome
+use Rattle.spin_step.specs.StepKinds.{StepKind, is_again, is_look, by_step}
+use Rattle.spin_step.specs.StepKinds as step_kind
+use Rattle.spin_step.specs.Calls.{AnyOf, Asked, BelongsTo, FindsClosed, Limit, LockKind, Mark, Registers, Said, TriesToStarve, changes_within, encoded, gets_within, HasMoment, HasWeakMoment, limit, own_steps, registers_after, unlimited, within, within_changes}
 pub use Rattle.spin_world_core.specs.Spans.{own, own_count, failures, changes, held_looks, keeps_looking, IsBeginning}
 use Rattle.spin_world_core.specs.Undisturbed.{AnsweredSoon}
 use Rattle.spin_world_core.specs.Order.{GetsWhenDue, TriesOn}
-use Rattle.spin_model.specs.Machines.{Machine, opening_plain}
-use Rattle.spin_model.specs.Schedules.{State, Happened, moves_at, at_first, after, may_read, may_write, is_owners}
+use Rattle.spin_step.specs.Machines.{Machine, opening_plain}
+use Rattle.spin_step.specs.Schedules.{State, Happened, moves_at, at_first, after, may_read, may_write, is_owners}
 
 -- A world, its plain lock, and the value last written. Each party also has the span of its call: the steps of all
 -- parties since this call began, the latest first. Only steps change the plain lock. So the states before and after

@@ -3,8 +3,8 @@ use Rattle.std.specs.Prelude.{◌≡◌, ℕ, ◌+◌, Bool, true, not, ◌&&◌
 use Rattle.spin_step.specs.Plain.{Change}
 use Rattle.spin_step.specs.Parties.{is_held}
 use Rattle.spin_step.specs.Steps.{bit}
-use Rattle.spin_model.specs.StepKinds.{is_again, is_look}
-use Rattle.spin_model.specs.Calls.{LockKind, Mark, first_word}
+use Rattle.spin_step.specs.StepKinds.{is_again, is_look}
+use Rattle.spin_step.specs.Calls.{LockKind, Mark, first_word}
 
 -- the plain steps that the party made in the span, in order
 abbrev pub own : ℕ → List Mark → List Change

@@ -1,8 +1,8 @@
 -- What an `Act` is in the machine: the outcome of the step, and how its call continues if the step fails spuriously.
 use Rattle.std.specs.Prelude.{Bool, true, false, Option, Some, None, is_some}
-use Rattle.spin_model.specs.declared.step.Next.{Next}
-use Rattle.spin_model.specs.declared.step.Stepped.{Stepped}
-use Rattle.spin_model.specs.Acts.{stays, becomes, either}
+use Rattle.spin_step.specs.declared.stepped.Next.{Next}
+use Rattle.spin_step.specs.declared.stepped.Stepped.{Stepped}
+use Rattle.spin_step.specs.Acts.{stays, becomes, either}
 use Rattle.spin_world_core.specs.declared.act.Act.{Act}
 use Rattle.spin_world_core.specs.declared.act.Act.TheVariants.{Load, Store, Complete, Exchange, WeakExchange}
 

@@ -6,17 +6,17 @@ use Rattle.std.specs.Prelude.{◌≡◌, ℕ, ◌≤◌, ◌<◌, Bool, true, fa
 use Rattle.std.specs.List.{list_any}
 use Rattle.spin_step.specs.Plain.{Plain}
 use Rattle.spin_step.specs.Parties.{entries, no_entries}
-use Rattle.spin_model.specs.declared.place.Hold.{Hold}
-use Rattle.spin_model.specs.declared.place.Place.{Place}
-use Rattle.spin_model.specs.declared.place.Place.TheVariants as place
-use Rattle.spin_model.specs.declared.schedule.Move.{Move}
-use Rattle.spin_model.specs.declared.schedule.Move.TheVariants.{OwnerGet, OwnerSet}
-use Rattle.spin_model.specs.declared.schedule.Outcome.{Outcome}
-use Rattle.spin_model.specs.declared.schedule.Outcome.TheVariants as outcome
-use Rattle.spin_model.specs.declared.schedule.Event.{Event}
-use Rattle.spin_model.specs.Calls.{Mark}
-use Rattle.spin_model.specs.Machines.{Machine}
-use Rattle.spin_model.specs.Schedules.{State, is_begun}
+use Rattle.spin_step.specs.declared.place.Hold.{Hold}
+use Rattle.spin_step.specs.declared.place.Place.{Place}
+use Rattle.spin_step.specs.declared.place.Place.TheVariants as place
+use Rattle.spin_step.specs.declared.schedule.Move.{Move}
+use Rattle.spin_step.specs.declared.schedule.Move.TheVariants.{OwnerGet, OwnerSet}
+use Rattle.spin_step.specs.declared.schedule.Outcome.{Outcome}
+use Rattle.spin_step.specs.declared.schedule.Outcome.TheVariants as outcome
+use Rattle.spin_step.specs.declared.schedule.Event.{Event}
+use Rattle.spin_step.specs.Calls.{Mark}
+use Rattle.spin_step.specs.Machines.{Machine}
+use Rattle.spin_step.specs.Schedules.{State, is_begun}
 use Rattle.spin_world_core.specs.Runs.{Seen, Scene, scene, opening, entries_of, entries_held, entries_so_far}
 
 -- the scenes of a schedule, in order

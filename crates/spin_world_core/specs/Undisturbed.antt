@@ -1,10 +1,10 @@
 -- Waiting calls that nobody disturbs. Once its request is open, such a call is answered within the steps it promises.
 use Rattle.std.specs.Prelude.{◌≡◌, ℕ, ◌≤◌, ◌<◌, ◌==◌, ◌&&◌, Bool, true, false, Option, Some, is_some, min, List, [], ◌∷◌, ◌++◌, if◌then◌else◌}
 use Rattle.spin_step.specs.Plain.{Plain, is_empty}
-use Rattle.spin_model.specs.declared.schedule.Outcome.{Outcome}
-use Rattle.spin_model.specs.declared.schedule.Outcome.TheVariants as outcome
-use Rattle.spin_model.specs.StepKinds.{is_weak}
-use Rattle.spin_model.specs.Calls.{Asked, LockKind, Mark, encoded}
+use Rattle.spin_step.specs.declared.schedule.Outcome.{Outcome}
+use Rattle.spin_step.specs.declared.schedule.Outcome.TheVariants as outcome
+use Rattle.spin_step.specs.StepKinds.{is_weak}
+use Rattle.spin_step.specs.Calls.{Asked, LockKind, Mark, encoded}
 use Rattle.spin_world_core.specs.Spans.{own, own_count}
 
 -- The number of arrivals just after the party's latest plain step, or 0 if it made none. At a barrier this step is the

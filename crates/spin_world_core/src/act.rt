@@ -2,7 +2,7 @@
 ghost use Rattle.std.specs.Prelude.{◌≡◌};
 ghost use Rattle.spin_world_core.specs.Stepping.{tried_again};
 
-use spin_model::Next;
+use spin_step::Next;
 
 /// The next step of a call, at the words that it finds: an operation, and how the call continues after it.
 ///

@@ -1,8 +1,8 @@
 //! The laws that users of a lock rely on, each for every schedule. A law is the contract of a function that does
 //! nothing. Begin with [`looks_find_the_last_write`].
 ghost use Rattle.std.specs.Prelude.{ℕ, List};
-ghost use Rattle.spin_model.specs.declared.schedule.Move.{Move};
-ghost use Rattle.spin_model.specs.Schedules.{State};
+ghost use Rattle.spin_step.specs.declared.schedule.Move.{Move};
+ghost use Rattle.spin_step.specs.Schedules.{State};
 ghost use Rattle.spin_world_core.specs.Users.{FindsLastWritten, RunsJoin, ReadsAgree};
 ghost use Rattle.spin_world_core.specs.Joined.{RunsAreOne};
 

@@ -18,6 +18,6 @@ pub use laws::{
 };
 pub use object::Object;
 pub use schedule::Transcript;
-pub use spin_model::{Answer, Event, Hold, Move, Next, Outcome, Place, Seat};
+pub use spin_step::{Answer, Event, Hold, Move, Next, Outcome, Place, Seat};
 pub use telling::{no_begins, with_begin};
 pub use world::{World, run_in_two};

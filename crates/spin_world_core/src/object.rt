@@ -1,11 +1,11 @@
 //! What a lock has to show to be played in a world. Begin with [`Object`]; its main method returns an [`Act`].
 ghost use Rattle.std.specs.Prelude.{◌≡◌, true};
-ghost use Rattle.spin_model.specs.Machines.{Machine};
+ghost use Rattle.spin_step.specs.Machines.{Machine};
 ghost use Rattle.spin_world_core.specs.Lawful.{Lawful};
 ghost use Rattle.spin_world_core.specs.Stepping.{result_of, refusal_of};
 
 use crate::act::Act;
-use spin_model::Hold;
+use spin_step::Hold;
 
 /// A lock in the world, as its words and a table of the steps of its calls.
 ///

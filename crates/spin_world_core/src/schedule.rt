@@ -1,6 +1,6 @@
 //! The transcript of a schedule's events. Begin with [`Transcript`].
 use crate::object::Object;
-use spin_model::Event;
+use spin_step::Event;
 use std::alloc::{Allocator, Global};
 
 /// The events of a schedule, one for each of its entries.

@@ -1,15 +1,15 @@
 //! The words, the value and the seats of a world. Begin with [`Table::act`], which makes one move.
 ghost use Rattle.std.specs.Prelude.{◌≡◌, ◌<◌, Some, IfOk, length, map, replicate, slice_get, option_map};
-ghost use Rattle.spin_model.specs.declared.place.Seat.TheVariants.{Idle};
-ghost use Rattle.spin_model.specs.Schedules.{at_first, seated, let_go, seen_by_owner, resting, may_read, may_write, begun, begins, steps, weakly, reads, writes, leaks, owner_gets, owner_writes, owner_sets, goes_on, is_owners, moves, happens, placed, place_of};
-ghost use Rattle.spin_model.specs.Acts.{either};
+ghost use Rattle.spin_step.specs.declared.place.Seat.TheVariants.{Idle};
+ghost use Rattle.spin_step.specs.Schedules.{at_first, seated, let_go, seen_by_owner, resting, may_read, may_write, begun, begins, steps, weakly, reads, writes, leaks, owner_gets, owner_writes, owner_sets, goes_on, is_owners, moves, happens, placed, place_of};
+ghost use Rattle.spin_step.specs.Acts.{either};
 ghost use Rattle.spin_world_core.specs.Sharing.{shares, has_leaked};
 ghost use Rattle.spin_world_core.specs.Runs.{CanStep};
 ghost use Rattle.spin_world_core.specs.Stepping.{result_of};
 
 use crate::act::Act;
 use crate::object::Object;
-use spin_model::{Hold, Move, Next, Outcome, Place, Seat};
+use spin_step::{Hold, Move, Next, Outcome, Place, Seat};
 use std::alloc::{AllocError, Allocator};
 use std::marker::Model;
 
@@ -26,7 +26,7 @@ pub struct Table<O: Object, A: Allocator> {
 }
 
 impl<O: Object, A: Allocator> Model for Table<O, A> {
-    ghost use Rattle.spin_model.specs.Schedules.{State};
+    ghost use Rattle.spin_step.specs.Schedules.{State};
     ghost use Rattle.spin_world_core.specs.Sharing.{shares, has_leaked};
     ghost use Rattle.std.specs.Prelude.{◌≡◌};
     ghost use Rattle.std.specs.List.{count_by};

@@ -1,9 +1,9 @@
 //! Where in a schedule each party's call began. Begin with [`no_begins`] and [`with_begin`], for code that plays
 //! moves by [`World::act`](crate::World::act).
 ghost use Rattle.std.specs.Prelude.{◌≡◌, None, IfOk, map, replicate};
-ghost use Rattle.spin_model.specs.Schedules.{begin_of, with_begin, begins_after};
+ghost use Rattle.spin_step.specs.Schedules.{begin_of, with_begin, begins_after};
 
-use spin_model::Outcome;
+use spin_step::Outcome;
 use std::alloc::{AllocError, Allocator};
 
 /// Creates the table of where each party's call began. No call has begun yet.

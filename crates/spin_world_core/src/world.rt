@@ -1,6 +1,6 @@
 //! A world of one object, which plays a schedule or one move. Begin with [`World::new`] and [`World::run`].
 ghost use Rattle.std.specs.Prelude.{◌≡◌, ◌≤◌, [], length, IfOk, OnOk, OnErr, vec_capacity, slice_get, option_map};
-ghost use Rattle.spin_model.specs.Schedules.{at_first, after, events_of, with_begins, happens, place_of};
+ghost use Rattle.spin_step.specs.Schedules.{at_first, after, events_of, with_begins, happens, place_of};
 ghost use Rattle.spin_world_core.specs.Runs.{IsReached, AfterAnyPast, CanAlways, KeepsAll, MomentsAll, CountsAll};
 ghost use Rattle.spin_world_core.specs.Values.{ValuesAll};
 ghost use Rattle.spin_world_core.specs.Transcripts.{TellsAfterAnyPast, SaysAfterAnyPast, TellsBegins};
@@ -9,7 +9,7 @@ use crate::object::Object;
 use crate::schedule::Transcript;
 use crate::table::Table;
 use crate::telling::{forget_begins, no_begins, with_begin};
-use spin_model::{Event, Move, Outcome, Place, Seat};
+use spin_step::{Event, Move, Outcome, Place, Seat};
 use std::alloc::{AllocError, Allocator, Global};
 use std::marker::Model;
 
@@ -46,7 +46,7 @@ pub struct World<O: Object, A: Allocator = Global> {
 
 /// For contracts a world is its object and a state that some schedule leads to.
 impl<O: Object, A: Allocator> Model for World<O, A> {
-    ghost use Rattle.spin_model.specs.Schedules.{Shown};
+    ghost use Rattle.spin_step.specs.Schedules.{Shown};
     ghost use Rattle.std.specs.Prelude.{◌≡◌, length};
     ghost use Rattle.spin_world_core.specs.Runs.{IsReached};
 

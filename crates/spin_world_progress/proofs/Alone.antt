@@ -5,7 +5,7 @@ use Rattle.spin_world_core.proofs.Names.{StepKind, by_step, AllOf, Leaves, Undis
 use Rattle.spin_world_core.specs.Spans.{own_count}
 use Rattle.spin_world_progress.specs.Alone.{same_numbers, disturbs, ends_or_fails, AnsweredOrDisturbed}
 use Rattle.spin_world_progress.proofs.Progress.{calls_not, same_beside, holds_not, no_owner, or_left, or_right, occurs-append}
-use Rattle.spin_model.specs.StepKinds as step_kind
+use Rattle.spin_step.specs.StepKinds as step_kind
 
 same_is : (xs ys : List ℕ) → same_numbers xs ys ≡ true → xs ≡ ys
 same_is [] [] same = refl

@@ -1,6 +1,6 @@
 -- A turn is a stretch of entries that leads back to the state in which it began. Its endless repetition is fair if, from
 -- each place of the turn, the rest of the turn and one more turn are a round.
-use Rattle.spin_model.specs.Calls.{Asked}
+use Rattle.spin_step.specs.Calls.{Asked}
 use Rattle.spin_world_progress.proofs.Names.{◌≡◌, ℕ, zero, suc, ◌+◌, ◌==◌, ◌&&◌, ◌||◌, Bool, true, false, Option, Some, List, [], ◌∷◌, ◌++◌, slice_get, refl, ap, sym, ◌∙◌, subst, arith, and_parts, Hold, Seat, Idle, Calling, Holding, Leaked, Gone, Move, Machine, State, happens, after, at_first, may_read, not, Test, occurs, is_awaited, MovesOn, IsRound, AreRounds, stretch, IsFair, ends_or_weak, MayStarve}
 
 -- the endless schedule of an entry x and the rest xs of a turn, followed by the turn `e ∷ es` again and again

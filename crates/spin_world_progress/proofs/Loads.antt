@@ -6,9 +6,9 @@ use Rattle.spin_world_progress.proofs.Names.{suc, max, if◌then◌else◌, eqb_
 use Rattle.spin_world_progress.specs.Rounds.{is_release}
 use Rattle.spin_world_progress.proofs.Progress.{or_left, or_right, or_rest, has_left, is_busy, is_idle, calls_not, holds_not, unawaited, awaited_of, same_beside, no_owner, left_never, moves_on, occurs-append, step_first}
 use Rattle.spin_world.proofs.FairNames.{Entries, entries_at}
-use Rattle.spin_model.specs.Schedules.{begun}
-use Rattle.spin_model.specs.declared.schedule.Move.TheVariants.{Leak}
-use Rattle.spin_model.specs.StepKinds as step_kind
+use Rattle.spin_step.specs.Schedules.{begun}
+use Rattle.spin_step.specs.declared.schedule.Move.TheVariants.{Leak}
+use Rattle.spin_step.specs.StepKinds as step_kind
 use Rattle.spin_world_core.specs.Runs.{seat_of, scene_of}
 use Rattle.spin_world_core.proofs.Steps.{played, KnowsAt}
 use Rattle.spin_world_core.proofs.Reached as reached

@@ -10,14 +10,14 @@ pub use Rattle.spin_world.proofs.OnceNames.{Invariant, in_call, once_machine, pl
 pub use Rattle.spin_world_core.proofs.Every.{good_after, good_first, kept, state-seen_after}
 pub use Rattle.spin_world.proofs.RwOwed.{holder_by, rw_facts, rw_notes}
 pub use Rattle.spin_seats.specs.Table.{SeatsMachine, seats_machine, seats_table}
-pub use Rattle.spin_model.specs.Flag.{flag_machine, flag_table}
+pub use Rattle.spin_step.specs.FlagCalls.{flag_machine, flag_table}
 pub use Rattle.spin_step_more.specs.RwCalls.{rw_machine, rw_table}
 pub use Rattle.spin_world_core.proofs.Events.{of_event, seat_with}
 pub use Rattle.spin_world_core.proofs.Lists.{eqb_self, get-set_other}
 pub use Rattle.spin_world_core.proofs.Schedules.{length-happens, seen_after-append}
 pub use Rattle.std.proofs.Common.{max, ◌*◌}
-pub use Rattle.spin_model.proofs.Lists.{get-set_same}
-pub use Rattle.spin_model.specs.declared.answer.Answer.TheVariants.{Done}
+pub use Rattle.spin_step.proofs.Lists.{get-set_same}
+pub use Rattle.spin_step.specs.declared.answer.Answer.TheVariants.{Done}
 pub use Rattle.spin_seats.specs.Seats.{seats}
 pub use Rattle.spin_step.specs.Parties.{no_entries}
 pub use Rattle.spin_world_core.proofs.Shapes.{Knows}

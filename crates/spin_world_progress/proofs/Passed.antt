@@ -1,6 +1,6 @@
 -- A `lock` without a ticket may be passed over again and again.
 use Rattle.spin_world_progress.proofs.Names.{◌≡◌, ℕ, zero, suc, ◌+◌, ◌<◌, ◌==◌, ◌||◌, true, false, Some, None, List, [], ◌∷◌, length, nat_lt, slice_get, refl, ap, sym, ◌∙◌, subst, arith, ne_eqb, lt-ltb, ticket_limit, Answer, Idle, Calling, Move, Begin, Step, TicketWords, TicketCall, TicketPoint, Take, joined, Machine, State, after, at_first, ticket_machine, eqb_self, occurs, IsRound, AreRounds, grants, MayBePassedOver}
-use Rattle.spin_model.specs.declared.ticket.TicketCall.TheVariants.{Lock, Release}
+use Rattle.spin_step.specs.declared.ticket_calls.TicketCall.TheVariants.{Lock, Release}
 use Rattle.spin_world_progress.proofs.Progress.{occurs-append}
 
 module _ {V : Type 0} (v : V) (first : ℕ) where

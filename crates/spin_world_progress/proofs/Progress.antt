@@ -3,7 +3,7 @@ use Rattle.spin_world_progress.proofs.Names.{seat_of, not, is_empty, goes_on, �
 use Rattle.spin_world_core.proofs.Names.{true≢false, option_map, seen_by_owner, slice_get-map, yields_to_owner}
 use Rattle.spin_world_core.proofs.Owners.{all-get}
 use Rattle.spin_step.specs.Parties.{Entries}
-use Rattle.spin_model.specs.declared.schedule.Outcome.TheVariants as outcome
+use Rattle.spin_step.specs.declared.schedule.Outcome.TheVariants as outcome
 
 pub or_left : (a b : Bool) → a ≡ true → (a || b) ≡ true
 or_left a b is = grind (arith, is)

@@ -8,7 +8,7 @@ use Rattle.spin_step_more.proofs.Readers.{beside_asking}
 use Rattle.spin_step_more.proofs.Upgrading.{alone_when_gone}
 use Rattle.std.proofs.Common.{true≢false}
 use Rattle.spin_world_progress.proofs.Endless.{at_last}
-use Rattle.spin_model.specs.declared.place.Hold.TheVariants as hold
+use Rattle.spin_step.specs.declared.place.Hold.TheVariants as hold
 use Rattle.spin_world_progress.proofs.Leaving as leaving
 
 -- While a party asks to upgrade, no other party begins to read.

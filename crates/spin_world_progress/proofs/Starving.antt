@@ -3,18 +3,18 @@ use Rattle.spin_world_progress.proofs.Names.{◌≡◌, ℕ, zero, suc, ◌≤�
 use Rattle.spin_world.specs.BarrierTable.{barrier_machine}
 use Rattle.spin_world_progress.specs.Starving.{MayDeadlock, grants_or_weak}
 use Rattle.spin_world_progress.proofs.Around.{starves, forever}
-use Rattle.spin_model.specs.Asks.{initializes, meets, polls, spins_to_write, waits, waits_for_value, waits_or_starves, waits_starving, waits_to_write}
-use Rattle.spin_model.specs.declared.place.Hold.TheVariants as hold
-use Rattle.spin_model.specs.declared.flag.FlagCall.TheVariants as flag
-use Rattle.spin_model.specs.declared.flag.FlagPoint.TheVariants as flag_point
+use Rattle.spin_step.specs.Asks.{initializes, meets, polls, spins_to_write, waits, waits_for_value, waits_or_starves, waits_starving, waits_to_write}
+use Rattle.spin_step.specs.declared.place.Hold.TheVariants as hold
+use Rattle.spin_step.specs.declared.flag_calls.FlagCall.TheVariants as flag
+use Rattle.spin_step.specs.declared.flag_calls.FlagPoint.TheVariants as flag_point
 use Rattle.spin_step_more.specs.declared.rw_calls.RwCall.TheVariants as rw_call
 use Rattle.spin_step_more.specs.declared.rw_calls.RwPoint.TheVariants as rw_point
 use Rattle.spin_step_more.specs.declared.fair_calls.FairCall.TheVariants as fair
 use Rattle.spin_step_more.specs.declared.fair_calls.FairPoint.TheVariants as fair_point
 use Rattle.spin_seats.specs.declared.calls.SeatsCall.TheVariants as seats_call
 use Rattle.spin_seats.specs.declared.calls.SeatsPoint.TheVariants as seats_point
-use Rattle.spin_model.specs.declared.once.OnceCall.TheVariants as once
-use Rattle.spin_model.specs.declared.once.OncePoint.TheVariants as once_point
+use Rattle.spin_step.specs.declared.once_calls.OnceCall.TheVariants as once
+use Rattle.spin_step.specs.declared.once_calls.OncePoint.TheVariants as once_point
 use Rattle.spin_world.specs.declared.barrier.BarrierCall.TheVariants as barrier
 use Rattle.spin_world.specs.declared.barrier.BarrierPoint.TheVariants as barrier_point
 

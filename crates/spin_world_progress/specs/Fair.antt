@@ -1,19 +1,19 @@
 -- Progress of a fair lock: in how many rounds somebody is granted the lock while a starver waits.
 use Rattle.std.specs.Prelude.{◌≡◌, ℕ, ◌≤◌, ◌&&◌, true, false, Option, Some, List, length, slice_get}
 use Rattle.spin_step.specs.Plain.{is_starver}
-use Rattle.spin_model.specs.Machines.{Machine}
-use Rattle.spin_model.specs.Schedules.{after, at_first, may_read}
-use Rattle.spin_model.specs.declared.answer.Answer.{Answer}
-use Rattle.spin_model.specs.declared.place.Hold.{Hold}
-use Rattle.spin_model.specs.declared.place.Seat.TheVariants.{Calling, Holding}
-use Rattle.spin_model.specs.declared.schedule.Move.{Move}
+use Rattle.spin_step.specs.Machines.{Machine}
+use Rattle.spin_step.specs.Schedules.{after, at_first, may_read}
+use Rattle.spin_step.specs.declared.answer.Answer.{Answer}
+use Rattle.spin_step.specs.declared.place.Hold.{Hold}
+use Rattle.spin_step.specs.declared.place.Seat.TheVariants.{Calling, Holding}
+use Rattle.spin_step.specs.declared.schedule.Move.{Move}
 use Rattle.spin_world_core.specs.Joined.{joined}
 use Rattle.spin_world_core.specs.Runs.{opening}
 use Rattle.spin_world_core.specs.Users.{seen_after}
 use Rattle.spin_step_more.specs.declared.fair_calls.FairCall.{FairCall}
 use Rattle.spin_step_more.specs.declared.fair_calls.FairPoint.{FairPoint}
 use Rattle.spin_world_progress.specs.Rounds.{Test, occurs, AreRounds, is_granted, stretch, IsFair}
-use Rattle.spin_model.specs.declared.schedule.Outcome.TheVariants as outcome
+use Rattle.spin_step.specs.declared.schedule.Outcome.TheVariants as outcome
 
 -- some party is granted the lock, and not only a registration as a starver
 abbrev pub grants_lock : {W V C L A : Type 0} → Machine W V C L A → Test V C L A

@@ -1,17 +1,17 @@
 -- Progress of a `Once`: in how many rounds a call with a closure is answered.
 use Rattle.std.specs.Prelude.{◌≡◌, ℕ, ◌≤◌, ◌==◌, ◌||◌, Bool, true, false, Option, Some, List, length, slice_get}
-use Rattle.spin_model.specs.Calls.{Said, failed}
-use Rattle.spin_model.specs.Machines.{Machine}
-use Rattle.spin_model.specs.declared.place.Hold.{Hold}
-use Rattle.spin_model.specs.declared.place.Seat.TheVariants.{Calling}
-use Rattle.spin_model.specs.declared.schedule.Move.{Move}
+use Rattle.spin_step.specs.Calls.{Said, failed}
+use Rattle.spin_step.specs.Machines.{Machine}
+use Rattle.spin_step.specs.declared.place.Hold.{Hold}
+use Rattle.spin_step.specs.declared.place.Seat.TheVariants.{Calling}
+use Rattle.spin_step.specs.declared.schedule.Move.{Move}
 use Rattle.spin_world_core.specs.Joined.{joined}
-use Rattle.spin_model.specs.declared.once.OnceCall.{OnceCall}
-use Rattle.spin_model.specs.declared.once.OncePoint.{OncePoint}
-use Rattle.spin_model.specs.Once.{OnceMachine}
+use Rattle.spin_step.specs.declared.once_calls.OnceCall.{OnceCall}
+use Rattle.spin_step.specs.declared.once_calls.OncePoint.{OncePoint}
+use Rattle.spin_step.specs.OnceCalls.{OnceMachine}
 use Rattle.spin_world.specs.Keeping.{Entries, once_after, RunsClosure, has_closure}
 use Rattle.spin_world_progress.specs.Rounds.{Test, occurs, AreRounds, stretch, IsFair}
-use Rattle.spin_model.specs.declared.schedule.Outcome.TheVariants as outcome
+use Rattle.spin_step.specs.declared.schedule.Outcome.TheVariants as outcome
 
 abbrev pub is_failure : Said → Bool
 is_failure failed = true

@@ -1,9 +1,9 @@
 -- Progress of a lock of seats: in how many rounds somebody is granted a seat.
 use Rattle.std.specs.Prelude.{◌≡◌, ℕ, ◌≤◌, true, Option, Some, List, length, slice_get}
-use Rattle.spin_model.specs.Schedules.{after, at_first}
-use Rattle.spin_model.specs.declared.place.Hold.{Hold}
-use Rattle.spin_model.specs.declared.place.Seat.TheVariants.{Calling}
-use Rattle.spin_model.specs.declared.schedule.Move.{Move}
+use Rattle.spin_step.specs.Schedules.{after, at_first}
+use Rattle.spin_step.specs.declared.place.Hold.{Hold}
+use Rattle.spin_step.specs.declared.place.Seat.TheVariants.{Calling}
+use Rattle.spin_step.specs.declared.schedule.Move.{Move}
 use Rattle.spin_world_core.specs.Joined.{joined}
 use Rattle.spin_seats.specs.declared.calls.SeatsCall.{SeatsCall}
 use Rattle.spin_seats.specs.declared.calls.SeatsPoint.{SeatsPoint}

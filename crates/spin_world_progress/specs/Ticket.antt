@@ -1,21 +1,21 @@
 -- Progress of a ticket lock: in how many rounds a `lock` is granted.
 use Rattle.std.specs.Prelude.{◌≡◌, ℕ, ◌+◌, ◌-◌, ◌*◌, ◌<◌, ◌≤◌, true, false, Option, Some, None, List, length, slice_get, max}
 use Rattle.spin_step.specs.Plain.{ticket_limit}
-use Rattle.spin_model.specs.Machines.{Machine}
-use Rattle.spin_model.specs.Schedules.{after, at_first}
-use Rattle.spin_model.specs.declared.answer.Answer.{Answer}
-use Rattle.spin_model.specs.declared.place.Hold.{Hold}
-use Rattle.spin_model.specs.declared.place.Seat.TheVariants.{Calling}
-use Rattle.spin_model.specs.declared.schedule.Move.{Move}
-use Rattle.spin_model.specs.declared.ticket.TicketCall.{TicketCall}
-use Rattle.spin_model.specs.declared.ticket.TicketPoint.{TicketPoint}
-use Rattle.spin_model.specs.declared.ticket.TicketWords.{TicketWords}
+use Rattle.spin_step.specs.Machines.{Machine}
+use Rattle.spin_step.specs.Schedules.{after, at_first}
+use Rattle.spin_step.specs.declared.answer.Answer.{Answer}
+use Rattle.spin_step.specs.declared.place.Hold.{Hold}
+use Rattle.spin_step.specs.declared.place.Seat.TheVariants.{Calling}
+use Rattle.spin_step.specs.declared.schedule.Move.{Move}
+use Rattle.spin_step.specs.declared.ticket_calls.TicketCall.{TicketCall}
+use Rattle.spin_step.specs.declared.ticket_calls.TicketPoint.{TicketPoint}
+use Rattle.spin_step.specs.declared.ticket_calls.TicketWords.{TicketWords}
 use Rattle.spin_world_core.specs.Joined.{joined}
 use Rattle.spin_world_core.specs.Runs.{opening}
 use Rattle.spin_world_core.specs.Users.{seen_after}
 use Rattle.spin_step.specs.Parties.{entries}
 use Rattle.spin_world_progress.specs.Rounds.{occurs, AreRounds, grants, stretch, IsFair}
-use Rattle.spin_model.specs.declared.ticket.TicketCall.TheVariants.{Lock}
+use Rattle.spin_step.specs.declared.ticket_calls.TicketCall.TheVariants.{Lock}
 use Rattle.spin_world.specs.Turns.{waits_with}
 
 abbrev pub TicketMachine : Type 0 → Type 0

@@ -7,18 +7,18 @@
 //! round asks only that it makes a step.
 ghost use Rattle.std.specs.Prelude.{◌≡◌, ◌≤◌, ℕ, List, None};
 ghost use Rattle.spin_step.specs.Plain.{to_write, to_read, to_read_upgradable, to_lock_starving};
-ghost use Rattle.spin_model.specs.Asks.{waits, waits_to_write, spins_to_write, waits_or_starves, waits_starving, initializes, waits_for_value, polls, meets};
-ghost use Rattle.spin_model.specs.declared.schedule.Move.{Move};
-ghost use Rattle.spin_model.specs.declared.flag.FlagCall.{FlagCall};
+ghost use Rattle.spin_step.specs.Asks.{waits, waits_to_write, spins_to_write, waits_or_starves, waits_starving, initializes, waits_for_value, polls, meets};
+ghost use Rattle.spin_step.specs.declared.schedule.Move.{Move};
+ghost use Rattle.spin_step.specs.declared.flag_calls.FlagCall.{FlagCall};
 ghost use Rattle.spin_world.specs.declared.flag.Flag.{Flag};
-ghost use Rattle.spin_model.specs.declared.ticket.TicketCall.{TicketCall};
+ghost use Rattle.spin_step.specs.declared.ticket_calls.TicketCall.{TicketCall};
 ghost use Rattle.spin_world.specs.declared.ticket.Ticket.{Ticket};
 ghost use Rattle.spin_step_more.specs.declared.fair_calls.FairCall.{FairCall};
 ghost use Rattle.spin_world.specs.declared.fair.Fair.{Fair};
 ghost use Rattle.spin_step_more.specs.declared.rw_calls.RwCall.{RwCall};
 ghost use Rattle.spin_world.specs.declared.rw.Rw.{Rw};
 ghost use Rattle.spin_world.specs.declared.once.OnceObject.{OnceObject};
-ghost use Rattle.spin_model.specs.declared.once.OnceCall.{OnceCall};
+ghost use Rattle.spin_step.specs.declared.once_calls.OnceCall.{OnceCall};
 ghost use Rattle.spin_world.specs.Keeping.{Entries};
 ghost use Rattle.spin_world.specs.declared.barrier.BarrierObject.{BarrierObject};
 ghost use Rattle.spin_seats.specs.declared.calls.SeatsCall.{SeatsCall};

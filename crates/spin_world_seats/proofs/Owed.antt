@@ -7,12 +7,12 @@ use Rattle.spin_step.proofs.Holders.{is_holder-from_entries, length-without_hold
 use Rattle.spin_step_more.proofs.Readers.{each_reads}
 use Rattle.spin_seats.specs.Seats.{AllRead, seats, seats_word, entered}
 use Rattle.spin_seats.proofs.Taken.{open_is, enter-grants, leave-gives}
-use Rattle.spin_model.specs.declared.place.Hold.{Hold}
+use Rattle.spin_step.specs.declared.place.Hold.{Hold}
 use Rattle.spin_seats.specs.declared.calls.SeatsCall.{SeatsCall}
 use Rattle.spin_seats.specs.declared.calls.SeatsCall.TheVariants.{TryEnter, Enter}
 use Rattle.spin_seats.specs.declared.calls.SeatsPoint.{SeatsPoint}
 use Rattle.spin_seats.specs.declared.calls.SeatsPoint.TheVariants.{Exchange}
-use Rattle.spin_model.specs.Acts.{begin_of}
+use Rattle.spin_step.specs.Acts.{begin_of}
 use Rattle.spin_seats.specs.Table.{seats_table, seats_machine}
 use Rattle.spin_world_core.proofs.Steps.{Plays}
 use Rattle.spin_world_core.proofs.Stands.{holds, entries_at}

@@ -3,14 +3,14 @@
 use Rattle.std.specs.Prelude.{◌≡◌, ℕ, true, Option, Some, None, [], ◌∷◌}
 use Rattle.spin_step.specs.Plain.{to_read, fresh}
 use Rattle.spin_seats.specs.Seats.{seats}
-use Rattle.spin_model.specs.declared.place.Hold.{Hold}
-use Rattle.spin_model.specs.declared.place.Hold.TheVariants.{Read}
-use Rattle.spin_model.specs.declared.answer.Answer.{Answer}
+use Rattle.spin_step.specs.declared.place.Hold.{Hold}
+use Rattle.spin_step.specs.declared.place.Hold.TheVariants.{Read}
+use Rattle.spin_step.specs.declared.answer.Answer.{Answer}
 use Rattle.spin_seats.specs.declared.calls.SeatsCall.TheVariants as call
-use Rattle.spin_model.specs.Calls.{says_of}
-use Rattle.spin_model.specs.Asks.{counts_readers, gives_back, is_read, looks_and_tries, waits}
+use Rattle.spin_step.specs.Calls.{says_of}
+use Rattle.spin_step.specs.Asks.{counts_readers, gives_back, is_read, looks_and_tries, waits}
 use Rattle.spin_seats.specs.Kind as kind
-use Rattle.spin_model.specs.Machines.{opening_plain}
+use Rattle.spin_step.specs.Machines.{opening_plain}
 use Rattle.spin_seats.specs.Table.{SeatsMachine}
 use Rattle.spin_world_core.specs.Kinds.{BeginAt, AnswersIn}
 

@@ -1,8 +1,8 @@
 //! Laws of the lock of seats. Each law is the contract of a function that does nothing. A caller that calls this
 //! function learns what the law states.
 ghost use Rattle.std.specs.Prelude.{◌≡◌, ◌≤◌, ℕ, List, length};
-ghost use Rattle.spin_model.specs.declared.schedule.Move.{Move};
-ghost use Rattle.spin_model.specs.Schedules.{after, at_first};
+ghost use Rattle.spin_step.specs.declared.schedule.Move.{Move};
+ghost use Rattle.spin_step.specs.Schedules.{after, at_first};
 ghost use Rattle.spin_world_core.specs.Runs.{opening};
 ghost use Rattle.spin_world_core.specs.Users.{seen_after};
 ghost use Rattle.spin_seats.specs.declared.calls.SeatsCall.{SeatsCall};

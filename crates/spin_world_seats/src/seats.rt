@@ -1,6 +1,6 @@
 //! The lock of seats, as a table of the steps of its calls. Begin with [`Seats::new`].
 ghost use Rattle.std.specs.Prelude.{◌≡◌, true};
-ghost use Rattle.spin_model.specs.Acts.{one_number, step_by, can_by, refusal_by};
+ghost use Rattle.spin_step.specs.Acts.{one_number, step_by, can_by, refusal_by};
 ghost use Rattle.spin_world_core.specs.Stepping.{result_of, refusal_of};
 ghost use Rattle.spin_seats.specs.Table.{act_of, seats_machine};
 ghost use Rattle.spin_world_seats.specs.Named.{IsSeats};

@@ -3,12 +3,12 @@ use Rattle.std.proofs.Common.{◌≡◌, ℕ, Option, None, [], ◌∷◌, lengt
 use Rattle.spin_step.specs.Plain.{Plain, reading, holder, to_read, gets, apply, flag_word, may_come, count_kind}
 use Rattle.spin_step.proofs.Sums.{one_of, sum-more}
 use Rattle.spin_step_more.proofs.Readers.{nobody_against, each_reads}
-use Rattle.spin_model.specs.declared.place.Hold.{Hold}
+use Rattle.spin_step.specs.declared.place.Hold.{Hold}
 use Rattle.spin_world_tests.specs.declared.dispenser.DispenserCall.{DispenserCall}
 use Rattle.spin_world_tests.specs.declared.dispenser.DispenserCall.TheVariants as call
 use Rattle.spin_world_tests.specs.declared.dispenser.DispenserPoint.{DispenserPoint}
 use Rattle.spin_world_tests.specs.declared.dispenser.DispenserPoint.TheVariants.{Exchange}
-use Rattle.spin_model.specs.Acts.{begin_of}
+use Rattle.spin_step.specs.Acts.{begin_of}
 use Rattle.spin_world_tests.specs.Dispenser.{next_after, dispenser_table, dispenser_machine}
 use Rattle.spin_world_core.proofs.Steps.{Plays}
 use Rattle.spin_world_core.proofs.Rows.{Point, starts, looked}

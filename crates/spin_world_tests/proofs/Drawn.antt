@@ -2,19 +2,19 @@
 use Rattle.std.proofs.Common.{◌≡◌, ℕ, zero, suc, ◌+◌, ◌==◌, Bool, true, false, Option, Some, None, List, [], ◌∷◌, ◌++◌, is_some, if◌then◌else◌, nat_lt, slice_get, refl, ap, sym, ◌∙◌, arith}
 use Rattle.std.proofs.lemmas.Bool.{eqb-true}
 use Rattle.std.specs.List.{range_with_len}
-use Rattle.spin_model.specs.declared.place.Hold.{Hold}
-use Rattle.spin_model.specs.declared.place.Seat.{Seat}
-use Rattle.spin_model.specs.declared.place.Seat.TheVariants.{Idle, Calling, Holding, Leaked}
-use Rattle.spin_model.specs.declared.schedule.Move.{Move}
-use Rattle.spin_model.specs.declared.schedule.Move.TheVariants.{Begin, Step, Weak, Read, Write, Leak}
+use Rattle.spin_step.specs.declared.place.Hold.{Hold}
+use Rattle.spin_step.specs.declared.place.Seat.{Seat}
+use Rattle.spin_step.specs.declared.place.Seat.TheVariants.{Idle, Calling, Holding, Leaked}
+use Rattle.spin_step.specs.declared.schedule.Move.{Move}
+use Rattle.spin_step.specs.declared.schedule.Move.TheVariants.{Begin, Step, Weak, Read, Write, Leak}
 use Rattle.spin_world_tests.specs.declared.dispenser.DispenserCall.{DispenserCall}
 use Rattle.spin_world_tests.specs.declared.dispenser.DispenserCall.TheVariants as call
 use Rattle.spin_world_tests.specs.declared.dispenser.DispenserPoint.{DispenserPoint}
 use Rattle.spin_world_tests.specs.declared.dispenser.DispenserPoint.TheVariants.{First, Exchange}
 use Rattle.spin_world_tests.specs.declared.dispenser.DispenserAnswer.{DispenserAnswer}
-use Rattle.spin_model.specs.Schedules.{State, Happened, moves, moves_at, happens, after, events_of}
-use Rattle.spin_model.specs.Schedules.{read_by, written_by, stepped, may_read, may_write}
-use Rattle.spin_model.specs.Acts.{either, stays, becomes, retried}
+use Rattle.spin_step.specs.Schedules.{State, Happened, moves, moves_at, happens, after, events_of}
+use Rattle.spin_step.specs.Schedules.{read_by, written_by, stepped, may_read, may_write}
+use Rattle.spin_step.specs.Acts.{either, stays, becomes, retried}
 use Rattle.spin_world_tests.specs.Dispenser.{goes_for, drawn, sold_out, not_next, DispenserMachine, dispenser_machine, number_in, numbers_in}
 
 abbrev Dispensed : Type 0

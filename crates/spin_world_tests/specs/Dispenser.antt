@@ -4,25 +4,25 @@
 use Rattle.std.specs.Prelude.{◌≡◌, ℕ, ◌+◌, ◌==◌, ◌&&◌, not, length, Bool, true, false, Option, Some, None, List, [], ◌∷◌, ◌++◌, nat_lt, if◌then◌else◌}
 use Rattle.std.specs.List.{list_any, range_with_len}
 use Rattle.spin_step.specs.Plain.{to_read, Change, gets, is_open_to, fresh, flag_word}
-use Rattle.spin_model.specs.declared.place.Hold.{Hold}
-use Rattle.spin_model.specs.declared.place.Hold.TheVariants.{Read}
-use Rattle.spin_model.specs.declared.step.Next.{Next}
-use Rattle.spin_model.specs.declared.step.Next.TheVariants.{Continue, Answers}
-use Rattle.spin_model.specs.declared.schedule.Event.{Event}
-use Rattle.spin_model.specs.declared.schedule.Move.{Move}
-use Rattle.spin_model.specs.declared.schedule.Outcome.{Outcome}
-use Rattle.spin_model.specs.declared.schedule.Outcome.TheVariants.{Answered}
+use Rattle.spin_step.specs.declared.place.Hold.{Hold}
+use Rattle.spin_step.specs.declared.place.Hold.TheVariants.{Read}
+use Rattle.spin_step.specs.declared.stepped.Next.{Next}
+use Rattle.spin_step.specs.declared.stepped.Next.TheVariants.{Continue, Answers}
+use Rattle.spin_step.specs.declared.schedule.Event.{Event}
+use Rattle.spin_step.specs.declared.schedule.Move.{Move}
+use Rattle.spin_step.specs.declared.schedule.Outcome.{Outcome}
+use Rattle.spin_step.specs.declared.schedule.Outcome.TheVariants.{Answered}
 use Rattle.spin_world_tests.specs.declared.dispenser.DispenserCall.{DispenserCall}
 use Rattle.spin_world_tests.specs.declared.dispenser.DispenserCall.TheVariants as call
 use Rattle.spin_world_tests.specs.declared.dispenser.DispenserPoint.{DispenserPoint}
 use Rattle.spin_world_tests.specs.declared.dispenser.DispenserPoint.TheVariants.{First, Exchange}
 use Rattle.spin_world_tests.specs.declared.dispenser.DispenserAnswer.{DispenserAnswer}
 use Rattle.spin_world_tests.specs.declared.dispenser.DispenserAnswer.TheVariants.{Drawn, SoldOut, NotNext, Count}
-use Rattle.spin_model.specs.Calls.{Asked, LockKind, Said, counted, granted, refused, grant, grants, never, found, means, usual}
-use Rattle.spin_model.specs.Asks.{counts_readers, looks_and_tries, tries}
-use Rattle.spin_model.specs.Machines.{Machine, opening_plain}
-use Rattle.spin_model.specs.Acts.{one_number, Act, load, load_for, attempt, retry, Table, machine_of}
-use Rattle.spin_model.specs.Schedules.{at_first, after, events_of}
+use Rattle.spin_step.specs.Calls.{Asked, LockKind, Said, counted, granted, refused, grant, grants, never, found, means, usual}
+use Rattle.spin_step.specs.Asks.{counts_readers, looks_and_tries, tries}
+use Rattle.spin_step.specs.Machines.{Machine, opening_plain}
+use Rattle.spin_step.specs.Acts.{one_number, Act, load, load_for, attempt, retry, Table, machine_of}
+use Rattle.spin_step.specs.Schedules.{at_first, after, events_of}
 
 -- The kind of lock: nobody returns a number
 

@@ -1,18 +1,18 @@
 -- Wrong barriers, each wrong in one part of its machine, and schedules on which the laws refuse these barriers.
 use Rattle.std.specs.Prelude.{ℕ, ◌==◌, ◌&&◌, Some, None, [], ◌∷◌, ◌+◌}
-use Rattle.spin_model.specs.declared.step.Next.TheVariants.{Continue, Answers}
-use Rattle.spin_model.specs.declared.step.Next.{Next}
-use Rattle.spin_model.specs.declared.answer.Answer.{Answer}
-use Rattle.spin_model.specs.declared.answer.Answer.TheVariants.{Leader, Follower}
+use Rattle.spin_step.specs.declared.stepped.Next.TheVariants.{Continue, Answers}
+use Rattle.spin_step.specs.declared.stepped.Next.{Next}
+use Rattle.spin_step.specs.declared.answer.Answer.{Answer}
+use Rattle.spin_step.specs.declared.answer.Answer.TheVariants.{Leader, Follower}
 use Rattle.spin_world.specs.declared.barrier.BarrierWords.{BarrierWords}
 use Rattle.spin_world.specs.declared.barrier.BarrierCall.TheVariants.{Wait}
 use Rattle.spin_world.specs.declared.barrier.BarrierPoint.{BarrierPoint}
 use Rattle.spin_world.specs.declared.barrier.BarrierPoint.TheVariants.{Arrive, Leave}
-use Rattle.spin_model.specs.declared.schedule.Move.TheVariants.{Begin, Step, Weak}
-use Rattle.spin_model.specs.Acts.{either, stays}
+use Rattle.spin_step.specs.declared.schedule.Move.TheVariants.{Begin, Step, Weak}
+use Rattle.spin_step.specs.Acts.{either, stays}
 use Rattle.spin_world.specs.BarrierTable.{BarrierMachine, arrive, leads, is_past, barrier_machine}
 use Rattle.spin_world.specs.Groups.{Entries}
-use Rattle.spin_model.specs.Asks.{waits_for_value}
+use Rattle.spin_step.specs.Asks.{waits_for_value}
 
 -- how a call continues after an arrival, or after a look of a follower, by the words found
 abbrev Goes : Type 0

@@ -1,15 +1,15 @@
 -- Wrong dispensers, each wrong in one part of its table, and schedules on which the laws refuse these dispensers.
 use Rattle.std.specs.Prelude.{ℕ, ◌+◌, Bool, true, Option, Some, List, [], ◌∷◌, nat_lt, if◌then◌else◌}
 use Rattle.spin_step.specs.Plain.{to_read, gets, reading, Change, releases}
-use Rattle.spin_model.specs.declared.place.Hold.{Hold}
-use Rattle.spin_model.specs.declared.schedule.Move.{Move}
-use Rattle.spin_model.specs.declared.schedule.Move.TheVariants.{Begin, Step}
+use Rattle.spin_step.specs.declared.place.Hold.{Hold}
+use Rattle.spin_step.specs.declared.schedule.Move.{Move}
+use Rattle.spin_step.specs.declared.schedule.Move.TheVariants.{Begin, Step}
 use Rattle.spin_world_tests.specs.declared.dispenser.DispenserCall.{DispenserCall}
 use Rattle.spin_world_tests.specs.declared.dispenser.DispenserCall.TheVariants as call
 use Rattle.spin_world_tests.specs.declared.dispenser.DispenserPoint.{DispenserPoint}
 use Rattle.spin_world_tests.specs.declared.dispenser.DispenserPoint.TheVariants.{First, Exchange}
 use Rattle.spin_world_tests.specs.declared.dispenser.DispenserAnswer.{DispenserAnswer}
-use Rattle.spin_model.specs.Acts.{Act, load_for, retry, section, machine_of}
+use Rattle.spin_step.specs.Acts.{Act, load_for, retry, section, machine_of}
 use Rattle.spin_world_tests.specs.Dispenser.{Continues, dispenser, dispenser_plain_steps, next_after, drawn, goes_for, sold_out, not_next, act_of}
 use Rattle.spin_world_tests.specs.Dispenser.{DispenserTable, dispenser_table, DispenserMachine}
 

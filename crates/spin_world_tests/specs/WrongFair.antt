@@ -3,24 +3,24 @@
 -- the flag set.
 use Rattle.std.specs.Prelude.{ℕ, ◌+◌, ◌-◌, ◌*◌, ◌/◌, Option, Some, None, not, ◌&&◌, List, [], ◌∷◌, ◌++◌, ◌==◌, nat_lt}
 use Rattle.spin_step.specs.Plain.{gets, stops_starving, to_lock_unregistered, to_lock_starving, to_lock_starving_alone, to_starve, starver_weight}
-use Rattle.spin_model.specs.declared.place.Hold.{Hold}
-use Rattle.spin_model.specs.declared.place.Hold.TheVariants.{Starver}
-use Rattle.spin_model.specs.declared.step.Next.{Next}
-use Rattle.spin_model.specs.declared.step.Next.TheVariants.{Continue, Answers}
-use Rattle.spin_model.specs.declared.answer.Answer.{Answer}
-use Rattle.spin_model.specs.declared.answer.Answer.TheVariants.{Granted, Refused, Locked, Starved, Done}
+use Rattle.spin_step.specs.declared.place.Hold.{Hold}
+use Rattle.spin_step.specs.declared.place.Hold.TheVariants.{Starver}
+use Rattle.spin_step.specs.declared.stepped.Next.{Next}
+use Rattle.spin_step.specs.declared.stepped.Next.TheVariants.{Continue, Answers}
+use Rattle.spin_step.specs.declared.answer.Answer.{Answer}
+use Rattle.spin_step.specs.declared.answer.Answer.TheVariants.{Granted, Refused, Locked, Starved, Done}
 use Rattle.spin_step_more.specs.declared.fair_calls.FairCall.{FairCall}
 use Rattle.spin_step_more.specs.declared.fair_calls.FairCall.TheVariants.{Lock, TryLock, TryLockStarver, Starve, StarverTryLock, StarverLock, StarverDrop, Release}
 use Rattle.spin_step_more.specs.declared.fair_calls.FairPoint.{FairPoint}
 use Rattle.spin_step_more.specs.declared.fair_calls.FairPoint.TheVariants.{First, Attempt, Look, Load, Register, SetFlag, Await, Unregister}
-use Rattle.spin_model.specs.declared.schedule.Move.{Move}
-use Rattle.spin_model.specs.declared.schedule.Move.TheVariants.{Begin, Step, Weak}
-use Rattle.spin_model.specs.Machines.{Machine}
-use Rattle.spin_model.specs.Acts.{Act, either, load, load_if, exchange, weak_exchange, retry, section, swap, machine_of}
-use Rattle.spin_model.specs.Operations.{sets_lowest_bit}
+use Rattle.spin_step.specs.declared.schedule.Move.{Move}
+use Rattle.spin_step.specs.declared.schedule.Move.TheVariants.{Begin, Step, Weak}
+use Rattle.spin_step.specs.Machines.{Machine}
+use Rattle.spin_step.specs.Acts.{Act, either, load, load_if, exchange, weak_exchange, retry, section, swap, machine_of}
+use Rattle.spin_step.specs.Operations.{sets_lowest_bit}
 use Rattle.spin_step_more.specs.Starvers.{is_set, lock, lock_fair}
 use Rattle.spin_step_more.specs.FairCalls.{granted, act_of, fair_table, fair_machine}
-use Rattle.spin_model.specs.Asks.{tries_in}
+use Rattle.spin_step.specs.Asks.{tries_in}
 
 abbrev FairAct : Type 0 → Type 0
 FairAct V = Act ℕ FairPoint (Answer V)

@@ -1,21 +1,21 @@
 -- Wrong flags, each wrong in one part of its machine, and schedules on which the laws refuse these flags.
-use Rattle.spin_model.specs.declared.place.Hold.TheVariants.{Read}
+use Rattle.spin_step.specs.declared.place.Hold.TheVariants.{Read}
 use Rattle.std.specs.Prelude.{ℕ, Bool, true, false, Some, None, List, [], ◌∷◌}
-use Rattle.spin_model.specs.declared.step.Next.TheVariants.{Continue, Answers}
-use Rattle.spin_model.specs.declared.answer.Answer.{Answer}
-use Rattle.spin_model.specs.declared.answer.Answer.TheVariants.{Refused, Is, Granted}
-use Rattle.spin_model.specs.declared.flag.FlagCall.{FlagCall}
-use Rattle.spin_model.specs.declared.flag.FlagCall.TheVariants.{Lock, TryLock, IsLocked, Release}
-use Rattle.spin_model.specs.declared.flag.FlagPoint.{FlagPoint}
-use Rattle.spin_model.specs.declared.flag.FlagPoint.TheVariants.{First, Second}
-use Rattle.spin_model.specs.declared.schedule.Move.{Move}
-use Rattle.spin_model.specs.declared.schedule.Move.TheVariants.{Begin, Step, Weak}
-use Rattle.spin_model.specs.Machines.{Machine}
+use Rattle.spin_step.specs.declared.stepped.Next.TheVariants.{Continue, Answers}
+use Rattle.spin_step.specs.declared.answer.Answer.{Answer}
+use Rattle.spin_step.specs.declared.answer.Answer.TheVariants.{Refused, Is, Granted}
+use Rattle.spin_step.specs.declared.flag_calls.FlagCall.{FlagCall}
+use Rattle.spin_step.specs.declared.flag_calls.FlagCall.TheVariants.{Lock, TryLock, IsLocked, Release}
+use Rattle.spin_step.specs.declared.flag_calls.FlagPoint.{FlagPoint}
+use Rattle.spin_step.specs.declared.flag_calls.FlagPoint.TheVariants.{First, Second}
+use Rattle.spin_step.specs.declared.schedule.Move.{Move}
+use Rattle.spin_step.specs.declared.schedule.Move.TheVariants.{Begin, Step, Weak}
+use Rattle.spin_step.specs.Machines.{Machine}
 use Rattle.spin_step.specs.Plain.{gets, to_read, to_write}
 use Rattle.std.specs.Option.{option_map}
-use Rattle.spin_model.specs.Acts.{Act, weak_exchange, machine_of, exchange, swap, stays}
-use Rattle.spin_model.specs.Flag.{lock, granted, act_of, flag_table, flag_machine}
-use Rattle.spin_model.specs.Asks.{waits}
+use Rattle.spin_step.specs.Acts.{Act, weak_exchange, machine_of, exchange, swap, stays}
+use Rattle.spin_step.specs.FlagCalls.{lock, granted, act_of, flag_table, flag_machine}
+use Rattle.spin_step.specs.Asks.{waits}
 
 abbrev FlagMachine : Type 0 → Type 0
 FlagMachine V = Machine Bool V FlagCall FlagPoint (Answer V)

@@ -1,18 +1,18 @@
 -- Wrong `Once` objects, each wrong in one part of its machine, and schedules on which the laws refuse these objects.
 use Rattle.std.specs.Prelude.{ℕ, Option, Some, None, [], ◌∷◌, ◌==◌}
 use Rattle.spin_step.specs.Plain.{Change}
-use Rattle.spin_model.specs.declared.place.Hold.{Hold}
-use Rattle.spin_model.specs.declared.step.Next.TheVariants.{Continue, Answers}
-use Rattle.spin_model.specs.declared.step.Stepped.{Stepped}
-use Rattle.spin_model.specs.declared.answer.Answer.{Answer}
-use Rattle.spin_model.specs.declared.answer.Answer.TheVariants.{Value, NoValue, Failed}
-use Rattle.spin_model.specs.declared.once.OnceCall.{OnceCall}
-use Rattle.spin_model.specs.declared.once.OnceCall.TheVariants.{CallOnce, TryCallOnceOk, TryCallOnceErr, Wait, Poll, Get}
-use Rattle.spin_model.specs.declared.once.OncePoint.{OncePoint}
-use Rattle.spin_model.specs.declared.once.OncePoint.TheVariants.{Look, TryBegin, Await, Run}
-use Rattle.spin_model.specs.declared.schedule.Move.TheVariants.{Begin, Step, Weak}
-use Rattle.spin_model.specs.Acts.{either, stays}
-use Rattle.spin_model.specs.Once.{OnceMachine, once_machine}
+use Rattle.spin_step.specs.declared.place.Hold.{Hold}
+use Rattle.spin_step.specs.declared.stepped.Next.TheVariants.{Continue, Answers}
+use Rattle.spin_step.specs.declared.stepped.Stepped.{Stepped}
+use Rattle.spin_step.specs.declared.answer.Answer.{Answer}
+use Rattle.spin_step.specs.declared.answer.Answer.TheVariants.{Value, NoValue, Failed}
+use Rattle.spin_step.specs.declared.once_calls.OnceCall.{OnceCall}
+use Rattle.spin_step.specs.declared.once_calls.OnceCall.TheVariants.{CallOnce, TryCallOnceOk, TryCallOnceErr, Wait, Poll, Get}
+use Rattle.spin_step.specs.declared.once_calls.OncePoint.{OncePoint}
+use Rattle.spin_step.specs.declared.once_calls.OncePoint.TheVariants.{Look, TryBegin, Await, Run}
+use Rattle.spin_step.specs.declared.schedule.Move.TheVariants.{Begin, Step, Weak}
+use Rattle.spin_step.specs.Acts.{either, stays}
+use Rattle.spin_step.specs.OnceCalls.{OnceMachine, once_machine}
 use Rattle.spin_world.specs.Keeping.{Entries}
 
 abbrev OnceStep : Type 0 → Type 0

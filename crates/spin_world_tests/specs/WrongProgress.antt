@@ -3,27 +3,27 @@ use Rattle.std.specs.Prelude.{ℕ, ◌-◌, Bool, true, Option, None, List, [], 
 use Rattle.spin_step.specs.Plain.{asking, upgradable, weight, serves, turns}
 use Rattle.spin_step_more.specs.declared.rw_calls.RwCall.{RwCall}
 use Rattle.spin_step_more.specs.declared.rw_calls.RwPoint.{RwPoint}
-use Rattle.spin_model.specs.Acts.{Act, load, store, machine_of}
-use Rattle.spin_model.specs.Machines.{Machine}
-use Rattle.spin_model.specs.declared.answer.Answer.{Answer}
-use Rattle.spin_model.specs.declared.flag.FlagCall.{FlagCall}
-use Rattle.spin_model.specs.declared.flag.FlagPoint.{FlagPoint}
-use Rattle.spin_model.specs.declared.place.Hold.{Hold}
-use Rattle.spin_model.specs.declared.schedule.Move.{Move}
-use Rattle.spin_model.specs.declared.schedule.Move.TheVariants.{Begin, Step}
-use Rattle.spin_model.specs.declared.ticket.TicketCall.{TicketCall}
-use Rattle.spin_model.specs.declared.ticket.TicketPoint.{TicketPoint}
-use Rattle.spin_model.specs.declared.ticket.TicketWords.{TicketWords}
-use Rattle.spin_model.specs.declared.answer.Answer.TheVariants.{Done}
-use Rattle.spin_model.specs.declared.step.Next.TheVariants.{Continue, Answers}
-use Rattle.spin_model.specs.Operations.{stores, subtracts}
+use Rattle.spin_step.specs.Acts.{Act, load, store, machine_of}
+use Rattle.spin_step.specs.Machines.{Machine}
+use Rattle.spin_step.specs.declared.answer.Answer.{Answer}
+use Rattle.spin_step.specs.declared.flag_calls.FlagCall.{FlagCall}
+use Rattle.spin_step.specs.declared.flag_calls.FlagPoint.{FlagPoint}
+use Rattle.spin_step.specs.declared.place.Hold.{Hold}
+use Rattle.spin_step.specs.declared.schedule.Move.{Move}
+use Rattle.spin_step.specs.declared.schedule.Move.TheVariants.{Begin, Step}
+use Rattle.spin_step.specs.declared.ticket_calls.TicketCall.{TicketCall}
+use Rattle.spin_step.specs.declared.ticket_calls.TicketPoint.{TicketPoint}
+use Rattle.spin_step.specs.declared.ticket_calls.TicketWords.{TicketWords}
+use Rattle.spin_step.specs.declared.answer.Answer.TheVariants.{Done}
+use Rattle.spin_step.specs.declared.stepped.Next.TheVariants.{Continue, Answers}
+use Rattle.spin_step.specs.Operations.{stores, subtracts}
 use Rattle.spin_world_progress.specs.Ticket.{TicketMachine}
-use Rattle.spin_model.specs.declared.flag.FlagCall.TheVariants as flag
-use Rattle.spin_model.specs.declared.flag.FlagPoint.TheVariants as flag_point
-use Rattle.spin_model.specs.Flag as flags
-use Rattle.spin_model.specs.declared.ticket.TicketCall.TheVariants as ticket
-use Rattle.spin_model.specs.declared.ticket.TicketPoint.TheVariants as ticket_point
-use Rattle.spin_model.specs.Ticket as tickets
+use Rattle.spin_step.specs.declared.flag_calls.FlagCall.TheVariants as flag
+use Rattle.spin_step.specs.declared.flag_calls.FlagPoint.TheVariants as flag_point
+use Rattle.spin_step.specs.FlagCalls as flags
+use Rattle.spin_step.specs.declared.ticket_calls.TicketCall.TheVariants as ticket
+use Rattle.spin_step.specs.declared.ticket_calls.TicketPoint.TheVariants as ticket_point
+use Rattle.spin_step.specs.TicketCalls as tickets
 use Rattle.spin_step_more.specs.declared.rw_calls.RwCall.TheVariants as rw
 use Rattle.spin_step_more.specs.declared.rw_calls.RwPoint.TheVariants as rw_point
 use Rattle.spin_step_more.specs.RwCalls as rws

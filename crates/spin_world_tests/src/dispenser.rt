@@ -4,7 +4,7 @@
 //! Begin with [`Dispenser::new`].
 ghost use Rattle.std.specs.Prelude.{◌≡◌, true};
 ghost use Rattle.spin_world_core.specs.Runs.{Always};
-ghost use Rattle.spin_model.specs.Acts.{one_number, step_by, can_by, refusal_by};
+ghost use Rattle.spin_step.specs.Acts.{one_number, step_by, can_by, refusal_by};
 ghost use Rattle.spin_world_core.specs.Stepping.{result_of, refusal_of};
 ghost use Rattle.spin_world_tests.specs.declared.dispenser.Dispenser.{Dispenser};
 ghost use Rattle.spin_world_tests.specs.Dispenser.{next_after, act_of, dispenser_machine, IsDispenser, DrawsInOrder};

@@ -1,6 +1,6 @@
 //! The latch as an object of the world: a table of the steps of its calls. Begin with [`LatchObject::new`].
 ghost use Rattle.std.specs.Prelude.{◌≡◌, true};
-ghost use Rattle.spin_model.specs.Acts.{can_by, one_number, refusal_by, step_by};
+ghost use Rattle.spin_step.specs.Acts.{can_by, one_number, refusal_by, step_by};
 ghost use Rattle.spin_world_core.specs.Stepping.{refusal_of, result_of};
 ghost use Rattle.spin_core_tests.specs.LatchNamed.{IsLatch};
 ghost use Rattle.spin_core_tests.specs.LatchTable.{act_of, latch_machine};

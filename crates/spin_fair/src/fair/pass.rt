@@ -8,7 +8,7 @@ ghost use Rattle.spin_core.specs.Values.{IsLast};
 ghost use Rattle.spin_fair.specs.Fair.{use_of_party, answer_of, Called, Left};
 ghost use Rattle.spin_fair.specs.Guards.{Holds};
 ghost use Rattle.spin_fair.specs.declared.fair.rule.View.TheVariants.{Idle, Holding};
-ghost use Rattle.spin_model.specs.declared.answer.Answer.TheVariants.{Granted, Refused, Is};
+ghost use Rattle.spin_step.specs.declared.answer.Answer.TheVariants.{Granted, Refused, Is};
 ghost use Rattle.spin_step_more.specs.declared.fair_calls.FairCall.TheVariants.{Lock, TryLock, TryLockStarver, IsLocked, Starve};
 
 use super::account::Account;

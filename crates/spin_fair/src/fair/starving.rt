@@ -7,7 +7,7 @@ ghost use Rattle.spin_core.specs.Guard.{IsHolder, guard_view, guard_key, guard_v
 ghost use Rattle.spin_core.specs.Own.{what};
 ghost use Rattle.spin_core.specs.Passes.{IsCall, Waits};
 ghost use Rattle.spin_core.specs.Values.{IsLast};
-ghost use Rattle.spin_model.specs.declared.answer.Answer.TheVariants.{Granted, Refused, Done};
+ghost use Rattle.spin_step.specs.declared.answer.Answer.TheVariants.{Granted, Refused, Done};
 ghost use Rattle.spin_step_more.specs.declared.fair_calls.FairCall.TheVariants.{StarverTryLock, StarverTryLockFair, StarverLock, StarverDrop};
 ghost use Rattle.spin_fair.specs.Fair.{use_of_party, MaySet, MayAwait, Called, Comes};
 ghost use Rattle.spin_fair.specs.Guards.{Holds};

@@ -1,7 +1,7 @@
 //! A call of `lock` that waits, and how a party registers as a starver. Begin with [`try_with`].
 ghost use Rattle.std.specs.Prelude.{Some, None, true, false, IfOk, IfErr};
 ghost use Rattle.spin_core.specs.Guard.{IsHolder};
-ghost use Rattle.spin_model.specs.declared.answer.Answer.TheVariants.{Granted};
+ghost use Rattle.spin_step.specs.declared.answer.Answer.TheVariants.{Granted};
 ghost use Rattle.spin_step_more.specs.declared.fair_calls.FairCall.TheVariants.{Lock};
 ghost use Rattle.spin_fair.specs.Fair.{use_of_party, MayTry, MayRegister, Comes, in_call};
 ghost use Rattle.spin_fair.specs.Waits.{view_of, Goes, Gets, LocksOrWaits, IsRegistered, FindsNoRoom};

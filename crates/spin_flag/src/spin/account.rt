@@ -5,7 +5,7 @@ ghost use Rattle.spin_core.specs.Passes.{mark_of};
 ghost use Rattle.spin_core.specs.Spots.{IsIn};
 ghost use Rattle.spin_flag.specs.Flag.{model_at, MayTry};
 ghost use Rattle.spin_flag.specs.declared.spin.rule.View.TheVariants.{Looking};
-ghost use Rattle.spin_model.specs.declared.flag.FlagCall.TheVariants.{Lock};
+ghost use Rattle.spin_step.specs.declared.flag_calls.FlagCall.TheVariants.{Lock};
 
 use super::SpinMutexGuard;
 use super::rule::{Attempt, Entry, FlagRule, Looks, Party, Tries, Waits, is_set, taken, word};

@@ -8,8 +8,8 @@ ghost use Rattle.spin_core.specs.Values.{IsLast};
 ghost use Rattle.spin_flag.specs.Flag.{use_of_party, Called, Left};
 ghost use Rattle.spin_flag.specs.Guards.{Holds};
 ghost use Rattle.spin_flag.specs.declared.spin.rule.View.TheVariants.{Idle};
-ghost use Rattle.spin_model.specs.declared.answer.Answer.TheVariants.{Granted, Refused, Is};
-ghost use Rattle.spin_model.specs.declared.flag.FlagCall.TheVariants.{Lock, TryLock, IsLocked};
+ghost use Rattle.spin_step.specs.declared.answer.Answer.TheVariants.{Granted, Refused, Is};
+ghost use Rattle.spin_step.specs.declared.flag_calls.FlagCall.TheVariants.{Lock, TryLock, IsLocked};
 
 use super::account::Account;
 use super::rule::{Entry, Fails, Load, Waits, free, is_set};

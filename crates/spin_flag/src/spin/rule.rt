@@ -7,8 +7,8 @@ ghost use Rattle.spin_core.specs.Passes.{mark_of, IsOut};
 ghost use Rattle.spin_core.specs.Spots.{spot, Releases};
 ghost use Rattle.spin_core.specs.Traced.{MayKnow};
 ghost use Rattle.spin_core.specs.Values.{untold};
-ghost use Rattle.spin_model.specs.declared.answer.Answer.TheVariants.{Done};
-ghost use Rattle.spin_model.specs.declared.flag.FlagCall.TheVariants.{Release};
+ghost use Rattle.spin_step.specs.declared.answer.Answer.TheVariants.{Done};
+ghost use Rattle.spin_step.specs.declared.flag_calls.FlagCall.TheVariants.{Release};
 ghost use Rattle.spin_flag.specs.declared.spin.rule.View.TheVariants.{Idle};
 ghost use Rattle.spin_flag.specs.Flag.{IsFlag, Told, flag_ways, model_at, use_of_party, set, looks_by, tries_by, frees_by, looked_by};
 
@@ -16,8 +16,7 @@ use spin_core::cell::{Permit, Play, Rule, WritePermit};
 use spin_core::guard::{self, Uses};
 use spin_core::tie::{self, Opening};
 use spin_core::trace::{Trace, Watch};
-use spin_model::FlagCall;
-use spin_step::flag;
+use spin_step::{FlagCall, flag};
 use std::marker::PhantomData;
 
 /// What a party is to the lock: where it is in a call, or what it holds.

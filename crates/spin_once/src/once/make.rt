@@ -2,9 +2,9 @@
 ghost use Rattle.std.specs.Prelude.{◌≡◌, Some, Err, true, false, IfOk, IfErr};
 ghost use Rattle.spin_core.specs.Own.{what};
 ghost use Rattle.spin_core.specs.Passes.{Ends, IsCall};
-ghost use Rattle.spin_model.specs.declared.answer.Answer.TheVariants.{Value};
-ghost use Rattle.spin_model.specs.declared.once.OnceCall.TheVariants.{TryCallOnceOk};
-ghost use Rattle.spin_model.specs.declared.once.OncePoint.TheVariants.{TryBegin};
+ghost use Rattle.spin_step.specs.declared.answer.Answer.TheVariants.{Value};
+ghost use Rattle.spin_step.specs.declared.once_calls.OnceCall.TheVariants.{TryCallOnceOk};
+ghost use Rattle.spin_step.specs.declared.once_calls.OncePoint.TheVariants.{TryBegin};
 ghost use Rattle.spin_once.specs.Accounts.{here, Since};
 ghost use Rattle.spin_once.specs.Once.{is_out, in_closure, Fails, IsFailedCall};
 

@@ -2,9 +2,9 @@
 ghost use Rattle.std.specs.Prelude.{◌≡◌, ◌⊎◌, Some, None, Err, [], true, IfSome, IfOk, IfErr};
 ghost use mathlib.Core.List.{IsPrefix};
 ghost use Rattle.spin_core.specs.Own.{what};
-ghost use Rattle.spin_model.specs.declared.answer.Answer.TheVariants.{Value, Is};
-ghost use Rattle.spin_model.specs.declared.once.OnceCall.TheVariants.{CallOnce, Wait as WaitCall, Poll, Get, IsCompleted};
-ghost use Rattle.spin_model.specs.declared.once.OnceCall.{OnceCall};
+ghost use Rattle.spin_step.specs.declared.answer.Answer.TheVariants.{Value, Is};
+ghost use Rattle.spin_step.specs.declared.once_calls.OnceCall.TheVariants.{CallOnce, Wait as WaitCall, Poll, Get, IsCompleted};
+ghost use Rattle.spin_step.specs.declared.once_calls.OnceCall.{OnceCall};
 ghost use Rattle.spin_once.specs.Accounts.{Place, here, Since, Finds};
 ghost use Rattle.spin_core.specs.Passes.{IsCall};
 ghost use Rattle.spin_once.specs.Once.{is_out};

@@ -2,8 +2,8 @@
 //! parties, and each kind of step.
 ghost use Rattle.std.specs.Prelude.{◌≡◌, Bool, true, false};
 ghost use Rattle.spin_core.specs.Own.{what};
-ghost use Rattle.spin_model.specs.declared.once.OnceCall.{OnceCall};
-ghost use Rattle.spin_model.specs.declared.once.OnceCall.TheVariants.{Get, IsCompleted, Wait, Poll};
+ghost use Rattle.spin_step.specs.declared.once_calls.OnceCall.{OnceCall};
+ghost use Rattle.spin_step.specs.declared.once_calls.OnceCall.TheVariants.{Get, IsCompleted, Wait, Poll};
 ghost use Rattle.spin_once.specs.Once.{Told, turn_by, fails_by, closure_call};
 ghost use Rattle.spin_once.specs.declared.once_core.rule.Stage.TheVariants.{Done, Seed as InSeed};
 
@@ -11,8 +11,7 @@ use spin_core::cell::stable::{MaybeStable, Stabilizes, Stable};
 use spin_core::cell::{Cell, Permit, Play, Rule, WritePermit};
 use spin_core::tie::{self, Opening};
 use spin_core::trace::Trace;
-use spin_model::{OnceCall, OncePoint};
-use spin_step::once;
+use spin_step::{OnceCall, OncePoint, once};
 use std::marker::PhantomData;
 use std::snapshot::Snapshot;
 

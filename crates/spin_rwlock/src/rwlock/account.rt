@@ -2,7 +2,7 @@
 ghost use Rattle.std.specs.Prelude.{◌≡◌, ◌+◌, ◌-◌, ◌%◌, ◌^◌, ◌==◌, [], ◌∷◌, Some, None, IfOk, IfErr};
 ghost use prog.Atomic.{either};
 ghost use Rattle.spin_core.specs.Cell.{writes, use_of};
-ghost use Rattle.spin_model.specs.declared.answer.Answer.TheVariants.{Granted};
+ghost use Rattle.spin_step.specs.declared.answer.Answer.TheVariants.{Granted};
 ghost use Rattle.spin_step_more.specs.declared.rw_calls.RwCall.TheVariants.{Write};
 ghost use Rattle.spin_rwlock.specs.Rw.{IsRwWord, IsOut, MayWrite, AreSteps, tries_by, wins, loses, in_call, use_of_view};
 ghost use Rattle.spin_rwlock.specs.Steps.{IsLent, Knows, MayKnow, MayDo, Turned, Has, IsGranted};

@@ -3,7 +3,7 @@ ghost use Rattle.std.specs.Prelude.{◌≡◌, ℕ, Bool, true, false, [], ◌�
 ghost use Rattle.spin_step.specs.Plain.{Plain, gets, rw_word};
 ghost use Rattle.spin_step.specs.Steps.{Decides};
 ghost use Rattle.spin_step_more.specs.Readers.{OneOfEach, reader_limit};
-ghost use Rattle.spin_model.specs.declared.answer.Answer.TheVariants.{Granted, Refused};
+ghost use Rattle.spin_step.specs.declared.answer.Answer.TheVariants.{Granted, Refused};
 ghost use Rattle.spin_core.specs.Passes.{IsCall};
 ghost use Rattle.spin_rwlock.specs.Rw.{comes_by, looks_by, peeks_by, in_call, call_of, grants, missed, admitted, asks, MayCome, AreSteps, Seeks};
 ghost use Rattle.spin_rwlock.specs.Steps.{Knows, IsPass, Has};

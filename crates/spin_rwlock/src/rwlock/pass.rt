@@ -4,7 +4,7 @@ ghost use mathlib.Core.List.{IsPrefix};
 ghost use Rattle.spin_core.specs.Calls.{AnswersOf, AnswersOfShared};
 ghost use Rattle.spin_core.specs.Own.{what};
 ghost use Rattle.spin_core.specs.Values.{IsLast};
-ghost use Rattle.spin_model.specs.declared.answer.Answer.TheVariants.{Granted, Refused, Count, Done};
+ghost use Rattle.spin_step.specs.declared.answer.Answer.TheVariants.{Granted, Refused, Count, Done};
 ghost use Rattle.spin_step_more.specs.Readers.{reader_limit};
 ghost use Rattle.spin_step_more.specs.declared.rw_calls.RwCall.TheVariants.{TryRead, Read, TryUpgradeableRead, UpgradeableRead, TryWrite, Write, ReaderCount, WriterCount, Release};
 ghost use Rattle.spin_rwlock.specs.Guards.{shared_party, write_party, shared_opening, write_opening, write_value, ReadsWith, WritesWith, ReadsLast, FindsLast};

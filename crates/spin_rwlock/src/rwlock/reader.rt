@@ -2,7 +2,7 @@
 ghost use Rattle.std.specs.Prelude.{◌≡◌, Some};
 ghost use Rattle.spin_core.specs.Own.{what};
 ghost use Rattle.spin_core.specs.Passes.{IsCall};
-ghost use Rattle.spin_model.specs.declared.answer.Answer.TheVariants.{Done};
+ghost use Rattle.spin_step.specs.declared.answer.Answer.TheVariants.{Done};
 ghost use Rattle.spin_step_more.specs.declared.rw_calls.RwCall.TheVariants.{Release};
 ghost use Rattle.spin_rwlock.specs.Rw.{IsOut};
 ghost use Rattle.spin_rwlock.specs.Sights.{sight, view_of};

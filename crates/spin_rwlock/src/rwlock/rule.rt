@@ -4,7 +4,7 @@ ghost use Rattle.spin_step.specs.Plain.{Plain, gets, rw_word};
 ghost use Rattle.spin_step.specs.Steps.{Decides};
 ghost use Rattle.spin_step_more.specs.Readers.{OneOfEach, reader_limit, readers_in, writers_in};
 ghost use Rattle.spin_step_more.specs.declared.rw_calls.RwCall.TheVariants.{Downgrade, Release, ReaderCount, WriterCount};
-ghost use Rattle.spin_model.specs.declared.answer.Answer.TheVariants as answer;
+ghost use Rattle.spin_step.specs.declared.answer.Answer.TheVariants as answer;
 ghost use Rattle.spin_core.specs.Cell.{reads};
 ghost use Rattle.spin_core.specs.Own.{what};
 ghost use Rattle.spin_core.specs.Values.{untold};

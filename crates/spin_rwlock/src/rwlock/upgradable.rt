@@ -1,7 +1,7 @@
 //! The guard of the upgradable reader, and what it can do besides reading. Begin at `upgrade`.
 ghost use Rattle.std.specs.Prelude.{◌≡◌, true, false, [], ◌∷◌, Some, None, IfOk, IfErr};
 ghost use Rattle.spin_core.specs.Passes.{IsCall};
-ghost use Rattle.spin_model.specs.declared.answer.Answer.TheVariants.{Granted, Refused, Done};
+ghost use Rattle.spin_step.specs.declared.answer.Answer.TheVariants.{Granted, Refused, Done};
 ghost use Rattle.spin_step_more.specs.declared.rw_calls.RwCall.TheVariants.{TryUpgrade, Upgrade, Downgrade};
 ghost use Rattle.spin_rwlock.specs.Guards.{write_value, shared_party, write_party, shared_opening, write_opening, ReadsWith, WritesWith, ReadsLast, FindsLast};
 ghost use Rattle.spin_rwlock.specs.Rw.{AreSteps, Called};

@@ -1,8 +1,8 @@
 //! The steps of a party that knows which moves of the lock's history are its own. Begin with [`Account::count`].
 ghost use Rattle.std.specs.Prelude.{◌≡◌, ◌≤◌, Bool, Some, None, IfOk, IfErr, true, false};
 ghost use Rattle.spin_core.specs.Own.{what};
-ghost use Rattle.spin_model.specs.declared.answer.Answer.TheVariants.{Granted, Count as Counted, Done as Left};
-ghost use Rattle.spin_model.specs.declared.schedule.Outcome.TheVariants.{Answered, GoingOn};
+ghost use Rattle.spin_step.specs.declared.answer.Answer.TheVariants.{Granted, Count as Counted, Done as Left};
+ghost use Rattle.spin_step.specs.declared.schedule.Outcome.TheVariants.{Answered, GoingOn};
 ghost use Rattle.spin_seats.specs.Accounts.{Stepped};
 ghost use Rattle.spin_seats.specs.Rule.{IsAtWord, MayLook, at_word, call_of, has_begun, met, stands};
 ghost use Rattle.spin_seats.specs.Seats.{entered, seats};

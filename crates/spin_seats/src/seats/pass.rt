@@ -2,7 +2,7 @@
 ghost use Rattle.std.specs.Prelude.{◌≡◌, ◌≤◌, ◌⊎◌, Some, None, [], IfOk, IfErr, true, false};
 ghost use mathlib.Core.List.{IsPrefix};
 ghost use Rattle.spin_core.specs.Own.{what};
-ghost use Rattle.spin_model.specs.declared.answer.Answer.TheVariants.{Granted, Refused, Count as Counted, Done as Left};
+ghost use Rattle.spin_step.specs.declared.answer.Answer.TheVariants.{Granted, Refused, Count as Counted, Done as Left};
 ghost use Rattle.spin_seats.specs.Accounts.{Called, IsIn, IsTrying};
 ghost use Rattle.spin_seats.specs.Rule.{at_word, stands};
 ghost use Rattle.spin_seats.specs.Seats.{seats};

@@ -10,8 +10,8 @@ ghost use Rattle.spin_step.specs.Tickets.{take};
 ghost use Rattle.spin_ticket.specs.Queue.{IsQueue, queue_ways, use_of_party, model, freed, answers_free, answers_look};
 ghost use Rattle.spin_ticket.specs.Accounts.{here, Attempts, HasTicket, Releases};
 ghost use Rattle.spin_ticket.specs.declared.ticket.rule.View.TheVariants.{Idle, LoadedNext, Trying, LoadedServing};
-ghost use Rattle.spin_model.specs.declared.schedule.Outcome.TheVariants.{GoingOn};
-ghost use Rattle.spin_model.specs.declared.ticket.TicketCall.TheVariants.{TryLock, IsLocked};
+ghost use Rattle.spin_step.specs.declared.schedule.Outcome.TheVariants.{GoingOn};
+ghost use Rattle.spin_step.specs.declared.ticket_calls.TicketCall.TheVariants.{TryLock, IsLocked};
 
 use super::rule::{
     Entry, FindOwn, LookNext, LookServing, Party, Serve, TicketRule, TryLoadNext, TryLoadServing,

@@ -10,9 +10,9 @@ ghost use Rattle.spin_ticket.specs.Queue.{use_of_party, model, Called, Left};
 ghost use Rattle.spin_ticket.specs.Guards.{Holds};
 ghost use Rattle.spin_ticket.specs.Accounts.{Spot, here, GoesFor, Enters, Tries, Gets};
 ghost use Rattle.spin_ticket.specs.declared.ticket.rule.View.TheVariants.{Idle};
-ghost use Rattle.spin_model.specs.declared.answer.Answer.TheVariants.{Granted, Refused, Is};
-ghost use Rattle.spin_model.specs.declared.ticket.TicketCall.{TicketCall};
-ghost use Rattle.spin_model.specs.declared.ticket.TicketCall.TheVariants.{Lock, TryLock, IsLocked};
+ghost use Rattle.spin_step.specs.declared.answer.Answer.TheVariants.{Granted, Refused, Is};
+ghost use Rattle.spin_step.specs.declared.ticket_calls.TicketCall.{TicketCall};
+ghost use Rattle.spin_step.specs.declared.ticket_calls.TicketCall.TheVariants.{Lock, TryLock, IsLocked};
 
 use super::account::{find_own, serve};
 use super::rule::{Await, Entry, LoadNext, Take};

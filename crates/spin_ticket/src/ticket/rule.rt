@@ -3,7 +3,7 @@ ghost use Rattle.std.specs.Prelude.{true, false, refl};
 ghost use Rattle.spin_core.specs.Cell.{use_of};
 ghost use Rattle.spin_core.specs.Own.{what};
 ghost use Rattle.spin_core.specs.Passes.{step_by};
-ghost use Rattle.spin_model.specs.declared.ticket.TicketCall.TheVariants.{Lock, TryLock, IsLocked};
+ghost use Rattle.spin_step.specs.declared.ticket_calls.TicketCall.TheVariants.{Lock, TryLock, IsLocked};
 ghost use Rattle.spin_ticket.specs.Queue.{IsQueue, Told, queue_ways, lent as lent_key, serves_by, use_of_party, goes_on, going, taken, awaits_by, tries_by, attempted, answers_attempt, compares_by, finds_by};
 ghost use Rattle.spin_ticket.specs.declared.ticket.rule.View.TheVariants.{Idle, LoadedNext, LoadedServing};
 
@@ -12,7 +12,7 @@ use spin_core::cell::{Play, Rule, WritePermit};
 use spin_core::guard::{self, Uses};
 use spin_core::tie::{self, Opening};
 use spin_core::trace::{Trace, Watch};
-use spin_model::TicketCall;
+use spin_step::TicketCall;
 
 /// What a party is to the lock: where it is in a call, or what it holds. The numbers are those of tickets.
 #[derive(Clone, Copy)]

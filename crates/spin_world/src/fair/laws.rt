@@ -1,8 +1,8 @@
 //! Laws of the fair lock. Each law is the contract of a function that does nothing. A caller that calls this function
 //! learns what the law states. Begin with [`starvers_come_first`].
 ghost use Rattle.std.specs.Prelude.{◌≡◌, ◌↔◌, ℕ, List, []};
-ghost use Rattle.spin_model.specs.declared.schedule.Move.{Move};
-ghost use Rattle.spin_model.specs.Schedules.{after, at_first};
+ghost use Rattle.spin_step.specs.declared.schedule.Move.{Move};
+ghost use Rattle.spin_step.specs.Schedules.{after, at_first};
 ghost use Rattle.spin_world_core.specs.Runs.{opening};
 ghost use Rattle.spin_world_core.specs.Users.{seen_after};
 ghost use Rattle.spin_step_more.specs.declared.fair_calls.FairCall.{FairCall};

@@ -1,11 +1,11 @@
 //! Laws of the flag. Each law is the contract of a function that does nothing. A caller that calls this function learns
 //! what the law states.
 ghost use Rattle.std.specs.Prelude.{◌≡◌, ◌↔◌, ℕ, List, [], false};
-ghost use Rattle.spin_model.specs.declared.schedule.Move.{Move};
-ghost use Rattle.spin_model.specs.Schedules.{after, at_first};
+ghost use Rattle.spin_step.specs.declared.schedule.Move.{Move};
+ghost use Rattle.spin_step.specs.Schedules.{after, at_first};
 ghost use Rattle.spin_world_core.specs.Runs.{opening};
 ghost use Rattle.spin_world_core.specs.Users.{seen_after};
-ghost use Rattle.spin_model.specs.declared.flag.FlagCall.{FlagCall};
+ghost use Rattle.spin_step.specs.declared.flag_calls.FlagCall.{FlagCall};
 ghost use Rattle.spin_world.specs.declared.flag.Flag.{Flag};
 ghost use Rattle.spin_world.specs.Flag.{IsFlag};
 

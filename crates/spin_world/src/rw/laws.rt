@@ -1,8 +1,8 @@
 //! Laws of the read-write lock. Each law is the contract of a function that does nothing. A caller that calls this
 //! function learns what the law states. Begin with [`readers_stand_beside_no_writer`].
 ghost use Rattle.std.specs.Prelude.{◌≡◌, ◌↔◌, ℕ, List, []};
-ghost use Rattle.spin_model.specs.declared.schedule.Move.{Move};
-ghost use Rattle.spin_model.specs.Schedules.{after, at_first};
+ghost use Rattle.spin_step.specs.declared.schedule.Move.{Move};
+ghost use Rattle.spin_step.specs.Schedules.{after, at_first};
 ghost use Rattle.spin_world_core.specs.Runs.{opening};
 ghost use Rattle.spin_world_core.specs.Users.{seen_after, ReadsAgreeAcross};
 ghost use Rattle.spin_step_more.specs.declared.rw_calls.RwCall.{RwCall};

@@ -1,11 +1,11 @@
 //! Laws of the ticket lock. Each law is the contract of a function that does nothing. A caller that calls this function
 //! learns what the law states. Begin with [`tickets_enter_by_releases`].
 ghost use Rattle.std.specs.Prelude.{ℕ, List};
-ghost use Rattle.spin_model.specs.declared.schedule.Move.{Move};
-ghost use Rattle.spin_model.specs.Schedules.{after, at_first};
+ghost use Rattle.spin_step.specs.declared.schedule.Move.{Move};
+ghost use Rattle.spin_step.specs.Schedules.{after, at_first};
 ghost use Rattle.spin_world_core.specs.Runs.{opening};
 ghost use Rattle.spin_world_core.specs.Users.{seen_after};
-ghost use Rattle.spin_model.specs.declared.ticket.TicketCall.{TicketCall};
+ghost use Rattle.spin_step.specs.declared.ticket_calls.TicketCall.{TicketCall};
 ghost use Rattle.spin_world.specs.declared.ticket.Ticket.{Ticket};
 ghost use Rattle.spin_world.specs.Turns.{InOrder, InTurn, TriesByTwoLoads};
 

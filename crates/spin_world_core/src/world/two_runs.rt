@@ -1,6 +1,6 @@
 //! One schedule in two runs, one after another. Begin with [`run_in_two`].
 ghost use Rattle.std.specs.Prelude.{◌≡◌, ◌≤◌, ◌⊎◌, ◌++◌, [], length, take, drop, IfOk, OnOk, OnErr};
-ghost use Rattle.spin_model.specs.Schedules.{after, events_of, with_begins};
+ghost use Rattle.spin_step.specs.Schedules.{after, events_of, with_begins};
 ghost use Rattle.spin_world_core.specs.Runs.{IsReached, AfterAnyPast};
 ghost use Rattle.spin_world_core.specs.Transcripts.{TellsAfterAnyPast, TellsBegins};
 ghost use Rattle.spin_world_core.specs.Joined.{Promised, IsCut};
@@ -8,7 +8,7 @@ ghost use Rattle.spin_world_core.specs.Joined.{Promised, IsCut};
 use crate::object::Object;
 use crate::schedule::Transcript;
 use crate::world::World;
-use spin_model::Move;
+use spin_step::Move;
 use std::alloc::{AllocError, Allocator};
 
 /// Plays a schedule in two runs: the entries before the place `at`, then the others.

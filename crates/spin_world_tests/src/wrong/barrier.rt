@@ -1,6 +1,6 @@
 //! Each function here states that a wrong barrier breaks a law, in most cases on a named schedule. So they show what
 //! the laws keep out. Begin with [`the_first_of_a_group_follows`].
-ghost use Rattle.spin_model.specs.Operations.{Stepwise};
+ghost use Rattle.spin_step.specs.Operations.{Stepwise};
 ghost use Rattle.spin_world_core.specs.Runs.{KeepsAll, MomentsAll, CountsAll};
 ghost use Rattle.spin_world.specs.Groups.{InGroups, FollowersLeave};
 ghost use Rattle.spin_world.specs.Barrier.{IsBarrierOf};

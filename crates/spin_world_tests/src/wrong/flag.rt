@@ -2,7 +2,7 @@
 //! laws keep out. Begin with [`a_lock_tries_again`].
 ghost use Rattle.std.specs.Prelude.{◌≡◌, []};
 ghost use Rattle.spin_world_core.specs.Runs.{MomentsAll, CountsAll};
-ghost use Rattle.spin_model.specs.Operations.{Stepwise};
+ghost use Rattle.spin_step.specs.Operations.{Stepwise};
 ghost use Rattle.spin_world_core.specs.Runs.{KeepsAll};
 ghost use Rattle.spin_world_tests.specs.WrongFlag.{never_looks, lock_beside_a_holder, refuses_at_its_look, looks_first, lock_alone, looks_for_ever, two_looks, tries_by_chance, one_try, looks_by_chance, look_beside_a_holder, never_releases, locks_to_read, opens_set, grants_to_read, whole_try};
 

@@ -1,10 +1,10 @@
 //! Each function here states that a wrong cell breaks a law, in most cases on a named schedule. So they show what the
 //! laws keep out. Begin with [`a_second_closure_does_not_run`].
 ghost use Rattle.std.specs.Prelude.{◌≡◌, Some, None, []};
-ghost use Rattle.spin_model.specs.Operations.{Stepwise};
+ghost use Rattle.spin_step.specs.Operations.{Stepwise};
 ghost use Rattle.spin_world_core.specs.Runs.{KeepsAll, MomentsAll, CountsAll};
 ghost use Rattle.spin_world_core.specs.Values.{ValuesAll};
-ghost use Rattle.spin_model.specs.Once.{once_machine};
+ghost use Rattle.spin_step.specs.OnceCalls.{once_machine};
 ghost use Rattle.spin_world.specs.Keeping.{AnswersAtOnce, LooksFirst, LooksWhereComplete, MayRunAgain};
 ghost use Rattle.spin_world.specs.Once.{IsOnceOf};
 ghost use Rattle.spin_world_tests.specs.WrongOnce.{peeks, runs_on, six_steps, waits_idly, one_wait, always_fails, never_gets, never_looks, one_call, loses_by_chance, a_look_and_chance, opens_at_nothing, replaces, two_closures, sticks, sticks_silently, one_failure, gets_early, get_beside_a_closure, polls_early, poll_beside_a_closure, tells_another, places_another, one_closure, hesitates, a_failure_beside_a_call};

@@ -1,7 +1,7 @@
 //! Each function here states that a wrong read-write lock breaks a law, in most cases on a named schedule. So they show
 //! what the laws keep out. Begin with [`an_upgrade_is_refused_beside_readers`].
 ghost use Rattle.std.specs.Prelude.{◌≡◌, []};
-ghost use Rattle.spin_model.specs.Operations.{Stepwise};
+ghost use Rattle.spin_step.specs.Operations.{Stepwise};
 ghost use Rattle.spin_world_core.specs.Runs.{KeepsAll, MomentsAll, CountsAll};
 ghost use Rattle.spin_step_more.specs.RwCalls.{rw_machine};
 ghost use Rattle.spin_world.specs.Rw.{IsRw};

@@ -1,7 +1,7 @@
 //! Each function here states that a wrong lock of seats breaks a law, in most cases on a named schedule. So they show
 //! what the laws keep out. Begin with [`nobody_sits_beyond_the_seats`].
 ghost use Rattle.std.specs.Prelude.{◌≡◌, []};
-ghost use Rattle.spin_model.specs.Operations.{Stepwise};
+ghost use Rattle.spin_step.specs.Operations.{Stepwise};
 ghost use Rattle.spin_world_core.specs.Runs.{KeepsAll, CountsAll, MomentsAll};
 ghost use Rattle.spin_seats.specs.Table.{seats_machine};
 ghost use Rattle.spin_world_seats.specs.Named.{IsSeats};

@@ -1,7 +1,7 @@
 //! Each function here states that a wrong ticket lock breaks a law, in most cases on a named schedule. So they show
 //! what the laws keep out. Begin with [`a_look_loads_the_served_number_first`].
 ghost use Rattle.std.specs.Prelude.{◌≡◌, []};
-ghost use Rattle.spin_model.specs.Operations.{Stepwise};
+ghost use Rattle.spin_step.specs.Operations.{Stepwise};
 ghost use Rattle.spin_world_core.specs.Runs.{KeepsAll, MomentsAll, CountsAll};
 ghost use Rattle.spin_world.specs.Ticket.{IsTicketLock};
 ghost use Rattle.spin_world.specs.Turns.{TriesByTwoLoads};

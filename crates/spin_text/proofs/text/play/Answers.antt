@@ -1,10 +1,10 @@
 use Rattle.std.proofs.Common.{Some, ◌∙◌, ap, sym, refl, arith}
-use Rattle.spin_model.specs.Flag.{flag_machine}
+use Rattle.spin_step.specs.FlagCalls.{flag_machine}
 use Rattle.spin_step_more.specs.FairCalls.{fair_machine}
 use Rattle.spin_step_more.specs.RwCalls.{rw_machine}
-use Rattle.spin_model.specs.Ticket.{ticket_machine}
+use Rattle.spin_step.specs.TicketCalls.{ticket_machine}
 use Rattle.spin_world.specs.BarrierTable.{barrier_machine}
-use Rattle.spin_model.specs.Once.{once_machine}
+use Rattle.spin_step.specs.OnceCalls.{once_machine}
 use Rattle.spin_text.specs.declared.header.Header.TheVariants.{Flag, Ticket, Rw, Fair, Barrier, Once}
 use Rattle.spin_text.specs.Transcripts.{transcript_text}
 use Rattle.spin_text.proofs.Scripts.{headed, bad_header, plays_so}

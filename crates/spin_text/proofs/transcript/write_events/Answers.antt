@@ -1,5 +1,5 @@
 use Rattle.std.proofs.Common.{◌≡◌, ◌++◌, ◌+◌, ◌-◌, ◌∙◌, List, ℕ, IsSome, length, take, drop, ap, sym, subst, arith}
-use Rattle.spin_model.specs.Schedules.{after}
+use Rattle.spin_step.specs.Schedules.{after}
 use Rattle.spin_text.specs.declared.piece.TheConstants.{LONGEST_LINE}
 use Rattle.spin_text.specs.Ends.{AppendsBut}
 use Rattle.spin_text.specs.Readable.{AllRead}

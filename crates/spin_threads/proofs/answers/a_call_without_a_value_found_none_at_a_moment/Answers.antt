@@ -1,7 +1,7 @@
 use Rattle.std.proofs.Common.{◌≡◌, true, false, not, refl, arith}
 use Rattle.spin_step.specs.Plain.{is_nothing, is_complete}
-use Rattle.spin_model.specs.declared.answer.Answer.TheVariants.{NoValue}
-use Rattle.spin_model.specs.declared.once.OnceCall.TheVariants.{Get, Poll}
+use Rattle.spin_step.specs.declared.answer.Answer.TheVariants.{NoValue}
+use Rattle.spin_step.specs.declared.once_calls.OnceCall.TheVariants.{Get, Poll}
 use Rattle.spin_threads.specs.Onces.{has_value}
 use Rattle.spin_threads.proofs.Onces.{found_once}
 use Rattle.spin_threads.proofs.answers.a_call_without_a_value_found_none_at_a_moment.Goals as goal

@@ -1,6 +1,6 @@
 use Rattle.std.proofs.Common.{refl, ◌==◌}
 use Rattle.std.proofs.lemmas.Bool.{eqb-true}
-use Rattle.spin_model.specs.Calls.{readers, writers}
+use Rattle.spin_step.specs.Calls.{readers, writers}
 use Rattle.spin_step_more.specs.Readers.{reader_limit}
 use Rattle.spin_world.proofs.RwOwed.{rw_facts}
 use Rattle.spin_threads.proofs.Moments.{found}

@@ -1,6 +1,6 @@
 use Rattle.std.proofs.Common.{refl, ◌==◌}
 use Rattle.std.proofs.lemmas.Bool.{eqb-true}
-use Rattle.spin_model.specs.Calls.{readers}
+use Rattle.spin_step.specs.Calls.{readers}
 use Rattle.spin_world_seats.proofs.Owed.{seats_facts}
 use Rattle.spin_threads.proofs.Moments.{found}
 use Rattle.spin_threads.proofs.answers.a_count_of_seats_was_so_at_a_moment.Goals as goal

@@ -4,7 +4,7 @@ use Rattle.spin_fair.specs.Fair.{patience}
 use Rattle.spin_step_more.specs.Starvers.{most_starvers}
 use Rattle.spin_world.proofs.FairOwed.{fair_facts}
 use Rattle.spin_threads.proofs.Moments.{found, same_is}
-use Rattle.spin_model.specs.Asks.{same}
+use Rattle.spin_step.specs.Asks.{same}
 use Rattle.spin_threads.proofs.answers.a_look_at_a_fair_mutex_was_so_at_a_moment.Goals as goal
 
 pub returns : goal.returns

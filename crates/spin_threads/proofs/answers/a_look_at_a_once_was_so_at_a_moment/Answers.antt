@@ -1,9 +1,9 @@
 use Rattle.std.proofs.Common.{◌≡◌, refl}
-use Rattle.spin_model.specs.declared.answer.Answer.TheVariants.{Is}
-use Rattle.spin_model.specs.declared.once.OnceCall.TheVariants.{IsCompleted}
+use Rattle.spin_step.specs.declared.answer.Answer.TheVariants.{Is}
+use Rattle.spin_step.specs.declared.once_calls.OnceCall.TheVariants.{IsCompleted}
 use Rattle.spin_threads.specs.Onces.{has_value}
 use Rattle.spin_threads.proofs.Onces.{found_once}
-use Rattle.spin_model.specs.Asks.{same}
+use Rattle.spin_step.specs.Asks.{same}
 use Rattle.spin_threads.proofs.Moments.{same_is}
 use Rattle.spin_step.specs.Plain.{is_complete}
 use Rattle.spin_threads.proofs.answers.a_look_at_a_once_was_so_at_a_moment.Goals as goal

@@ -2,7 +2,7 @@ use Rattle.std.proofs.Common.{refl}
 use Rattle.spin_step.specs.Parties.{is_held}
 use Rattle.spin_world.proofs.TicketOwed.{ticket_facts}
 use Rattle.spin_threads.proofs.Moments.{found, same_is}
-use Rattle.spin_model.specs.Asks.{same}
+use Rattle.spin_step.specs.Asks.{same}
 use Rattle.spin_threads.proofs.answers.a_look_at_a_ticket_mutex_was_so_at_a_moment.Goals as goal
 
 pub returns : goal.returns

@@ -3,7 +3,7 @@ use mathlib.Core.Logic.{inl, inr}
 use Rattle.spin_step.specs.Plain.{Plain, is_open_to, is_starver, to_lock_starving, to_lock_starving_alone}
 use Rattle.spin_step.specs.Parties.{is_held}
 use Rattle.spin_step_more.specs.declared.fair_calls.FairCall.TheVariants.{StarverTryLock, StarverTryLockFair}
-use Rattle.spin_model.specs.declared.place.Hold.{Hold}
+use Rattle.spin_step.specs.declared.place.Hold.{Hold}
 use Rattle.spin_step_more.specs.declared.fair_calls.FairCall.{FairCall}
 use Rattle.spin_step_more.specs.declared.fair_calls.FairPoint.{FairPoint}
 use Rattle.spin_world_core.specs.Runs.{Seen}

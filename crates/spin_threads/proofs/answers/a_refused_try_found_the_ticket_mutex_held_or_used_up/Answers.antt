@@ -1,7 +1,7 @@
 use Rattle.std.proofs.Common.{◌≡◌, ◌⊎◌, ℕ, true, false, arith, not, refl}
 use Rattle.spin_step.specs.Plain.{Plain, is_open_to, to_take_and_enter}
 use Rattle.spin_step.specs.Parties.{is_held}
-use Rattle.spin_model.specs.Ticket.{is_left}
+use Rattle.spin_step.specs.TicketCalls.{is_left}
 use Rattle.spin_world.proofs.TicketOwed.{ticket_facts}
 use Rattle.spin_threads.proofs.Moments.{found}
 use Rattle.spin_threads.proofs.answers.a_refused_try_found_the_ticket_mutex_held_or_used_up.Goals as goal

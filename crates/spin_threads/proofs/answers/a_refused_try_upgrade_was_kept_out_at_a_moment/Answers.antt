@@ -1,8 +1,8 @@
 use Rattle.std.proofs.Common.{◌≡◌, ◌<◌, ℕ, Option, Some, length, arith, not, refl, true}
 use Rattle.spin_step.specs.Plain.{Plain, upgradable, is_open_to, to_upgrade}
 use Rattle.spin_step.specs.Parties.{entries}
-use Rattle.spin_model.specs.declared.place.Hold.{Hold}
-use Rattle.spin_model.specs.declared.place.Hold.TheVariants as hold
+use Rattle.spin_step.specs.declared.place.Hold.{Hold}
+use Rattle.spin_step.specs.declared.place.Hold.TheVariants as hold
 use Rattle.spin_step_more.specs.declared.rw_calls.RwCall.TheVariants.{TryUpgrade}
 use Rattle.spin_step_more.specs.declared.rw_calls.RwCall.{RwCall}
 use Rattle.spin_step_more.specs.declared.rw_calls.RwPoint.{RwPoint}

@@ -1,7 +1,7 @@
 use Rattle.std.proofs.Common.{◌≡◌, ◌⊎◌, ◌<◌, ℕ, length, arith, not, refl, true}
 use Rattle.spin_step.specs.Plain.{Plain, upgradable, upgraders, is_open_to, to_read_upgradable}
 use Rattle.spin_step.proofs.Sums.{upgrader, against, by_kinds}
-use Rattle.spin_model.specs.Calls.{writers}
+use Rattle.spin_step.specs.Calls.{writers}
 use Rattle.spin_step_more.specs.Readers.{reader_limit}
 use Rattle.spin_world.proofs.RwOwed.{Within, rw_facts}
 use Rattle.spin_threads.proofs.Moments.{found}

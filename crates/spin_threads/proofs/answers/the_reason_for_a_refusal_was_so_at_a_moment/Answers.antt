@@ -1,7 +1,7 @@
 use Rattle.std.proofs.Common.{◌≡◌, ◌&&◌, true, false, arith, refl}
 use Rattle.spin_step.specs.Plain.{Plain, is_empty}
 use Rattle.spin_step.specs.Parties.{is_held}
-use Rattle.spin_model.specs.Calls.{is_starved}
+use Rattle.spin_step.specs.Calls.{is_starved}
 use Rattle.spin_fair.specs.Fair.{patience}
 use Rattle.spin_step_more.specs.Starvers.{most_starvers}
 use Rattle.spin_world.proofs.FairOwed.{fair_facts}

@@ -1,5 +1,5 @@
 use Rattle.std.proofs.Common.{length, map, take}
-use Rattle.spin_model.specs.Once.{once_machine}
+use Rattle.spin_step.specs.OnceCalls.{once_machine}
 use Rattle.spin_once.specs.Foretold.{foretold, counted, place_of}
 use Rattle.spin_once.specs.Once.{words_of, IsOnce}
 use Rattle.spin_once.specs.OnceValues.{bare, given_of}

@@ -1,20 +1,20 @@
 use Rattle.std.proofs.Common.{◌≡◌, ℕ, Option, Some, None, List, [], ◌∷◌, ◌++◌, slice_get, sym, ap, ◌∙◌, subst, arith}
 use Rattle.spin_core.specs.Own.{Numbered}
-use Rattle.spin_model.specs.declared.answer.Answer.{Answer}
-use Rattle.spin_model.specs.declared.answer.Answer.TheVariants.{Granted}
-use Rattle.spin_model.specs.declared.place.Hold.{Hold}
-use Rattle.spin_model.specs.declared.place.Hold.TheVariants as hold
-use Rattle.spin_model.specs.declared.place.Seat.TheVariants.{Calling, Holding}
-use Rattle.spin_model.specs.declared.schedule.Move.TheVariants.{Step}
-use Rattle.spin_model.specs.declared.schedule.Outcome.TheVariants.{Answered}
-use Rattle.spin_model.specs.declared.ticket.TicketCall.{TicketCall}
-use Rattle.spin_model.specs.declared.ticket.TicketCall.TheVariants.{Lock}
-use Rattle.spin_model.specs.declared.ticket.TicketPoint.{TicketPoint}
-use Rattle.spin_model.specs.declared.ticket.TicketPoint.TheVariants.{Await, TryTake}
-use Rattle.spin_model.specs.declared.ticket.TicketWords.{TicketWords}
-use Rattle.spin_model.specs.Schedules.{State, placed, goes_on, moves_at, after, at_first}
-use Rattle.spin_model.specs.declared.step.Next.TheVariants.{Answers}
-use Rattle.spin_model.proofs.Lists.{get-set_same}
+use Rattle.spin_step.specs.declared.answer.Answer.{Answer}
+use Rattle.spin_step.specs.declared.answer.Answer.TheVariants.{Granted}
+use Rattle.spin_step.specs.declared.place.Hold.{Hold}
+use Rattle.spin_step.specs.declared.place.Hold.TheVariants as hold
+use Rattle.spin_step.specs.declared.place.Seat.TheVariants.{Calling, Holding}
+use Rattle.spin_step.specs.declared.schedule.Move.TheVariants.{Step}
+use Rattle.spin_step.specs.declared.schedule.Outcome.TheVariants.{Answered}
+use Rattle.spin_step.specs.declared.ticket_calls.TicketCall.{TicketCall}
+use Rattle.spin_step.specs.declared.ticket_calls.TicketCall.TheVariants.{Lock}
+use Rattle.spin_step.specs.declared.ticket_calls.TicketPoint.{TicketPoint}
+use Rattle.spin_step.specs.declared.ticket_calls.TicketPoint.TheVariants.{Await, TryTake}
+use Rattle.spin_step.specs.declared.ticket_calls.TicketWords.{TicketWords}
+use Rattle.spin_step.specs.Schedules.{State, placed, goes_on, moves_at, after, at_first}
+use Rattle.spin_step.specs.declared.stepped.Next.TheVariants.{Answers}
+use Rattle.spin_step.proofs.Lists.{get-set_same}
 use Rattle.spin_ticket.specs.Queue.{Key, Made, model}
 use Rattle.spin_world_core.specs.Runs.{Seen, opening}
 use Rattle.spin_world_core.proofs.Reached.{state_is}

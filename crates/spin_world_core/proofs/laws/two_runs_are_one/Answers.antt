@@ -1,5 +1,5 @@
 use Rattle.std.proofs.Common.{arith}
-use Rattle.spin_model.proofs.Schedules.{after-append}
+use Rattle.spin_step.proofs.Schedules.{after-append}
 use Rattle.spin_world_core.proofs.Schedules.{events_of-append}
 use Rattle.spin_world_core.proofs.laws.two_runs_are_one.Goals as goal
 

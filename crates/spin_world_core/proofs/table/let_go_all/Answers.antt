@@ -1,6 +1,6 @@
 use Rattle.std.proofs.Common.{set, ap, ◌∙◌}
 use Rattle.std.proofs.lemmas.List.Edits.{map_over_more}
-use Rattle.spin_model.specs.Schedules.{seen_by_owner}
+use Rattle.spin_step.specs.Schedules.{seen_by_owner}
 use Rattle.spin_world_core.proofs.table.let_go_all.Goals as goal
 
 pub loop-i-preserved : goal.loop-i-preserved

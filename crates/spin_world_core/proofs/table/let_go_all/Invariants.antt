@@ -1,5 +1,5 @@
 use Rattle.std.proofs.Common.{◌≡◌, map, ◌++◌, take, drop}
-use Rattle.spin_model.specs.Schedules.{seen_by_owner}
+use Rattle.spin_step.specs.Schedules.{seen_by_owner}
 use Rattle.spin_world_core.proofs.table.let_go_all.Given as goal
 
 abbrev pub invariant-loop-i : goal.invariant-loop-i

@@ -1,6 +1,6 @@
 use Rattle.std.proofs.Common.{ap, ◌∙◌, arith}
 use Rattle.std.specs.List.{range_with_len}
-use Rattle.spin_model.specs.Schedules.{at_first}
+use Rattle.spin_step.specs.Schedules.{at_first}
 use Rattle.spin_world_tests.specs.Dispenser.{dispenser_machine}
 use Rattle.spin_world_tests.proofs.Drawn.{draws}
 use Rattle.spin_world_tests.proofs.dispenser.numbers_are_drawn_in_order.Goals as goal

@@ -8,7 +8,7 @@ use Rattle.spin_core.specs.Spots.{spot}
 use Rattle.spin_core.specs.declared.tie.Opening.{Opening}
 use Rattle.spin_core.proofs.Mutexes.{released}
 use Rattle.spin_core.proofs.Spots.{wrote_any}
-use Rattle.spin_model.specs.declared.answer.Answer.TheVariants.{Done}
+use Rattle.spin_step.specs.declared.answer.Answer.TheVariants.{Done}
 use Rattle.spin_step_more.specs.declared.fair_calls.FairCall.TheVariants.{Release}
 use Rattle.spin_fair.specs.Fair.{model_at, use_of_view, Told, known_of, frees_by}
 use Rattle.spin_fair.specs.Waits.{Spot}

@@ -1,7 +1,7 @@
 use Rattle.std.proofs.Common.{if◌then◌else◌, None, Some, true, refl, sym, ap, ◌∙◌, subst}
 use Rattle.spin_core.specs.Passes.{Ends}
 use Rattle.spin_core.specs.Spots.{Since}
-use Rattle.spin_model.specs.declared.answer.Answer.TheVariants.{Granted}
+use Rattle.spin_step.specs.declared.answer.Answer.TheVariants.{Granted}
 use Rattle.spin_fair.specs.Fair.{model_at, Comes, HoldsStarving, call_of, flag_set_so, finds_flag_set, sets_by, served_by}
 use Rattle.spin_fair.specs.Waits.{view_of, here}
 use Rattle.spin_fair.specs.declared.fair.rule.View.TheVariants.{HoldingStarving}

@@ -1,6 +1,6 @@
 use Rattle.std.proofs.Common.{◌≡◌, ℕ, [], ◌∷◌, if◌then◌else◌, None, Some, refl, ap, eq-eqb, ne_eqb}
-use Rattle.spin_model.specs.declared.answer.Answer.TheVariants.{Granted}
-use Rattle.spin_model.specs.declared.schedule.Outcome.TheVariants.{GoingOn}
+use Rattle.spin_step.specs.declared.answer.Answer.TheVariants.{Granted}
+use Rattle.spin_step.specs.declared.schedule.Outcome.TheVariants.{GoingOn}
 use Rattle.spin_step_more.specs.declared.fair_calls.FairCall.TheVariants.{Lock}
 use Rattle.spin_fair.specs.Fair.{answered, in_call, Comes, tried_by}
 use Rattle.spin_fair.specs.Waits.{view_of, here}

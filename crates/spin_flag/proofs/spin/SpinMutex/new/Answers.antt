@@ -1,6 +1,6 @@
 use Rattle.std.proofs.Common.{[], refl, sym}
 use denote.Param.{param}
-use Rattle.spin_model.specs.contracts.flag.FlagCall as call
+use Rattle.spin_step.specs.contracts.flag_calls.FlagCall as call
 use Rattle.spin_core.proofs.Sends.{entry_over, sends_word_less}
 use Rattle.spin_core.proofs.Values.{opens_last}
 use Rattle.spin_flag.proofs.Flags.{starts, never_reads}

@@ -2,8 +2,8 @@ use Rattle.std.proofs.Common.{◌≡◌, true, Some, ap, ◌∙◌, subst}
 use Rattle.spin_core.specs.Spots.{Releases, spot}
 use Rattle.spin_core.proofs.Mutexes.{may_know}
 use Rattle.spin_core.proofs.Spots.{wrote_any}
-use Rattle.spin_model.specs.declared.answer.Answer.TheVariants.{Done}
-use Rattle.spin_model.specs.declared.flag.FlagCall.TheVariants.{Release}
+use Rattle.spin_step.specs.declared.answer.Answer.TheVariants.{Done}
+use Rattle.spin_step.specs.declared.flag_calls.FlagCall.TheVariants.{Release}
 use Rattle.spin_flag.specs.Flag.{model_at}
 use Rattle.spin_flag.proofs.Flags.{mutex}
 use Rattle.spin_flag.proofs.spin.SpinMutex.unlock.Goals as goal

@@ -4,8 +4,8 @@ use Rattle.spin_core.specs.Own.{what}
 use Rattle.spin_core.specs.Passes.{mark_of}
 use Rattle.spin_core.specs.Spots.{Releases, spot}
 use Rattle.spin_core.proofs.Mutexes.{is_named, ends_out, released}
-use Rattle.spin_model.specs.declared.answer.Answer.TheVariants.{Done}
-use Rattle.spin_model.specs.declared.flag.FlagCall.TheVariants.{Release}
+use Rattle.spin_step.specs.declared.answer.Answer.TheVariants.{Done}
+use Rattle.spin_step.specs.declared.flag_calls.FlagCall.TheVariants.{Release}
 use Rattle.spin_flag.specs.Flag.{model_at, use_of_view}
 use Rattle.spin_flag.specs.Waits.{Spot}
 use Rattle.spin_flag.proofs.Flags.{mutex, releases_flag, holding_of}

@@ -1,6 +1,6 @@
 use Rattle.std.proofs.Common.{subst}
 use Rattle.spin_core.specs.Passes.{Ends}
-use Rattle.spin_model.specs.declared.answer.Answer.TheVariants.{Value}
+use Rattle.spin_step.specs.declared.answer.Answer.TheVariants.{Value}
 use Rattle.spin_once.specs.Accounts.{here, Since}
 use Rattle.spin_once.proofs.Accounts.{and_ends}
 use Rattle.spin_once.proofs.lazylock.LazyLock.make.Goals as goal

@@ -1,8 +1,8 @@
 use Rattle.std.proofs.Common.{None}
 use Rattle.std.proofs.lemmas.Result.{IfOk-weaker, IfErr-weaker}
-use Rattle.spin_model.specs.declared.answer.Answer.TheVariants.{Value}
-use Rattle.spin_model.specs.declared.once.OnceCall.TheVariants.{TryCallOnceOk}
-use Rattle.spin_model.specs.declared.step.Next.TheVariants.{Answers}
+use Rattle.spin_step.specs.declared.answer.Answer.TheVariants.{Value}
+use Rattle.spin_step.specs.declared.once_calls.OnceCall.TheVariants.{TryCallOnceOk}
+use Rattle.spin_step.specs.declared.stepped.Next.TheVariants.{Answers}
 use Rattle.spin_once.specs.Accounts.{here}
 use Rattle.spin_once.proofs.Accounts.{call_on, call_fails}
 use Rattle.spin_once.proofs.once.make.find_or_try.Goals as goal

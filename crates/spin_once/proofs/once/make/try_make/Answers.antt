@@ -1,4 +1,4 @@
-use Rattle.spin_model.specs.declared.answer.Answer.TheVariants.{Value}
+use Rattle.spin_step.specs.declared.answer.Answer.TheVariants.{Value}
 use Rattle.spin_once.specs.Accounts.{here}
 use Rattle.spin_once.proofs.Accounts.{and_ends, and_fails}
 use Rattle.spin_once.proofs.once.make.try_make.Goals as goal

@@ -1,6 +1,6 @@
 use Rattle.std.proofs.Common.{◌≡◌, ℕ, refl, sym, subst}
 use Rattle.spin_core.specs.Passes.{IsCall}
-use Rattle.spin_model.specs.declared.answer.Answer.TheVariants.{Granted, Refused}
+use Rattle.spin_step.specs.declared.answer.Answer.TheVariants.{Granted, Refused}
 use Rattle.spin_step_more.specs.declared.rw_calls.RwCall.TheVariants.{TryUpgrade}
 use Rattle.spin_rwlock.specs.Rw.{try_upgrade, wins, loses}
 use Rattle.spin_rwlock.specs.Sights.{sight}

@@ -1,6 +1,6 @@
 use Rattle.std.proofs.Common.{◌∙◌}
 use mathlib.Core.Logic.{inr}
-use Rattle.spin_model.specs.declared.answer.Answer.TheVariants.{Granted}
+use Rattle.spin_step.specs.declared.answer.Answer.TheVariants.{Granted}
 use Rattle.spin_step_more.specs.declared.rw_calls.RwCall.TheVariants.{Upgrade}
 use Rattle.spin_rwlock.proofs.Passes.{has, stays_in, is_answered, is_same}
 use Rattle.spin_rwlock.proofs.rwlock.upgradable.wait_to_upgrade_seen.Goals as goal

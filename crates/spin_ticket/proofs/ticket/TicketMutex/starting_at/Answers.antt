@@ -1,6 +1,6 @@
 use Rattle.std.proofs.Common.{[], refl, sym, arith}
 use denote.Param.{param}
-use Rattle.spin_model.specs.contracts.ticket.TicketCall as call
+use Rattle.spin_step.specs.contracts.ticket_calls.TicketCall as call
 use Rattle.spin_core.proofs.Sends.{entry_over, sends_word}
 use Rattle.spin_core.proofs.Values.{opens_last}
 use Rattle.spin_ticket.proofs.Queue.{starts, never_reads}

@@ -5,8 +5,8 @@ use Rattle.spin_core.specs.Spots.{spot}
 use Rattle.spin_ticket.specs.Accounts.{Releases}
 use Rattle.spin_core.proofs.Mutexes.{may_know}
 use Rattle.spin_core.proofs.Spots.{wrote_any}
-use Rattle.spin_model.specs.declared.answer.Answer.TheVariants.{Done}
-use Rattle.spin_model.specs.declared.ticket.TicketCall.TheVariants.{Release}
+use Rattle.spin_step.specs.declared.answer.Answer.TheVariants.{Done}
+use Rattle.spin_step.specs.declared.ticket_calls.TicketCall.TheVariants.{Release}
 use Rattle.spin_ticket.specs.Queue.{model, use_of_party}
 use Rattle.spin_ticket.proofs.Accounts.{released_behind}
 use Rattle.spin_ticket.proofs.Queue.{mutex}

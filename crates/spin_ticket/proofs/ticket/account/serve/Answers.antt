@@ -1,7 +1,7 @@
 use Rattle.spin_core.specs.Spots.{spot}
 use Rattle.spin_core.proofs.Mutexes.{ends_out}
-use Rattle.spin_model.specs.declared.answer.Answer.TheVariants.{Done}
-use Rattle.spin_model.specs.declared.ticket.TicketCall.TheVariants.{Release}
+use Rattle.spin_step.specs.declared.answer.Answer.TheVariants.{Done}
+use Rattle.spin_step.specs.declared.ticket_calls.TicketCall.TheVariants.{Release}
 use Rattle.spin_ticket.specs.declared.ticket.waiting.Account.{Account}
 use Rattle.spin_ticket.proofs.Queue.{mutex, serves_next}
 use Rattle.spin_ticket.proofs.Accounts.{releases}

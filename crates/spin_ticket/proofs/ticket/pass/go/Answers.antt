@@ -1,5 +1,5 @@
 use Rattle.std.proofs.Common.{false}
-use Rattle.spin_model.specs.declared.ticket.TicketCall.TheVariants.{Lock}
+use Rattle.spin_step.specs.declared.ticket_calls.TicketCall.TheVariants.{Lock}
 use Rattle.spin_core.specs.Spots.{spot}
 use Rattle.spin_ticket.specs.Accounts.{here}
 use Rattle.spin_ticket.specs.Queue.{model, goes_on, going}

@@ -1,5 +1,5 @@
 use Rattle.std.proofs.Common.{ap, sym, ◌∙◌}
-use Rattle.spin_model.specs.Schedules.{begun}
+use Rattle.spin_step.specs.Schedules.{begun}
 use Rattle.spin_world_core.proofs.table.Table.begin_beside.Goals as goal
 
 pub returns-in-None : goal.returns-in-None

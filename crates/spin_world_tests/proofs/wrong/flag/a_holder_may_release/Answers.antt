@@ -1,7 +1,7 @@
 use Rattle.std.specs.Prelude.{Some}
 use Rattle.std.proofs.lemmas.Bool.{false≢true}
-use Rattle.spin_model.specs.declared.place.Hold.TheVariants.{Write}
-use Rattle.spin_model.specs.declared.flag.FlagCall.TheVariants.{Release}
+use Rattle.spin_step.specs.declared.place.Hold.TheVariants.{Write}
+use Rattle.spin_step.specs.declared.flag_calls.FlagCall.TheVariants.{Release}
 use Rattle.spin_world_tests.proofs.wrong.flag.a_holder_may_release.Goals as goal
 
 pub returns : goal.returns

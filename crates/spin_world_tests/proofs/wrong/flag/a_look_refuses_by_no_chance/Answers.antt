@@ -1,7 +1,7 @@
 use Rattle.std.proofs.Common.{arith, false, None, refl}
-use Rattle.spin_model.specs.declared.step.Next.TheVariants.{Continue}
-use Rattle.spin_model.specs.declared.flag.FlagCall.TheVariants.{Lock}
-use Rattle.spin_model.specs.declared.flag.FlagPoint.TheVariants.{Second}
+use Rattle.spin_step.specs.declared.stepped.Next.TheVariants.{Continue}
+use Rattle.spin_step.specs.declared.flag_calls.FlagCall.TheVariants.{Lock}
+use Rattle.spin_step.specs.declared.flag_calls.FlagPoint.TheVariants.{Second}
 use Rattle.spin_world_tests.proofs.wrong.flag.a_look_refuses_by_no_chance.Goals as goal
 
 pub returns : goal.returns

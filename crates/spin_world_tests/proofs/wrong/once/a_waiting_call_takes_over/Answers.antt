@@ -1,6 +1,6 @@
 use Rattle.std.proofs.Common.{refl, None, ⊎_elim}
-use Rattle.spin_model.specs.declared.once.OnceCall.TheVariants.{CallOnce}
-use Rattle.spin_model.specs.declared.once.OncePoint.TheVariants.{Await}
+use Rattle.spin_step.specs.declared.once_calls.OnceCall.TheVariants.{CallOnce}
+use Rattle.spin_step.specs.declared.once_calls.OncePoint.TheVariants.{Await}
 use Rattle.spin_world_tests.proofs.wrong.once.a_waiting_call_takes_over.Goals as goal
 
 pub returns : goal.returns

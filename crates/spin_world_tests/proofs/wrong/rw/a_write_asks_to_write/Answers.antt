@@ -2,8 +2,8 @@ use Rattle.std.proofs.Common.{None, Some, ap, refl}
 use Rattle.spin_step_more.specs.declared.rw_calls.RwCall.TheVariants.{Write}
 use Rattle.spin_world_tests.proofs.wrong.rw.a_write_asks_to_write.Goals as goal
 use Rattle.std.proofs.lemmas.Bool.{false≢true}
-use Rattle.spin_model.specs.Calls.{Asked, granted}
-use Rattle.spin_model.specs.declared.place.Hold.TheVariants.{Starver}
+use Rattle.spin_step.specs.Calls.{Asked, granted}
+use Rattle.spin_step.specs.declared.place.Hold.TheVariants.{Starver}
 
 pub returns-clause-other : goal.returns-clause-other
 returns-clause-other g c = λ value is. false≢true (ap (λ (what : Asked). what.is_weak) (is.write None))

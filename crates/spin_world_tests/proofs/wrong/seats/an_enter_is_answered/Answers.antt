@@ -3,7 +3,7 @@ use Rattle.spin_step.specs.Plain.{to_read}
 use Rattle.spin_seats.specs.Kind.{seats}
 use Rattle.spin_world_core.proofs.Otherwise.{too_many}
 use Rattle.spin_world_tests.proofs.wrong.seats.an_enter_is_answered.Goals as goal
-use Rattle.spin_model.specs.Asks.{waits}
+use Rattle.spin_step.specs.Asks.{waits}
 
 pub returns : goal.returns
 returns g all = too_many seats 0 (waits to_read) 2 (_ ∷ []) _ _ all.1.1.0.undisturbed refl (search) refl

@@ -1,7 +1,7 @@
 use Rattle.std.proofs.Common.{refl}
 use Rattle.std.specs.Prelude.{None}
-use Rattle.spin_model.specs.declared.ticket.TicketCall.TheVariants.{IsLocked}
-use Rattle.spin_model.specs.declared.ticket.TicketPoint.TheVariants.{LookServing}
+use Rattle.spin_step.specs.declared.ticket_calls.TicketCall.TheVariants.{IsLocked}
+use Rattle.spin_step.specs.declared.ticket_calls.TicketPoint.TheVariants.{LookServing}
 use Rattle.spin_world_tests.specs.WrongTicket.{looks_at_both}
 use Rattle.spin_world_tests.proofs.TicketOperating.{both_matter}
 use Rattle.spin_world_tests.proofs.wrong.ticket.a_look_loads_one_number_at_a_time.Goals as goal

@@ -1,6 +1,6 @@
 use Rattle.std.proofs.Common.{None, refl, arith, inl, inr}
-use Rattle.spin_model.specs.declared.ticket.TicketCall.TheVariants.{TryLock}
-use Rattle.spin_model.specs.declared.ticket.TicketPoint.TheVariants.{TryLoadServing, TryTake}
+use Rattle.spin_step.specs.declared.ticket_calls.TicketCall.TheVariants.{TryLock}
+use Rattle.spin_step.specs.declared.ticket_calls.TicketPoint.TheVariants.{TryLoadServing, TryTake}
 use Rattle.spin_world_tests.proofs.wrong.ticket.a_try_loads_the_next_number_first.Goals as goal
 
 pub returns-clause-hurries : goal.returns-clause-hurries

@@ -1,6 +1,6 @@
 use Rattle.std.proofs.Common.{None, Some, true, refl, sym, subst}
 use Rattle.std.proofs.lemmas.Result.{IfOk-weaker, IfErr-weaker}
-use Rattle.spin_model.specs.declared.answer.Answer.TheVariants.{Granted}
+use Rattle.spin_step.specs.declared.answer.Answer.TheVariants.{Granted}
 use Rattle.spin_fair.specs.Fair.{call_of, MayAwait, awaits_by}
 use Rattle.spin_fair.specs.Waits.{view_of, here, held_at}
 use Rattle.spin_fair.proofs.Steps.{waits_on}

@@ -1,7 +1,7 @@
 use Rattle.std.proofs.Common.{arith, None, Some, true, refl, ap, ◌∙◌, subst}
 use Rattle.std.proofs.lemmas.Result.{IfOk-weaker, IfErr-weaker}
 use Rattle.spin_core.specs.Spots.{Since}
-use Rattle.spin_model.specs.declared.answer.Answer.TheVariants.{Granted}
+use Rattle.spin_step.specs.declared.answer.Answer.TheVariants.{Granted}
 use Rattle.spin_step_more.specs.declared.fair_calls.FairCall.TheVariants.{Lock}
 use Rattle.spin_fair.specs.Fair.{model_at, in_call, Comes, registered_so, no_room_so, looked_by}
 use Rattle.spin_fair.specs.Waits.{view_of, here, held_at}

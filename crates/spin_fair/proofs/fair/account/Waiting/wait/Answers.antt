@@ -1,5 +1,5 @@
 use Rattle.std.proofs.Common.{None, Some, false}
-use Rattle.spin_model.specs.declared.answer.Answer.TheVariants.{Granted}
+use Rattle.spin_step.specs.declared.answer.Answer.TheVariants.{Granted}
 use Rattle.spin_step_more.specs.declared.fair_calls.FairCall.TheVariants.{Lock}
 use Rattle.spin_fair.specs.Waits.{here, held_at}
 use Rattle.spin_fair.proofs.Takes.{and_on}

@@ -1,5 +1,5 @@
 use Rattle.std.proofs.Common.{Some, refl, subst, sym}
-use Rattle.spin_model.specs.declared.answer.Answer.TheVariants.{Is}
+use Rattle.spin_step.specs.declared.answer.Answer.TheVariants.{Is}
 use Rattle.spin_step_more.specs.Starvers.{is_set}
 use Rattle.spin_step_more.specs.declared.fair_calls.FairCall.TheVariants.{IsLocked}
 use Rattle.spin_fair.specs.Fair.{Called, looks_by}

@@ -3,7 +3,7 @@ use Rattle.spin_core.specs.Own.{what}
 use Rattle.spin_core.specs.Passes.{IsCall}
 use Rattle.spin_core.specs.Spots.{Since}
 use Rattle.spin_core.proofs.Mutexes.{as_new}
-use Rattle.spin_model.specs.declared.answer.Answer.TheVariants.{Granted}
+use Rattle.spin_step.specs.declared.answer.Answer.TheVariants.{Granted}
 use Rattle.spin_step_more.specs.declared.fair_calls.FairCall.TheVariants.{Lock}
 use Rattle.spin_fair.specs.Fair.{model_at, Comes, in_call}
 use Rattle.spin_fair.specs.Waits.{here, held_at}

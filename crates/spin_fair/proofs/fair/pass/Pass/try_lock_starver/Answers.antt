@@ -1,7 +1,7 @@
 use Rattle.std.proofs.Common.{◌≡◌, ℕ, refl, ap, ◌∙◌, sym, subst}
 use Rattle.spin_core.specs.Own.{what}
 use Rattle.spin_core.specs.Passes.{IsCall}
-use Rattle.spin_model.specs.declared.answer.Answer.TheVariants.{Granted}
+use Rattle.spin_step.specs.declared.answer.Answer.TheVariants.{Granted}
 use Rattle.spin_step_more.specs.declared.fair_calls.FairCall.TheVariants.{TryLockStarver}
 use Rattle.spin_fair.specs.Fair.{answer_of, Called}
 use Rattle.spin_fair.specs.Waits.{here}

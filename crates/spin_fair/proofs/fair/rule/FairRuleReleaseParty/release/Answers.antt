@@ -1,7 +1,7 @@
 use mathlib.Core.Logic.{inl}
 use Rattle.spin_core.specs.Spots.{spot}
 use Rattle.spin_core.proofs.Mutexes.{ends_out}
-use Rattle.spin_model.specs.declared.answer.Answer.TheVariants.{Done}
+use Rattle.spin_step.specs.declared.answer.Answer.TheVariants.{Done}
 use Rattle.spin_step_more.specs.declared.fair_calls.FairCall.TheVariants.{Release}
 use Rattle.spin_fair.specs.Fair.{Told}
 use Rattle.spin_fair.proofs.Steps.{mutex, frees, rests}

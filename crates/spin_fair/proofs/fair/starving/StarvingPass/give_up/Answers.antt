@@ -1,5 +1,5 @@
 use Rattle.std.proofs.Common.{Some, refl}
-use Rattle.spin_model.specs.declared.answer.Answer.TheVariants.{Done}
+use Rattle.spin_step.specs.declared.answer.Answer.TheVariants.{Done}
 use Rattle.spin_fair.specs.Fair.{gives_up_by}
 use Rattle.spin_fair.proofs.Steps.{gives_up}
 use Rattle.spin_fair.proofs.Takes.{made}

@@ -1,7 +1,7 @@
 use Rattle.std.proofs.Common.{None, Some, false, true, refl, sym, subst}
 use Rattle.spin_core.specs.Passes.{IsCall}
 use Rattle.spin_core.specs.Spots.{Since}
-use Rattle.spin_model.specs.declared.answer.Answer.TheVariants.{Granted, Refused}
+use Rattle.spin_step.specs.declared.answer.Answer.TheVariants.{Granted, Refused}
 use Rattle.spin_step_more.specs.declared.fair_calls.FairCall.TheVariants.{StarverTryLock}
 use Rattle.spin_fair.specs.Fair.{model_at, MaySet, Comes, call_of, flag_set_so}
 use Rattle.spin_fair.specs.Waits.{here, held_at}

@@ -1,6 +1,6 @@
 use Rattle.std.proofs.Common.{Some, refl}
 use Rattle.spin_core.specs.Passes.{IsCall}
-use Rattle.spin_model.specs.declared.answer.Answer.TheVariants.{Granted, Refused}
+use Rattle.spin_step.specs.declared.answer.Answer.TheVariants.{Granted, Refused}
 use Rattle.spin_step_more.specs.declared.fair_calls.FairCall.TheVariants.{StarverTryLockFair}
 use Rattle.spin_fair.specs.Waits.{here}
 use Rattle.spin_fair.proofs.Steps.{attempts_alone}

@@ -2,8 +2,8 @@ use Rattle.std.proofs.Common.{None, Some, true, false, ap, ◌∙◌}
 use Rattle.spin_core.specs.Own.{what}
 use Rattle.spin_core.specs.Passes.{IsStep}
 use Rattle.spin_core.proofs.Mutexes.{may_know}
-use Rattle.spin_model.specs.declared.answer.Answer.TheVariants.{Granted}
-use Rattle.spin_model.specs.declared.schedule.Outcome.TheVariants.{Answered}
+use Rattle.spin_step.specs.declared.answer.Answer.TheVariants.{Granted}
+use Rattle.spin_step.specs.declared.schedule.Outcome.TheVariants.{Answered}
 use Rattle.spin_flag.specs.Flag.{has_begun, call_of, missed, missed_end, if_clear}
 use Rattle.spin_flag.specs.declared.spin.rule.View.TheVariants.{Holding}
 use Rattle.spin_flag.proofs.Flags.{mutex, tries, unused_trying, tried, knows_again, granted}

@@ -3,8 +3,8 @@ use mathlib.Core.Logic.{inr}
 use Rattle.spin_core.specs.Spots.{spot}
 use Rattle.spin_core.proofs.Mutexes.{may_know}
 use Rattle.spin_core.proofs.Spots.{stays_in}
-use Rattle.spin_model.specs.declared.flag.FlagCall.TheVariants.{Lock}
-use Rattle.spin_model.specs.declared.schedule.Outcome.TheVariants.{GoingOn}
+use Rattle.spin_step.specs.declared.flag_calls.FlagCall.TheVariants.{Lock}
+use Rattle.spin_step.specs.declared.schedule.Outcome.TheVariants.{GoingOn}
 use Rattle.spin_flag.specs.Flag.{model_at, has_begun, if_clear}
 use Rattle.spin_flag.specs.Waits.{here}
 use Rattle.spin_flag.specs.declared.spin.rule.View.TheVariants.{Trying, Looking}

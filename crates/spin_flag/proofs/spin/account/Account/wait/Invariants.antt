@@ -1,7 +1,7 @@
 use Rattle.std.proofs.Common.{◌≡◌, Some}
 use Rattle.spin_core.specs.Own.{what}
 use Rattle.spin_core.specs.Spots.{IsIn}
-use Rattle.spin_model.specs.declared.flag.FlagCall.TheVariants.{Lock}
+use Rattle.spin_step.specs.declared.flag_calls.FlagCall.TheVariants.{Lock}
 use Rattle.spin_flag.specs.Flag.{model_at}
 use Rattle.spin_flag.specs.Waits.{Spot, here}
 use Rattle.spin_flag.specs.declared.spin.rule.View.TheVariants.{Looking}

@@ -2,9 +2,9 @@ use Rattle.std.proofs.Common.{None, false, subst, sym}
 use Rattle.spin_core.specs.Spots.{spot}
 use Rattle.spin_core.proofs.Mutexes.{may_know}
 use Rattle.spin_core.proofs.Spots.{in_one}
-use Rattle.spin_model.specs.declared.answer.Answer.TheVariants.{Is}
-use Rattle.spin_model.specs.declared.flag.FlagCall.TheVariants.{IsLocked}
-use Rattle.spin_model.specs.declared.schedule.Outcome.TheVariants.{Answered}
+use Rattle.spin_step.specs.declared.answer.Answer.TheVariants.{Is}
+use Rattle.spin_step.specs.declared.flag_calls.FlagCall.TheVariants.{IsLocked}
+use Rattle.spin_step.specs.declared.schedule.Outcome.TheVariants.{Answered}
 use Rattle.spin_flag.specs.Flag.{model_at, set, Called}
 use Rattle.spin_flag.specs.Waits.{here}
 use Rattle.spin_flag.specs.declared.spin.rule.View.TheVariants.{Idle}

@@ -4,9 +4,9 @@ use Rattle.spin_core.specs.Passes.{IsStep}
 use Rattle.spin_core.specs.Spots.{Since}
 use Rattle.spin_core.proofs.Mutexes.{as_new}
 use Rattle.spin_core.proofs.Spots.{in_one, comes_in}
-use Rattle.spin_model.specs.declared.answer.Answer.TheVariants.{Granted}
-use Rattle.spin_model.specs.declared.flag.FlagCall.TheVariants.{Lock}
-use Rattle.spin_model.specs.declared.schedule.Outcome.TheVariants.{Answered, GoingOn}
+use Rattle.spin_step.specs.declared.answer.Answer.TheVariants.{Granted}
+use Rattle.spin_step.specs.declared.flag_calls.FlagCall.TheVariants.{Lock}
+use Rattle.spin_step.specs.declared.schedule.Outcome.TheVariants.{Answered, GoingOn}
 use Rattle.spin_flag.specs.Flag.{model_at, has_begun}
 use Rattle.spin_flag.specs.Waits.{here, held_at}
 use Rattle.spin_flag.specs.declared.spin.rule.View.TheVariants.{Idle}

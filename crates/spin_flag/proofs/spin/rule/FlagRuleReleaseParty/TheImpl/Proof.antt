@@ -3,7 +3,7 @@ use Rattle.std.proofs.Common.{[], ◌∷◌, refl}
 use mir.Syntax.{a_type, method}
 use contract.Running.{within}
 use denote.Builtin.{unit}
-use Rattle.spin_model.specs.contracts.flag.FlagCall as call
+use Rattle.spin_step.specs.contracts.flag_calls.FlagCall as call
 use denote.Param.{layouts}
 use denote.Triple.Spec.{triple_of}
 use denote.Triple.Table.{widened}

@@ -1,8 +1,8 @@
 use Rattle.std.proofs.Common.{None, sym, subst}
 use Rattle.spin_core.specs.Passes.{IsCall}
-use Rattle.spin_model.specs.declared.answer.Answer.TheVariants.{Value}
-use Rattle.spin_model.specs.declared.once.OnceCall.TheVariants.{CallOnce}
-use Rattle.spin_model.specs.declared.step.Next.TheVariants.{Answers}
+use Rattle.spin_step.specs.declared.answer.Answer.TheVariants.{Value}
+use Rattle.spin_step.specs.declared.once_calls.OnceCall.TheVariants.{CallOnce}
+use Rattle.spin_step.specs.declared.stepped.Next.TheVariants.{Answers}
 use Rattle.spin_once.specs.Accounts.{here, Since}
 use Rattle.spin_once.proofs.Accounts.{call_on, shown}
 use Rattle.spin_once.proofs.once.pass.Pass.call_once.Goals as goal

@@ -1,4 +1,4 @@
-use Rattle.spin_model.specs.declared.once.OnceCall.TheVariants.{Get}
+use Rattle.spin_step.specs.declared.once_calls.OnceCall.TheVariants.{Get}
 use Rattle.spin_once.specs.Accounts.{here}
 use Rattle.spin_once.proofs.Accounts.{none_out}
 use Rattle.spin_once.proofs.once.pass.Pass.get.Goals as goal

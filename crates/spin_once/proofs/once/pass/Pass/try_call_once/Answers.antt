@@ -1,6 +1,6 @@
 use Rattle.spin_core.specs.Passes.{IsCall}
-use Rattle.spin_model.specs.declared.answer.Answer.TheVariants.{Value}
-use Rattle.spin_model.specs.declared.once.OnceCall.TheVariants.{TryCallOnceOk}
+use Rattle.spin_step.specs.declared.answer.Answer.TheVariants.{Value}
+use Rattle.spin_step.specs.declared.once_calls.OnceCall.TheVariants.{TryCallOnceOk}
 use Rattle.spin_once.specs.Accounts.{here}
 use Rattle.spin_once.proofs.Accounts.{shown}
 use Rattle.spin_once.proofs.once.pass.Pass.try_call_once.Goals as goal

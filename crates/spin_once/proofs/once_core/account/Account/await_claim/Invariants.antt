@@ -1,7 +1,7 @@
 use Rattle.std.proofs.Common.{◌≡◌, Some}
 use Rattle.spin_core.specs.Own.{what}
 use Rattle.spin_core.specs.Passes.{Waits}
-use Rattle.spin_model.specs.declared.once.OncePoint.TheVariants.{Await}
+use Rattle.spin_step.specs.declared.once_calls.OncePoint.TheVariants.{Await}
 use Rattle.spin_once.specs.Accounts.{Place, here, Since}
 use Rattle.spin_once.specs.Once.{in_closure}
 use Rattle.spin_once.proofs.once_core.account.Account.await_claim.Given as goal

@@ -1,9 +1,9 @@
 use Rattle.std.proofs.Common.{None, ap}
 use Rattle.spin_core.specs.Own.{what}
-use Rattle.spin_model.specs.declared.answer.Answer.TheVariants.{Value, NoValue}
-use Rattle.spin_model.specs.declared.once.OnceCall.TheVariants.{Get}
-use Rattle.spin_model.specs.declared.once.OncePoint.TheVariants.{Look}
-use Rattle.spin_model.specs.declared.step.Next.TheVariants.{Answers}
+use Rattle.spin_step.specs.declared.answer.Answer.TheVariants.{Value, NoValue}
+use Rattle.spin_step.specs.declared.once_calls.OnceCall.TheVariants.{Get}
+use Rattle.spin_step.specs.declared.once_calls.OncePoint.TheVariants.{Look}
+use Rattle.spin_step.specs.declared.stepped.Next.TheVariants.{Answers}
 use Rattle.spin_once.specs.Accounts.{here}
 use Rattle.spin_once.specs.Once.{next_at}
 use Rattle.spin_once.proofs.Moves.{get_none}

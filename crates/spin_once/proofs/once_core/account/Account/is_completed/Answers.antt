@@ -1,8 +1,8 @@
 use Rattle.std.proofs.Common.{None, ◌==◌, refl, ap, ◌∙◌}
 use Rattle.spin_core.specs.Own.{what}
-use Rattle.spin_model.specs.declared.answer.Answer.TheVariants.{Is}
-use Rattle.spin_model.specs.declared.once.OnceCall.TheVariants.{IsCompleted}
-use Rattle.spin_model.specs.declared.step.Next.TheVariants.{Answers}
+use Rattle.spin_step.specs.declared.answer.Answer.TheVariants.{Is}
+use Rattle.spin_step.specs.declared.once_calls.OnceCall.TheVariants.{IsCompleted}
+use Rattle.spin_step.specs.declared.stepped.Next.TheVariants.{Answers}
 use Rattle.spin_once.specs.Accounts.{here}
 use Rattle.spin_once.specs.Once.{is_out}
 use Rattle.spin_once.proofs.Accounts.{looks_first, out_after, first_by}

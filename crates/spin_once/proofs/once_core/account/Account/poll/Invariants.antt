@@ -1,4 +1,4 @@
-use Rattle.spin_model.specs.declared.once.OnceCall.TheVariants.{Poll}
+use Rattle.spin_step.specs.declared.once_calls.OnceCall.TheVariants.{Poll}
 use Rattle.spin_once.specs.Accounts.{here}
 use Rattle.spin_once.proofs.Accounts.{IsLooking}
 use Rattle.spin_once.proofs.once_core.account.Account.poll.Given as goal

@@ -1,9 +1,9 @@
 use Rattle.std.proofs.Common.{None, refl, ap}
 use mathlib.Core.Logic.{inl, inr}
-use Rattle.spin_model.specs.declared.answer.Answer.TheVariants.{Value}
-use Rattle.spin_model.specs.declared.once.OnceCall.TheVariants.{Wait}
-use Rattle.spin_model.specs.declared.once.OncePoint.TheVariants.{Look}
-use Rattle.spin_model.specs.declared.step.Next.TheVariants.{Continue, Answers}
+use Rattle.spin_step.specs.declared.answer.Answer.TheVariants.{Value}
+use Rattle.spin_step.specs.declared.once_calls.OnceCall.TheVariants.{Wait}
+use Rattle.spin_step.specs.declared.once_calls.OncePoint.TheVariants.{Look}
+use Rattle.spin_step.specs.declared.stepped.Next.TheVariants.{Continue, Answers}
 use Rattle.spin_once.specs.Accounts.{here}
 use Rattle.spin_once.specs.Once.{next_at}
 use Rattle.spin_once.proofs.Moves.{wait_on}

@@ -2,7 +2,7 @@ use Rattle.std.proofs.Common.{ap, ◌∙◌}
 use mathlib.Core.Logic.{inr}
 use Rattle.spin_core.specs.Own.{what}
 use Rattle.spin_core.specs.Spots.{spot}
-use Rattle.spin_model.specs.declared.once.OnceCall.TheVariants.{CallOnce}
+use Rattle.spin_step.specs.declared.once_calls.OnceCall.TheVariants.{CallOnce}
 use Rattle.spin_once.specs.Once.{closure_call}
 use Rattle.spin_once.proofs.Accounts.{may_know, completes, reads_on}
 use Rattle.spin_once.proofs.Kept.{ends, running_call, writes_at}

@@ -1,6 +1,6 @@
 use Rattle.std.proofs.Common.{[], ◌∷◌, Some, if◌then◌else◌, ap, ◌∙◌, sym, subst, eq-eqb, ne_eqb}
 use Rattle.spin_core.specs.Cell.{use_of}
-use Rattle.spin_model.specs.declared.answer.Answer.TheVariants.{Granted}
+use Rattle.spin_step.specs.declared.answer.Answer.TheVariants.{Granted}
 use Rattle.spin_rwlock.specs.Rw.{steps_by, wins, use_of_view}
 use Rattle.spin_rwlock.specs.Sights.{sight, view_of}
 use Rattle.spin_rwlock.specs.Steps.{Turned}

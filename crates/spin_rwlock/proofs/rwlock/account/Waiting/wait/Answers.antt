@@ -1,5 +1,5 @@
 use Rattle.std.proofs.Common.{Some, None, [], ◌∷◌, ap, subst}
-use Rattle.spin_model.specs.declared.answer.Answer.TheVariants.{Granted}
+use Rattle.spin_step.specs.declared.answer.Answer.TheVariants.{Granted}
 use Rattle.spin_step_more.specs.declared.rw_calls.RwCall.TheVariants.{Write}
 use Rattle.spin_rwlock.specs.Rw.{in_call, AreSteps}
 use Rattle.spin_rwlock.specs.Sights.{sight}

@@ -1,7 +1,7 @@
 use Rattle.std.proofs.Common.{ap, sym, subst}
 use mathlib.Core.Logic.{inr}
 use Rattle.spin_core.specs.Passes.{IsCall}
-use Rattle.spin_model.specs.declared.answer.Answer.TheVariants.{Count}
+use Rattle.spin_step.specs.declared.answer.Answer.TheVariants.{Count}
 use Rattle.spin_step_more.specs.Readers.{readers_in}
 use Rattle.spin_step_more.specs.declared.rw_calls.RwCall.TheVariants.{ReaderCount}
 use Rattle.spin_rwlock.specs.Rw.{is_out}

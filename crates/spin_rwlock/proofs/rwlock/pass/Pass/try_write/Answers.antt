@@ -1,6 +1,6 @@
 use Rattle.std.proofs.Common.{◌≡◌, ℕ, refl, ap}
 use mathlib.Core.Logic.{inr}
-use Rattle.spin_model.specs.declared.answer.Answer.TheVariants.{Granted, Refused}
+use Rattle.spin_step.specs.declared.answer.Answer.TheVariants.{Granted, Refused}
 use Rattle.spin_step_more.specs.declared.rw_calls.RwCall.TheVariants.{TryWrite}
 use Rattle.spin_rwlock.specs.Rw.{is_out}
 use Rattle.spin_rwlock.specs.declared.rwlock.rule.View.TheVariants.{Writing, Idle}

@@ -3,7 +3,7 @@ use Rattle.std.specs.Prelude.{IfSome}
 use Rattle.spin_core.specs.Cell.{off, use_of}
 use Rattle.spin_core.specs.Passes.{IsCall}
 use Rattle.spin_core.specs.Values.{IsLast}
-use Rattle.spin_model.specs.declared.answer.Answer.TheVariants.{Done}
+use Rattle.spin_step.specs.declared.answer.Answer.TheVariants.{Done}
 use Rattle.spin_step_more.specs.declared.rw_calls.RwCall.TheVariants.{Release}
 use Rattle.spin_rwlock.specs.Rw.{is_out, use_of_view}
 use Rattle.spin_rwlock.specs.Sights.{sight}

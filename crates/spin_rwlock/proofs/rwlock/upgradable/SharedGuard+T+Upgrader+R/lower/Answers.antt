@@ -1,5 +1,5 @@
 use Rattle.std.proofs.Common.{sym, subst}
-use Rattle.spin_model.specs.declared.answer.Answer.TheVariants.{Done}
+use Rattle.spin_step.specs.declared.answer.Answer.TheVariants.{Done}
 use Rattle.spin_step_more.specs.declared.rw_calls.RwCall.TheVariants.{Downgrade}
 use Rattle.spin_rwlock.specs.Rw.{ends_by}
 use Rattle.spin_rwlock.specs.Steps.{MayKnow}

@@ -1,5 +1,5 @@
 use Rattle.std.proofs.Common.{◌∙◌}
-use Rattle.spin_model.specs.declared.answer.Answer.TheVariants.{Granted}
+use Rattle.spin_step.specs.declared.answer.Answer.TheVariants.{Granted}
 use Rattle.spin_step_more.specs.declared.rw_calls.RwCall.TheVariants.{Upgrade}
 use Rattle.spin_rwlock.specs.Waits.{reads_at}
 use Rattle.spin_rwlock.proofs.Passes.{has, comes_in, stays_in, is_answered, is_same}

@@ -1,6 +1,6 @@
 use Rattle.std.proofs.Common.{true, subst, sym, ◌∙◌}
 use Rattle.spin_core.specs.Own.{what}
-use Rattle.spin_model.specs.declared.schedule.Outcome.TheVariants.{GoingOn}
+use Rattle.spin_step.specs.declared.schedule.Outcome.TheVariants.{GoingOn}
 use Rattle.spin_seats.specs.Accounts.{Stepped}
 use Rattle.spin_seats.specs.Rule.{at_word}
 use Rattle.spin_seats.specs.declared.calls.SeatsCall.TheVariants.{Enter}

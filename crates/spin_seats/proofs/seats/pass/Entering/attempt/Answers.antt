@@ -1,5 +1,5 @@
 use Rattle.std.proofs.Common.{true}
-use Rattle.spin_model.specs.declared.answer.Answer.TheVariants.{Granted}
+use Rattle.spin_step.specs.declared.answer.Answer.TheVariants.{Granted}
 use Rattle.spin_seats.specs.declared.calls.SeatsCall.TheVariants.{Enter}
 use Rattle.spin_seats.specs.declared.seats.rule.View.TheVariants.{Seated}
 use Rattle.spin_seats.specs.Rule.{at_word}

@@ -1,5 +1,5 @@
 use Rattle.std.proofs.Common.{false, subst}
-use Rattle.spin_model.specs.declared.answer.Answer.TheVariants.{Granted}
+use Rattle.spin_step.specs.declared.answer.Answer.TheVariants.{Granted}
 use Rattle.spin_seats.specs.Accounts.{GoesFor}
 use Rattle.spin_seats.specs.declared.calls.SeatsCall.TheVariants.{TryEnter}
 use Rattle.spin_seats.specs.declared.seats.rule.View.TheVariants.{Seated}

@@ -1,6 +1,6 @@
 use Rattle.std.proofs.Common.{None, false}
-use Rattle.spin_model.specs.declared.answer.Answer.TheVariants.{Done}
-use Rattle.spin_model.specs.declared.schedule.Outcome.TheVariants.{Answered}
+use Rattle.spin_step.specs.declared.answer.Answer.TheVariants.{Done}
+use Rattle.spin_step.specs.declared.schedule.Outcome.TheVariants.{Answered}
 use Rattle.spin_seats.specs.declared.calls.SeatsCall.TheVariants.{Leave}
 use Rattle.spin_seats.specs.declared.seats.rule.View.TheVariants.{Idle}
 use Rattle.spin_seats.proofs.Sitting.{gets_up}

@@ -1,5 +1,5 @@
 use Rattle.spin_core.specs.Own.{what}
-use Rattle.spin_model.specs.declared.schedule.Outcome.TheVariants.{GoingOn}
+use Rattle.spin_step.specs.declared.schedule.Outcome.TheVariants.{GoingOn}
 use Rattle.std.proofs.Common.{true}
 use Rattle.spin_seats.specs.Rule.{at_word, has_begun}
 use Rattle.spin_seats.specs.declared.calls.SeatsCall.TheVariants.{Enter}

@@ -1,6 +1,6 @@
 use Rattle.std.proofs.Common.{sym, subst}
-use Rattle.spin_model.specs.declared.answer.Answer.TheVariants.{Granted}
-use Rattle.spin_model.specs.declared.ticket.TicketCall.TheVariants.{Lock}
+use Rattle.spin_step.specs.declared.answer.Answer.TheVariants.{Granted}
+use Rattle.spin_step.specs.declared.ticket_calls.TicketCall.TheVariants.{Lock}
 use Rattle.spin_core.specs.Spots.{IsIn, HasCalled}
 use Rattle.spin_ticket.specs.Accounts.{here}
 use Rattle.spin_ticket.specs.declared.ticket.waiting.Place.{Place}

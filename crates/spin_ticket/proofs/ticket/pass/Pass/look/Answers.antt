@@ -1,6 +1,6 @@
 use Rattle.std.proofs.Common.{not, ◌==◌}
-use Rattle.spin_model.specs.declared.answer.Answer.TheVariants.{Is}
-use Rattle.spin_model.specs.declared.ticket.TicketCall.TheVariants.{IsLocked}
+use Rattle.spin_step.specs.declared.answer.Answer.TheVariants.{Is}
+use Rattle.spin_step.specs.declared.ticket_calls.TicketCall.TheVariants.{IsLocked}
 use Rattle.spin_ticket.specs.Accounts.{here}
 use Rattle.spin_core.proofs.Spots.{comes_in, is_answered}
 use Rattle.spin_ticket.specs.Queue.{model}

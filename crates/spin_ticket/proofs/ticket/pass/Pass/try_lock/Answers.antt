@@ -1,5 +1,5 @@
 use Rattle.spin_ticket.specs.Accounts.{here}
-use Rattle.spin_model.specs.declared.ticket.TicketCall.TheVariants.{TryLock}
+use Rattle.spin_step.specs.declared.ticket_calls.TicketCall.TheVariants.{TryLock}
 use Rattle.spin_ticket.proofs.ticket.pass.Pass.try_lock.Goals as goal
 
 pub returns-in-Ok : goal.returns-in-Ok

@@ -1,5 +1,5 @@
 use Rattle.std.proofs.Common.{false}
-use Rattle.spin_model.specs.declared.ticket.TicketCall.TheVariants.{TryLock}
+use Rattle.spin_step.specs.declared.ticket_calls.TicketCall.TheVariants.{TryLock}
 use Rattle.spin_ticket.specs.Queue.{goes_on}
 use Rattle.spin_ticket.specs.declared.ticket.rule.View.TheVariants.{LoadedNext}
 use Rattle.spin_ticket.proofs.Queue.{tries}

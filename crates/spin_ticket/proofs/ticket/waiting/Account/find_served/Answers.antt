@@ -1,5 +1,5 @@
 use Rattle.std.proofs.Common.{true, subst}
-use Rattle.spin_model.specs.declared.ticket.TicketCall.TheVariants.{TryLock}
+use Rattle.spin_step.specs.declared.ticket_calls.TicketCall.TheVariants.{TryLock}
 use Rattle.spin_ticket.specs.Queue.{answers_free, freed, tries_by}
 use Rattle.spin_ticket.proofs.Queue.{tries_on}
 use Rattle.spin_ticket.proofs.Accounts.{Tells, may_know, stepped}

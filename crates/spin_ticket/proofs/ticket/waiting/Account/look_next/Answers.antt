@@ -1,6 +1,6 @@
 use Rattle.std.proofs.Common.{true, subst}
 use Rattle.spin_core.specs.Passes.{IsStep}
-use Rattle.spin_model.specs.declared.ticket.TicketCall.TheVariants.{IsLocked}
+use Rattle.spin_step.specs.declared.ticket_calls.TicketCall.TheVariants.{IsLocked}
 use Rattle.spin_ticket.specs.Queue.{answers_look, gone, compares_with, compares_by}
 use Rattle.spin_ticket.proofs.Queue.{compares}
 use Rattle.spin_ticket.proofs.Accounts.{Tells, may_know, took}

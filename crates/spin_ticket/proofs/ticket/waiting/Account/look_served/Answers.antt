@@ -1,5 +1,5 @@
 use Rattle.std.proofs.Common.{false}
-use Rattle.spin_model.specs.declared.ticket.TicketCall.TheVariants.{IsLocked}
+use Rattle.spin_step.specs.declared.ticket_calls.TicketCall.TheVariants.{IsLocked}
 use Rattle.spin_ticket.specs.Queue.{goes_on}
 use Rattle.spin_ticket.specs.declared.ticket.rule.View.TheVariants.{LoadedServing}
 use Rattle.spin_ticket.proofs.Queue.{looks}

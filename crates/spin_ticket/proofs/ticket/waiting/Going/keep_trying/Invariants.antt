@@ -1,5 +1,5 @@
 use Rattle.spin_core.specs.Spots.{IsIn}
-use Rattle.spin_model.specs.declared.ticket.TicketCall.TheVariants.{Lock}
+use Rattle.spin_step.specs.declared.ticket_calls.TicketCall.TheVariants.{Lock}
 use Rattle.spin_ticket.specs.Accounts.{Spot, here}
 use Rattle.spin_ticket.specs.Queue.{model}
 use Rattle.spin_ticket.proofs.ticket.waiting.Going.keep_trying.Given as goal

@@ -2,7 +2,7 @@ use Rattle.std.proofs.Common.{Some, sym, ap, ◌∙◌, subst}
 use Rattle.spin_core.specs.Cell.{use_of}
 use Rattle.spin_core.specs.Passes.{mark_of}
 use Rattle.spin_core.specs.Values.{IsLast}
-use Rattle.spin_model.specs.declared.answer.Answer.TheVariants.{Granted}
+use Rattle.spin_step.specs.declared.answer.Answer.TheVariants.{Granted}
 use Rattle.spin_ticket.specs.Queue.{Called, use_of_party}
 use Rattle.spin_ticket.proofs.ticket.waiting.Grant.into_guard.Goals as goal
 

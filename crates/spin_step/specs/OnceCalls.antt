@@ -2,22 +2,22 @@
 use Rattle.std.specs.Prelude.{ℕ, Bool, Option, Some, None, ◌==◌, is_some, if◌then◌else◌}
 use Rattle.spin_step.specs.Plain.{to_begin, gets, completes, fails}
 use Rattle.spin_step.specs.Flags.{begun, completed, failed}
-use Rattle.spin_model.specs.declared.place.Hold.{Hold}
-use Rattle.spin_model.specs.declared.step.Next.{Next}
-use Rattle.spin_model.specs.declared.step.Next.TheVariants.{Continue, Answers}
-use Rattle.spin_model.specs.declared.answer.Answer.{Answer}
-use Rattle.spin_model.specs.declared.answer.Answer.TheVariants.{Is, Value, NoValue, Failed}
-use Rattle.spin_model.specs.declared.once.OnceCall.{OnceCall}
-use Rattle.spin_model.specs.declared.once.OnceCall.TheVariants.{CallOnce, TryCallOnceOk, TryCallOnceErr, InitFromRef, Wait, Poll, Get, IsCompleted}
-use Rattle.spin_model.specs.declared.once.OncePoint.{OncePoint}
-use Rattle.spin_model.specs.declared.once.OncePoint.TheVariants.{Look, TryBegin, Await, Run}
-use Rattle.spin_model.specs.Calls.{Asked}
-use Rattle.spin_model.specs.OnceKind.{once}
-use Rattle.spin_model.specs.Machines.{Machine}
-use Rattle.spin_model.specs.Acts.{one_number, Act, load, load_if, exchange, store, swap, either, Table, machine_with}
-use Rattle.spin_model.specs.Tables.{usual_table}
-use Rattle.spin_model.specs.Operations.{stores}
-use Rattle.spin_model.specs.Asks.{initializes, fails_to_initialize, waits_for_value, polls, looks_for_value, looks_complete}
+use Rattle.spin_step.specs.declared.place.Hold.{Hold}
+use Rattle.spin_step.specs.declared.stepped.Next.{Next}
+use Rattle.spin_step.specs.declared.stepped.Next.TheVariants.{Continue, Answers}
+use Rattle.spin_step.specs.declared.answer.Answer.{Answer}
+use Rattle.spin_step.specs.declared.answer.Answer.TheVariants.{Is, Value, NoValue, Failed}
+use Rattle.spin_step.specs.declared.once_calls.OnceCall.{OnceCall}
+use Rattle.spin_step.specs.declared.once_calls.OnceCall.TheVariants.{CallOnce, TryCallOnceOk, TryCallOnceErr, InitFromRef, Wait, Poll, Get, IsCompleted}
+use Rattle.spin_step.specs.declared.once_calls.OncePoint.{OncePoint}
+use Rattle.spin_step.specs.declared.once_calls.OncePoint.TheVariants.{Look, TryBegin, Await, Run}
+use Rattle.spin_step.specs.Calls.{Asked}
+use Rattle.spin_step.specs.OnceKind.{once}
+use Rattle.spin_step.specs.Machines.{Machine}
+use Rattle.spin_step.specs.Acts.{one_number, Act, load, load_if, exchange, store, swap, either, Table, machine_with}
+use Rattle.spin_step.specs.Tables.{usual_table}
+use Rattle.spin_step.specs.Operations.{stores}
+use Rattle.spin_step.specs.Asks.{initializes, fails_to_initialize, waits_for_value, polls, looks_for_value, looks_complete}
 
 -- there is a value
 abbrev pub is_there : ℕ → Bool

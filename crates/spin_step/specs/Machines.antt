@@ -1,11 +1,11 @@
 -- An object as the world sees it: where its calls begin, what their steps do, and what calls and steps are in the plain lock.
 use Rattle.std.specs.Prelude.{ℕ, Bool, List, Option, is_some, ◌&&◌, if◌then◌else◌}
 use Rattle.spin_step.specs.Plain.{Plain, nothing, complete, Change, fresh}
-use Rattle.spin_model.specs.declared.place.Hold.{Hold}
-use Rattle.spin_model.specs.declared.step.Next.{Next}
-use Rattle.spin_model.specs.declared.step.Stepped.{Stepped}
-use Rattle.spin_model.specs.StepKinds.{StepKind}
-use Rattle.spin_model.specs.Calls.{Asked, LockKind, Said}
+use Rattle.spin_step.specs.declared.place.Hold.{Hold}
+use Rattle.spin_step.specs.declared.stepped.Next.{Next}
+use Rattle.spin_step.specs.declared.stepped.Stepped.{Stepped}
+use Rattle.spin_step.specs.StepKinds.{StepKind}
+use Rattle.spin_step.specs.Calls.{Asked, LockKind, Said}
 
 -- The parameters are the types of its words, its value, its calls, their points, and their answers.
 pub record Machine (W V C L A : Type 0) : Type 0 where

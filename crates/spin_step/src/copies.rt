@@ -3,12 +3,12 @@
 ghost use Rattle.std.specs.Prelude.{◌≡◌, ⊤};
 
 use crate::answer::Answer;
-use crate::flag::{FlagCall, FlagPoint};
-use crate::once::{OnceCall, OncePoint};
+use crate::flag_calls::{FlagCall, FlagPoint};
+use crate::once_calls::{OnceCall, OncePoint};
 use crate::place::{Hold, Place, Seat};
 use crate::schedule::{Event, Move, Outcome};
-use crate::step::{Next, Stepped};
-use crate::ticket::{TicketCall, TicketPoint, TicketWords};
+use crate::stepped::{Next, Stepped};
+use crate::ticket_calls::{TicketCall, TicketPoint, TicketWords};
 use std::alloc::AllocError;
 
 impl<V: Copy> Clone for Answer<V> {

@@ -1,9 +1,9 @@
 -- The usual table of an object.
 use Rattle.std.specs.Prelude.{true, Option}
-use Rattle.spin_model.specs.declared.place.Hold.{Hold}
-use Rattle.spin_model.specs.declared.answer.Answer.{Answer}
-use Rattle.spin_model.specs.Calls.{Asked, LockKind, says_of}
-use Rattle.spin_model.specs.Acts.{Memory, Act, Table}
+use Rattle.spin_step.specs.declared.place.Hold.{Hold}
+use Rattle.spin_step.specs.declared.answer.Answer.{Answer}
+use Rattle.spin_step.specs.Calls.{Asked, LockKind, says_of}
+use Rattle.spin_step.specs.Acts.{Memory, Act, Table}
 
 -- The table with this value, kind of lock and words. Its object has an owner, no cap and no groups. Its first ticket is 0, and each step is
 -- on the first word.

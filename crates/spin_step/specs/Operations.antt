@@ -1,12 +1,12 @@
 -- The operations on words: a step of a call is one operation on one word, as a processor makes it.
 use Rattle.std.specs.Prelude.{◌≡◌, ℕ, ◌+◌, ◌-◌, ◌%◌, ◌==◌, Bool, true, false, Option, Some, is_some, if◌then◌else◌, get_or, slice_set}
 use Rattle.std.specs.List.{list_all}
-use Rattle.spin_model.specs.declared.place.Hold.{Hold}
-use Rattle.spin_model.specs.declared.step.Next.{Next}
-use Rattle.spin_model.specs.StepKinds.{is_look}
+use Rattle.spin_step.specs.declared.place.Hold.{Hold}
+use Rattle.spin_step.specs.declared.stepped.Next.{Next}
+use Rattle.spin_step.specs.StepKinds.{is_look}
 use Rattle.spin_step.specs.Plain.{Change}
-use Rattle.spin_model.specs.Calls.{AnyOf, Said, is_step_of, own_steps}
-use Rattle.spin_model.specs.Machines.{Machine}
+use Rattle.spin_step.specs.Calls.{AnyOf, Said, is_step_of, own_steps}
+use Rattle.spin_step.specs.Machines.{Machine}
 
 pub data Operation : Type 0 where
   loads : Operation

@@ -5,9 +5,9 @@ use Rattle.std.specs.Option.{option_map_or}
 use Rattle.spin_step.specs.Plain.{Plain, Kind, reading, upgradable, asking, writing, Ask, to_write, to_upgrade, to_upgrade_asked, to_take_ticket, to_enter, to_take_and_enter, to_lock_unregistered, to_lock_starving, to_lock_starving_alone, to_begin, Change, gets, releases, serves, stops_starving, turns, completes, fails, arrives, is_open_to, is_empty, is_first, is_holder, is_nothing, is_complete}
 use Rattle.spin_step.specs.Parties.{is_held}
 use Rattle.spin_step.specs.Barriers.{may_leave, is_leading, filled_by}
-use Rattle.spin_model.specs.declared.place.Hold.{Hold}
-use Rattle.spin_model.specs.declared.place.Hold.TheVariants.{Read, Upgradable, Write, Ticket, Starver}
-use Rattle.spin_model.specs.Calls.{Said, granted, refused, locked, starved, done, tells, counted, gives_value, has_no_value, failed, leads, follows, Mark, unlimited, within, within_changes, gets_within, changes_within, registers_after, Meaning, never, got, got_or_starved, found, means, is_for, makes, is_starved, readers, writers, Asked}
+use Rattle.spin_step.specs.declared.place.Hold.{Hold}
+use Rattle.spin_step.specs.declared.place.Hold.TheVariants.{Read, Upgradable, Write, Ticket, Starver}
+use Rattle.spin_step.specs.Calls.{Said, granted, refused, locked, starved, done, tells, counted, gives_value, has_no_value, failed, leads, follows, Mark, unlimited, within, within_changes, gets_within, changes_within, registers_after, Meaning, never, got, got_or_starved, found, means, is_for, makes, is_starved, readers, writers, Asked}
 
 -- What a party holds.
 

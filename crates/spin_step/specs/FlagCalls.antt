@@ -4,23 +4,23 @@ use Rattle.spin_step.specs.Plain.{writing, to_write, gets, releases}
 use Rattle.spin_step.specs.Steps.{bit}
 use Rattle.spin_step.specs.Flags as flags
 use Rattle.std.specs.Option.{option_map}
-use Rattle.spin_model.specs.declared.place.Hold.{Hold}
-use Rattle.spin_model.specs.declared.place.Hold.TheVariants.{Write}
-use Rattle.spin_model.specs.declared.step.Next.{Next}
-use Rattle.spin_model.specs.declared.step.Next.TheVariants.{Continue, Answers}
-use Rattle.spin_model.specs.declared.flag.FlagCall.{FlagCall}
-use Rattle.spin_model.specs.declared.flag.FlagCall.TheVariants.{Lock, TryLock, TryLockWeak, IsLocked, Release}
-use Rattle.spin_model.specs.declared.flag.FlagPoint.{FlagPoint}
-use Rattle.spin_model.specs.declared.flag.FlagPoint.TheVariants.{First, Second}
-use Rattle.spin_model.specs.declared.answer.Answer.{Answer}
-use Rattle.spin_model.specs.declared.answer.Answer.TheVariants.{Granted, Refused, Done, Is}
-use Rattle.spin_model.specs.Calls.{Asked}
-use Rattle.spin_model.specs.Asks.{is_write, waits_to_write, tries, tries_weakly, looks, gives_back}
-use Rattle.spin_model.specs.FlagKind.{flag}
-use Rattle.spin_model.specs.Machines.{Machine}
-use Rattle.spin_model.specs.Acts.{Memory, Act, load, load_if, exchange, weak_exchange, store, swap, Table, machine_of}
-use Rattle.spin_model.specs.Tables.{usual_table}
-use Rattle.spin_model.specs.Operations.{stores}
+use Rattle.spin_step.specs.declared.place.Hold.{Hold}
+use Rattle.spin_step.specs.declared.place.Hold.TheVariants.{Write}
+use Rattle.spin_step.specs.declared.stepped.Next.{Next}
+use Rattle.spin_step.specs.declared.stepped.Next.TheVariants.{Continue, Answers}
+use Rattle.spin_step.specs.declared.flag_calls.FlagCall.{FlagCall}
+use Rattle.spin_step.specs.declared.flag_calls.FlagCall.TheVariants.{Lock, TryLock, TryLockWeak, IsLocked, Release}
+use Rattle.spin_step.specs.declared.flag_calls.FlagPoint.{FlagPoint}
+use Rattle.spin_step.specs.declared.flag_calls.FlagPoint.TheVariants.{First, Second}
+use Rattle.spin_step.specs.declared.answer.Answer.{Answer}
+use Rattle.spin_step.specs.declared.answer.Answer.TheVariants.{Granted, Refused, Done, Is}
+use Rattle.spin_step.specs.Calls.{Asked}
+use Rattle.spin_step.specs.Asks.{is_write, waits_to_write, tries, tries_weakly, looks, gives_back}
+use Rattle.spin_step.specs.FlagKind.{flag}
+use Rattle.spin_step.specs.Machines.{Machine}
+use Rattle.spin_step.specs.Acts.{Memory, Act, load, load_if, exchange, weak_exchange, store, swap, Table, machine_of}
+use Rattle.spin_step.specs.Tables.{usual_table}
+use Rattle.spin_step.specs.Operations.{stores}
 
 abbrev pub is_set : ℕ → Bool
 is_set n = n == 1

@@ -1,21 +1,21 @@
 -- What a schedule does: which moves are open, and the outcome of each.
 use Rattle.std.specs.Prelude.{ℕ, ◌+◌, Bool, true, false, ◌&&◌, Option, Some, None, List, [], ◌∷◌, ◌++◌, map, replicate, ◌==◌, if◌then◌else◌, slice_get, slice_set, unwrap_or}
 use Rattle.std.specs.List.{list_all}
-use Rattle.spin_model.specs.declared.place.Hold.{Hold}
-use Rattle.spin_model.specs.declared.place.Hold.TheVariants as hold
-use Rattle.spin_model.specs.declared.place.Place.{Place}
-use Rattle.spin_model.specs.declared.place.Place.TheVariants as place
-use Rattle.spin_model.specs.declared.place.Seat.{Seat}
-use Rattle.spin_model.specs.declared.place.Seat.TheVariants.{Idle, Calling, Holding, Leaked, Gone}
-use Rattle.spin_model.specs.declared.step.Next.{Next}
-use Rattle.spin_model.specs.declared.step.Next.TheVariants.{Continue, Answers}
-use Rattle.spin_model.specs.declared.step.Stepped.{Stepped}
-use Rattle.spin_model.specs.declared.schedule.Move.{Move}
-use Rattle.spin_model.specs.declared.schedule.Move.TheVariants.{Begin, Step, Weak, Read, Write, Leak, OwnerGet, OwnerSet}
-use Rattle.spin_model.specs.declared.schedule.Outcome.{Outcome}
-use Rattle.spin_model.specs.declared.schedule.Outcome.TheVariants as outcome
-use Rattle.spin_model.specs.declared.schedule.Event.{Event}
-use Rattle.spin_model.specs.Machines.{Machine}
+use Rattle.spin_step.specs.declared.place.Hold.{Hold}
+use Rattle.spin_step.specs.declared.place.Hold.TheVariants as hold
+use Rattle.spin_step.specs.declared.place.Place.{Place}
+use Rattle.spin_step.specs.declared.place.Place.TheVariants as place
+use Rattle.spin_step.specs.declared.place.Seat.{Seat}
+use Rattle.spin_step.specs.declared.place.Seat.TheVariants.{Idle, Calling, Holding, Leaked, Gone}
+use Rattle.spin_step.specs.declared.stepped.Next.{Next}
+use Rattle.spin_step.specs.declared.stepped.Next.TheVariants.{Continue, Answers}
+use Rattle.spin_step.specs.declared.stepped.Stepped.{Stepped}
+use Rattle.spin_step.specs.declared.schedule.Move.{Move}
+use Rattle.spin_step.specs.declared.schedule.Move.TheVariants.{Begin, Step, Weak, Read, Write, Leak, OwnerGet, OwnerSet}
+use Rattle.spin_step.specs.declared.schedule.Outcome.{Outcome}
+use Rattle.spin_step.specs.declared.schedule.Outcome.TheVariants as outcome
+use Rattle.spin_step.specs.declared.schedule.Event.{Event}
+use Rattle.spin_step.specs.Machines.{Machine}
 
 -- the words, the value, and the seat of each party
 pub record State (W V C L : Type 0) : Type 0 where

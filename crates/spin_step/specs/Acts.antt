@@ -2,18 +2,18 @@
 -- be shown of each step.
 use Rattle.std.specs.Prelude.{ℕ, zero, suc, ◌+◌, ◌%◌, Bool, true, false, Option, Some, None, List, [], ◌∷◌, is_some, ◌==◌, if◌then◌else◌, get_or, unwrap_or, option_map}
 use Rattle.spin_step.specs.Plain.{Change}
-use Rattle.spin_model.specs.declared.place.Hold.{Hold}
-use Rattle.spin_model.specs.declared.answer.Answer.{Answer}
-use Rattle.spin_model.specs.declared.answer.Answer.TheVariants.{Granted, Refused, Locked, Starved, Done, Is, Count, Value, NoValue, Failed, Leader, Follower}
-use Rattle.spin_model.specs.declared.step.Next.{Next}
-use Rattle.spin_model.specs.declared.step.Next.TheVariants.{Continue, Answers}
-use Rattle.spin_model.specs.declared.step.Stepped.{Stepped}
-use Rattle.spin_model.specs.StepKinds.{StepKind, plain, again, look}
-use Rattle.spin_model.specs.Calls.{Asked, LockKind, Said, says_of}
-use Rattle.spin_model.specs.Asks.{is_completion}
-use Rattle.spin_model.specs.Machines.{Machine}
-use Rattle.spin_model.specs.Operations.{Operation, loads, exchanges, sets_lowest_bit, performed}
-use Rattle.spin_model.specs.Schedules.{placed}
+use Rattle.spin_step.specs.declared.place.Hold.{Hold}
+use Rattle.spin_step.specs.declared.answer.Answer.{Answer}
+use Rattle.spin_step.specs.declared.answer.Answer.TheVariants.{Granted, Refused, Locked, Starved, Done, Is, Count, Value, NoValue, Failed, Leader, Follower}
+use Rattle.spin_step.specs.declared.stepped.Next.{Next}
+use Rattle.spin_step.specs.declared.stepped.Next.TheVariants.{Continue, Answers}
+use Rattle.spin_step.specs.declared.stepped.Stepped.{Stepped}
+use Rattle.spin_step.specs.StepKinds.{StepKind, plain, again, look}
+use Rattle.spin_step.specs.Calls.{Asked, LockKind, Said, says_of}
+use Rattle.spin_step.specs.Asks.{is_completion}
+use Rattle.spin_step.specs.Machines.{Machine}
+use Rattle.spin_step.specs.Operations.{Operation, loads, exchanges, sets_lowest_bit, performed}
+use Rattle.spin_step.specs.Schedules.{placed}
 
 -- An object's words as a list of numbers (`numbers`). `put i k` replaces the i-th of these numbers by k.
 pub record Memory (W : Type 0) : Type 0 where

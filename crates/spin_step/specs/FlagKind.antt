@@ -1,9 +1,9 @@
 -- What kind of lock a flag is: its word, the plain steps that it makes, and its calls.
 use Rattle.std.specs.Prelude.{ℕ, Bool, true, false, [], Option, List, ◌∷◌}
 use Rattle.spin_step.specs.Plain.{writing, to_write, Change, gets, releases, flag_word}
-use Rattle.spin_model.specs.declared.place.Hold.{Hold}
-use Rattle.spin_model.specs.Calls.{Asked, LockKind, usual}
-use Rattle.spin_model.specs.Asks.{gives_back, is_write, looks, tries, tries_weakly, waits_to_write}
+use Rattle.spin_step.specs.declared.place.Hold.{Hold}
+use Rattle.spin_step.specs.Calls.{Asked, LockKind, usual}
+use Rattle.spin_step.specs.Asks.{gives_back, is_write, looks, tries, tries_weakly, waits_to_write}
 
 -- the plain steps of a flag; each of its holders writes
 abbrev pub flag_plain_steps : Change → Bool
