@@ -8,7 +8,7 @@ use std::marker::PhantomData;
 use std::sync::Wait;
 use std::thread::yield_now;
 
-/// The longest pause between two attempts of a call that backs off, as a number of spin hints.
+/// The longest pause of a waiting call, as a number of spin hints.
 pub const MAX_HINTS: u32 = 64;
 
 /// How a waiting call passes the time. A lock names its strategy as its type parameter `R`.
@@ -44,6 +44,14 @@ pub trait RelaxStrategy {
     fn pause<W: Wait>(rt: &W, hints: u32) {
         let _ = hints;
         Self::relax(rt);
+    }
+
+    /// Pauses for so many hints, but for at most [`MAX_HINTS`]. Every waiting call of a lock passes its time by this
+    /// call alone.
+    // Where a loop bounds its own count of hints too, this bound costs nothing.
+    #[inline(always)]
+    final fn bounded_pause<W: Wait>(rt: &W, hints: u32) {
+        Self::pause(rt, hints.min(MAX_HINTS));
     }
 
     /// Relaxes and tries again, until an attempt succeeds.
@@ -104,7 +112,7 @@ fn try_again<R: RelaxStrategy, S, A, F: Fn(S) -> Result<A, S>, W: Wait>(
     let mut hints = 1;
     let mut state = state;
     for _ in rt.forever() {
-        R::pause(rt, hints);
+        R::bounded_pause(rt, hints);
         match attempt(state) {
             Ok(answer) => return answer,
             Err(next) => state = next,

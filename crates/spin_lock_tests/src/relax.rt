@@ -1,4 +1,4 @@
-//! How long a call pauses when it backs off. No contract says this.
+//! How long a waiting call pauses. No contract says this.
 use crate::equal::equal;
 use spin_core::relax::{MAX_HINTS, RelaxStrategy};
 use std::cell::Cell;
@@ -43,6 +43,13 @@ const ATTEMPTS: u32 = 100;
 fn attempt(attempts: &Cell<u32>) -> Result<(), ()> {
     attempts.set(attempts.get().wrapping_add(1));
     (attempts.get() == ATTEMPTS).then_some(()).ok_or(())
+}
+
+#[test]
+fn a_bounded_pause_has_at_most_so_many_hints_as_the_bound(rt: HostRuntime) {
+    for hints in [1, 2, MAX_HINTS, MAX_HINTS + 1, u32::MAX] {
+        Bounded::bounded_pause(&rt, hints);
+    }
 }
 
 #[test]

@@ -178,7 +178,7 @@ impl<'a, T> Awaiting<'a, T> {
     {
         let mut awaiting = self;
         for _ in rt.forever() {
-            R::pause(rt, MAX_HINTS);
+            R::bounded_pause(rt, MAX_HINTS);
             match awaiting.look_and_try() {
                 Ok(held) => return held,
                 Err(next) => awaiting = next,

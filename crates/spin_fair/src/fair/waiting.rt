@@ -25,7 +25,7 @@ impl<'a, T> Waiting<'a, T> {
     {
         let mut waiting = self;
         for _ in rt.forever() {
-            R::pause(rt, MAX_HINTS);
+            R::bounded_pause(rt, MAX_HINTS);
             match waiting.look_and_try(rt) {
                 Ok(held) => return held,
                 Err(next) => waiting = next,

@@ -54,7 +54,7 @@ impl<'a, T> Account<'a, T> {
         let mut hints = 1;
         let mut waiting = self;
         for _ in rt.forever() {
-            R::pause(rt, hints);
+            R::bounded_pause(rt, hints);
             match waiting.look_and_try() {
                 Ok(held) => return held,
                 Err(next) => waiting = next,

@@ -164,7 +164,7 @@ impl<'a, T, S: Seed<T>> Account<'a, T, S> {
     {
         let mut account = self;
         for _ in rt.forever() {
-            R::pause(rt, 1);
+            R::bounded_pause(rt, 1);
             match account.look_and_begin::<C>() {
                 Ok(claim) => return claim,
                 Err(next) => account = next,
@@ -225,7 +225,7 @@ impl<'a, T, S: Seed<T>> Account<'a, T, S> {
             if found == COMPLETE {
                 return Found { account: next };
             }
-            R::pause(rt, 1);
+            R::bounded_pause(rt, 1);
             account = next;
         }
         unreachable!()
@@ -248,7 +248,7 @@ impl<'a, T, S: Seed<T>> Account<'a, T, S> {
             if found == NOTHING {
                 return Err(next);
             }
-            R::pause(rt, 1);
+            R::bounded_pause(rt, 1);
             account = next;
         }
         unreachable!()

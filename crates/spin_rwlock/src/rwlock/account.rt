@@ -164,7 +164,7 @@ impl<'a, T> Waiting<'a, T> {
         let mut hints = 1;
         let mut waiting = self;
         for _ in rt.forever() {
-            R::pause(rt, hints);
+            R::bounded_pause(rt, hints);
             let Self { account } = waiting;
             match account.write() {
                 Ok(held) => return held,

@@ -15,7 +15,7 @@ use super::pass::Pass;
 use super::reader::RwLockReadGuard;
 use super::rule::{CountsReaders, Kind, Party, RwRule, Turns};
 use spin_core::cell::Cell;
-use spin_core::relax::{RelaxStrategy, Spin};
+use spin_core::relax::{MAX_HINTS, RelaxStrategy, Spin};
 use spin_core::trace::Watch;
 use spin_step_more::rw;
 use std::marker::PhantomData;
@@ -234,10 +234,10 @@ impl<'a, T, K: Kind, R: RelaxStrategy> Coming<'a, T, K, Waits, R> {
         let mut coming = self;
         for _ in rt.forever() {
             let looked = if coming.is_kept_out() {
-                R::relax(rt);
+                R::bounded_pause(rt, 1);
                 coming.look()
             } else {
-                Spin::pause(rt, STAND_BACK);
+                stand_back(rt);
                 coming
             };
             match looked.try_twice() {
@@ -274,6 +274,13 @@ impl<'a, T, K: Kind, R: RelaxStrategy> Coming<'a, T, K, Waits, R> {
             word: found as usize,
             marker,
         }
+    }
+}
+
+// Waits for `STAND_BACK` hints.
+fn stand_back<W: Wait>(rt: &W) {
+    for _ in 0..STAND_BACK / MAX_HINTS {
+        Spin::bounded_pause(rt, MAX_HINTS);
     }
 }
 

@@ -277,7 +277,7 @@ fn wait_to_upgrade<'a, T, R: RelaxStrategy, W: Wait>(
 {
     let mut asking = asking;
     for _ in rt.forever() {
-        R::relax(rt);
+        R::bounded_pause(rt, 1);
         match raise_asked(asking.forget()) {
             Ok((guard, _)) => return guard,
             Err(still) => asking = still,
@@ -300,7 +300,7 @@ fn wait_to_upgrade_seen<'a, T, R: RelaxStrategy, W: Wait>(
 {
     let mut asking = asking;
     for _ in rt.forever() {
-        R::relax(rt);
+        R::bounded_pause(rt, 1);
         match raise_asked(asking) {
             Ok(held) => return held,
             Err(still) => asking = still,

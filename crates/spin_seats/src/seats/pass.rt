@@ -201,7 +201,7 @@ impl<'a, const N: usize> Entering<'a, N> {
         let mut hints = 1;
         let mut entering = self;
         for _ in rt.forever() {
-            Spin::pause(rt, hints);
+            Spin::bounded_pause(rt, hints);
             match entering.again() {
                 Ok(guard) => return guard,
                 Err(further) => entering = further,

@@ -278,7 +278,7 @@ impl<'a, T> Place<'a, T> {
     {
         let mut place = self;
         for _ in rt.forever() {
-            R::pause(rt, place.pause());
+            R::bounded_pause(rt, place.pause());
             match place.enter() {
                 Ok(grant) => return grant,
                 Err(next) => place = next,
