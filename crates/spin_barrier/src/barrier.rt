@@ -64,7 +64,7 @@ impl<R> Barrier<R> {
     /// let one: Barrier = Barrier::new(0);
     /// assert!(rt; one.wait(&rt).is_leader());
     /// ```
-    pub fn new(n: usize) -> Self {
+    pub const fn new(n: usize) -> Self {
         Barrier {
             state: Mutex::new(State::new(n)),
         }

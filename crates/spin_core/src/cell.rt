@@ -106,7 +106,7 @@ impl<T, V, P: Rule<T, V>> Cell<T, V, P> {
     /// # Contract
     /// The rule has to hold of the words (`Opens`). If parties share the value, or some view reads it, its type
     /// has to be `Sync` wherever the rule's own type is. `second` has to be `Send` (`Known`).
-    pub fn new(value: T, first: u64, second: P::Second, key: &P::Key) -> Cell<T, V, P>
+    pub const fn new(value: T, first: u64, second: P::Second, key: &P::Key) -> Cell<T, V, P>
         requires known { Known (P.ways key.now) P.row P.Second.row T.row }
         requires rule { Opens (P.holds key.now) (P.ways key.now) first second value }
         ensures key { result ≡ key.now }

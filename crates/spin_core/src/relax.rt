@@ -176,7 +176,7 @@ pub struct Strategy<R> {
 
 impl<R> Strategy<R> {
     /// Creates the name of the strategy `R`.
-    pub fn named() -> Self {
+    pub const fn named() -> Self {
         Strategy { name: PhantomData }
     }
 }

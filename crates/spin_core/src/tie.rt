@@ -31,7 +31,7 @@ impl<T> Model for Opening<T> {
 
 impl<T> Opening<T> {
     /// Returns the opening of a lock with this trace and this value.
-    pub fn of<E, S>(trace: &Trace<E, S>, value: &T) -> Opening<T>
+    pub const fn of<E, S>(trace: &Trace<E, S>, value: &T) -> Opening<T>
         ensures { (result.name ≡ trace.now.name) × (result.value ≡ value.now) × (result.told ≡ true) }
     {
         let _ = trace;
@@ -39,6 +39,13 @@ impl<T> Opening<T> {
         Opening {
             marker: PhantomData,
         }
+    }
+}
+
+impl<T> Opening<T> {
+    /// Ends the opening, as a drop does. A `const` function drops nothing, so it calls this.
+    pub const fn end(self) {
+        let Self { marker: _ } = self;
     }
 }
 

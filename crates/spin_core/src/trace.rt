@@ -41,7 +41,7 @@ impl<E> Model for Watch<E> {
 
 impl<E, S> Trace<E, S> {
     /// Creates an empty trace with a name of its own, and with `word`.
-    pub fn new(word: S) -> Trace<E, S>
+    pub const fn new(word: S) -> Trace<E, S>
         ensures { (result.entries ≡ []) × (result.word ≡ word) }
     {
         Trace {
@@ -51,7 +51,7 @@ impl<E, S> Trace<E, S> {
     }
 
     /// Returns a watch that knows all entries so far.
-    pub fn watch(&self) -> Watch<E>
+    pub const fn watch(&self) -> Watch<E>
         ensures { (result.name ≡ self.now.name) × (result.entries ≡ self.now.entries) }
     {
         Watch {
@@ -67,6 +67,11 @@ impl<E> Watch<E> {
     {
         let trace: Trace<E> = Trace::new(());
         trace.watch()
+    }
+
+    /// Ends the watch, as a drop does. A `const` function drops nothing, so it calls this.
+    pub const fn end(self) {
+        let Self { marker: _ } = self;
     }
 
     // Returns a watch that knows nothing, under the name that the caller chooses.

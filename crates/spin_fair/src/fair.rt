@@ -79,13 +79,15 @@ impl<T, R> FairMutex<T, R> {
     ///
     /// # Contract
     /// The lock's history begins with this value (`opens`). The call returns.
-    pub fn new(value: T) -> Self
+    pub const fn new(value: T) -> Self
         ensures opens { (result.cell.value ≡ value) × (result.cell.told ≡ true) }
     {
         let trace = Trace::new(());
         let opening = Opening::of(&trace, &value);
+        let cell = Cell::new(value, 0, trace, &opening);
+        opening.end();
         FairMutex {
-            cell: Cell::new(value, 0, trace, &opening),
+            cell,
             strategy: Strategy::named(),
         }
     }

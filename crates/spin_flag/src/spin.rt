@@ -96,13 +96,15 @@ impl<T, R> SpinMutex<T, R> {
     ///
     /// # Contract
     /// The lock's history begins with this value (`opens`). The call returns.
-    pub fn new(value: T) -> Self
+    pub const fn new(value: T) -> Self
         ensures opens { (result.cell.value ≡ value) × (result.cell.told ≡ true) }
     {
         let trace = Trace::new(());
         let opening = Opening::of(&trace, &value);
+        let cell = Cell::new(value, word(false), trace, &opening);
+        opening.end();
         SpinMutex {
-            cell: Cell::new(value, word(false), trace, &opening),
+            cell,
             strategy: Strategy::named(),
         }
     }

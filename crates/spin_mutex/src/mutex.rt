@@ -95,14 +95,14 @@ impl<T, R> Mutex<T, R> {
     ///
     /// # Contract
     /// The lock's history begins with this value (`opens`). The call returns.
-    pub fn new(value: T) -> Self
+    pub const fn new(value: T) -> Self
         ensures opens { ((opening result.inner).0.value ≡ value) × ((opening result.inner).0.told ≡ true) }
     {
         Self::over(TicketMutex::new(value))
     }
 
     // Wraps an existing ticket lock.
-    pub(crate) fn over(inner: TicketMutex<T, R>) -> Self
+    pub(crate) const fn over(inner: TicketMutex<T, R>) -> Self
         ensures { result.inner ≡ inner }
     {
         Mutex { inner }

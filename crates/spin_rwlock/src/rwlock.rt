@@ -60,13 +60,15 @@ impl<T, R> RwLock<T, R> {
     ///
     /// # Contract
     /// The lock's history begins with this value (`opens`). The call returns.
-    pub fn new(value: T) -> Self
+    pub const fn new(value: T) -> Self
         ensures opens { (result.cell.value ≡ value) × (result.cell.told ≡ true) }
     {
         let trace = Trace::new(());
         let opening = Opening::of(&trace, &value);
+        let cell = Cell::new(value, 0, trace, &opening);
+        opening.end();
         RwLock {
-            cell: Cell::new(value, 0, trace, &opening),
+            cell,
             strategy: PhantomData,
         }
     }
@@ -96,6 +98,33 @@ impl<T, R> RwLock<T, R> {
             Ok((guard, _)) => Some(guard),
             Err(_) => None,
         }
+    }
+
+    /// Like [`try_read`](Self::try_read), but needs no right to wait: it also returns `None` if another thread changes the
+    /// word at the same time.
+    ///
+    /// It makes one load and at most one compare-exchange.
+    ///
+    /// # Contract
+    /// The guard in `Some` is that of a reader. `None` promises nothing. The call returns.
+    ///
+    /// # Examples
+    /// ```
+    /// use spin::RwLock;
+    ///
+    /// fn shown(limit: &RwLock<u64>) -> Option<u64> {
+    ///     Some(*limit.try_read_weak()?)
+    /// }
+    ///
+    /// let limit: RwLock<u64> = RwLock::new(3);
+    /// assert_eq!(rt; shown(&limit), Some(3));
+    /// let writer = limit.write(&rt);
+    /// assert_eq!(rt; shown(&limit), None);
+    /// drop(writer);
+    /// ```
+    #[must_use = "dropping the guard at once releases the lock: bind the answer, or write `drop(..)`"]
+    pub fn try_read_weak(&self) -> Option<RwLockReadGuard<'_, T, R>> {
+        coming::peek(&self.cell)
     }
 
     /// Tries to acquire upgradable shared access. Returns `None` if a writer or an upgradable reader holds the lock.

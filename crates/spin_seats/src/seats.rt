@@ -47,12 +47,12 @@ pub struct SeatGuard<'a, const N: usize> {
 
 impl<const N: usize> Seats<N> {
     /// Creates a lock whose seats are all free.
-    pub fn new() -> Self {
+    pub const fn new() -> Self {
         let trace = Trace::new(());
         let start = trace.watch();
-        Seats {
-            cell: Cell::new((), 0, trace, &start),
-        }
+        let cell = Cell::new((), 0, trace, &start);
+        start.end();
+        Seats { cell }
     }
 
     /// Returns how many seats were taken at some moment during this call. By the time the caller reads the answer it

@@ -33,7 +33,7 @@ impl State {
     ///
     /// # Contract
     /// The state is that of a fresh plain barrier with groups of `n` (`IsBarrier`).
-    pub fn new(n: usize) -> State
+    pub const fn new(n: usize) -> State
         ensures n { result.n ≡ n }
         ensures plain { (cap first : ℕ) → IsBarrier (fresh cap n first) n result.count result.generation }
     {

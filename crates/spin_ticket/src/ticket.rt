@@ -73,20 +73,23 @@ impl<T, R> TicketMutex<T, R> {
     ///
     /// # Contract
     /// The lock's history begins with this value (`opens`). The call returns.
-    pub fn new(value: T) -> Self
+    pub const fn new(value: T) -> Self
         ensures opens { (result.cell.0.value ≡ value) × (result.cell.0.told ≡ true) }
     {
         Self::starting_at(value, 0)
     }
 
     // Creates an unlocked mutex whose first ticket has the number `first`.
-    pub(crate) fn starting_at(value: T, first: u64) -> Self
+    pub(crate) const fn starting_at(value: T, first: u64) -> Self
         ensures opens { (result.cell.0.value ≡ value) × (result.cell.0.told ≡ true) }
     {
         let trace = Trace::new(first);
         let start = (Opening::of(&trace, &value), first);
+        let cell = Cell::new(value, first, trace, &start);
+        let (opening, _) = start;
+        opening.end();
         TicketMutex {
-            cell: Cell::new(value, first, trace, &start),
+            cell,
             strategy: Strategy::named(),
         }
     }

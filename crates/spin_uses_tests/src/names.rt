@@ -31,6 +31,39 @@ fn each_mutex_by_its_name(rt: HostRuntime) {
     );
 }
 
+/// Locks that a `const fn` makes.
+#[derive(Drop)]
+struct Kept {
+    first: Mutex<u64>,
+    second: SpinMutex<u64>,
+    third: FairMutex<u64>,
+    fourth: RwLock<u64>,
+    fifth: Barrier,
+}
+
+const fn kept(value: u64) -> Kept {
+    Kept {
+        first: Mutex::new(value),
+        second: SpinMutex::new(value),
+        third: FairMutex::new(value),
+        fourth: RwLock::new(value),
+        fifth: Barrier::new(1),
+    }
+}
+
+#[test]
+fn a_const_fn_makes_locks(rt: HostRuntime) {
+    let kept = kept(7);
+    let held = [
+        *kept.first.lock(&rt),
+        *kept.second.lock(&rt),
+        *kept.third.lock(&rt),
+    ];
+    let read = kept.fourth.try_read_weak().map(|guard| *guard);
+    let leads = kept.fifth.wait(&rt).is_leader();
+    equal(&rt, (held, read, leads), ([7; 3], Some(7), true));
+}
+
 #[test]
 fn barriers_steps_and_strategies(rt: HostRuntime) {
     let one: Barrier = Barrier::new(1);

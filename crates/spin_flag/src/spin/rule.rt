@@ -137,7 +137,7 @@ pub(super) fn free<'a, T>(
 }
 
 /// Returns the word that encodes the flag.
-pub(super) fn word(flag: bool) -> u64
+pub(super) const fn word(flag: bool) -> u64
     ensures { result ≡ bit flag }
 {
     flag as u64

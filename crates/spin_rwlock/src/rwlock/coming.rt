@@ -284,7 +284,7 @@ fn stand_back<W: Wait>(rt: &W) {
     }
 }
 
-/// Tries to read for `{:?}`, by one load and at most one exchange.
+/// Tries to read without a right to wait, by one load and at most one exchange.
 pub(super) fn peek<T, R>(cell: &Cell<T, Party, RwRule<T>>) -> Option<RwLockReadGuard<'_, T, R>> {
     let looking = Account {
         permit: cell.enter(),

@@ -7,9 +7,9 @@ use Rattle.spin_fair.specs.Fair.{known_of}
 use Rattle.spin_fair.proofs.Steps.{starts, never_reads}
 use Rattle.spin_fair.proofs.fair.FairMutex.new.Goals as goal
 
-pub new-requires-clause-known : goal.new-requires-clause-known
-new-requires-clause-known g c = (λ no. absurd no, (λ v e. absurd (never_reads v.0 e)), sends_word_less (entry_over call.the_row (param 0 g.row.T)))
+pub new-cell-requires-clause-known : goal.new-cell-requires-clause-known
+new-cell-requires-clause-known g c = (λ no. absurd no, (λ v e. absurd (never_reads v.0 e)), sends_word_less (entry_over call.the_row (param 0 g.row.T)))
 
-pub new-requires-clause-rule : goal.new-requires-clause-rule
+pub new-cell-requires-clause-rule : goal.new-cell-requires-clause-rule
 unfolding known_of
-new-requires-clause-rule g c = let o = c.of-opening in let t = c.new-trace in ([], refl, starts o.result t.result (sym o.ensures.0) t.ensures.0, (opens_last o.result t.result.entries c.args.value t.ensures.0 o.ensures.1, tt))
+new-cell-requires-clause-rule g c = let o = c.of-opening in let t = c.new-trace in ([], refl, starts o.result t.result (sym o.ensures.0) t.ensures.0, (opens_last o.result t.result.entries c.args.value t.ensures.0 o.ensures.1, tt))

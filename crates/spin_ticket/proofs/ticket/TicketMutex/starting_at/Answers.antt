@@ -6,9 +6,9 @@ use Rattle.spin_core.proofs.Values.{opens_last}
 use Rattle.spin_ticket.proofs.Queue.{starts, never_reads}
 use Rattle.spin_ticket.proofs.ticket.TicketMutex.starting_at.Goals as goal
 
-pub new-requires-clause-known : goal.new-requires-clause-known
-new-requires-clause-known g c = (λ no. absurd no, (λ v e. absurd (never_reads v.0 e)), sends_word (entry_over call.the_row (param 0 g.row.T)))
+pub new-cell-requires-clause-known : goal.new-cell-requires-clause-known
+new-cell-requires-clause-known g c = (λ no. absurd no, (λ v e. absurd (never_reads v.0 e)), sends_word (entry_over call.the_row (param 0 g.row.T)))
 
-pub new-requires-clause-rule : goal.new-requires-clause-rule
-new-requires-clause-rule g c = let t = c.new-trace in let o = c.of in
+pub new-cell-requires-clause-rule : goal.new-cell-requires-clause-rule
+new-cell-requires-clause-rule g c = let t = c.new-trace in let o = c.of in
     ([], refl, starts (o.result, c.args.first) t.result (sym o.ensures.0) t.ensures.0 t.ensures.1 (omega (arith, c.ranges.first)), (opens_last o.result t.result.entries c.args.value t.ensures.0 o.ensures.1, tt))
