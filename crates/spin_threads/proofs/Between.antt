@@ -1,17 +1,19 @@
 -- If the trace of a lock on threads is a schedule of its model, then all that the model's laws say of this schedule
 -- holds of the lock.
-use Rattle.std.proofs.Common.{◌≡◌, ℕ, suc, ◌+◌, Option, Some, None, List, [], ◌∷◌, ◌++◌, length, map, slice_get, refl, sym, ap, ◌∙◌, subst, arith}
+use Rattle.std.proofs.Common.{◌≡◌, ◌≢◌, ◌⊎◌, inl, inr, ⊎_elim, ℕ, zero, suc, ◌+◌, ◌≤◌, Option, Some, None, List, [], ◌∷◌, ◌++◌, length, map, slice_get, refl, sym, ap, ◌∙◌, subst, arith}
 use Rattle.std.specs.List.{All}
 use Rattle.std.proofs.lemmas.List.{append_assoc, append-nil, length-append}
+use Rattle.std.proofs.lemmas.Option.{slice_get_past}
 use Rattle.std.proofs.lemmas.List.Elements.{All-nil, All-cons, All-head, All-tail, All-same}
 use Rattle.spin_core.specs.Own.{Numbered, IsRun, present_from, kind}
 use Rattle.spin_core.specs.Run.{sits}
 use Rattle.spin_core.proofs.Runs.{get_seam}
 use Rattle.spin_step.specs.declared.place.Seat.{Seat}
+use Rattle.spin_step.specs.declared.place.Seat.TheVariants.{Idle}
 use Rattle.spin_step.specs.Acts.{Table}
 use Rattle.spin_step.specs.Machines.{Machine}
 use Rattle.spin_step.specs.Schedules.{State, Entry, after, at_first}
-use Rattle.spin_world_core.specs.Runs.{Seen, opening, StandsFor}
+use Rattle.spin_world_core.specs.Runs.{Seen, opening, StandsFor, state_at}
 use Rattle.spin_world_core.specs.Users.{seen_after}
 use Rattle.spin_world_core.proofs.Shapes.{Notes}
 use Rattle.spin_world_core.proofs.Steps.{played, Plays}
@@ -37,11 +39,72 @@ module _ {W V C L A X S : Type 0} (m : Machine W V C L A) (seat_of : X → Seat 
       (sit P (suc k) more us (let a = length-append front (seat_of u.0 ∷ []) in omega (arith, is, a))
       (λ v at. each v (subst (λ l. slice_get l v.1 ≡ Some (seat_of v.0)) (append_assoc front (seat_of u.0 ∷ []) (seats us)) at)))
 
+  -- a number that is none of a party that is present has an idle seat, or none
+  abbrev IsFree : List (Seat C L) → ℕ → Type 0
+  IsFree seats i = (slice_get seats i ≡ Some Idle) ⊎ (length seats ≤ i)
+
+  free_more : (y : Seat C L) (ys : List (Seat C L)) (i : ℕ) → IsFree ys i → IsFree (y ∷ ys) (suc i)
+  free_more y ys i free = ⊎_elim (λ idle. inl idle) (λ past. inr (omega (arith, past))) free
+
+  free : (came : List (Option (X × ℕ))) (k i q : ℕ) → q ≡ k + i → All (λ v. v.1 ≢ q) (present_from k came) → IsFree (seats came) i
+  free [] k i q is all = inr (omega arith)
+  free (None ∷ us) k zero q is all = inl refl
+  free (None ∷ us) k (suc i) q is all = free_more (sits m seat_of words_of None) (seats us) i (free us (suc k) i q (omega (arith, is)) all)
+  free (Some u ∷ us) k zero q is all = absurd (All-head (λ v. v.1 ≢ q) (u.0, k, u.1) (present_from (suc k) us) all (omega (arith, is)))
+  free (Some u ∷ us) k (suc i) q is all =
+      free_more (seat_of u.0) (seats us) i (free us (suc k) i q (omega (arith, is)) (All-tail (λ v. v.1 ≢ q) (u.0, k, u.1) (present_from (suc k) us) all))
+
+  -- the numbers of those present grow
+  from_on : (came : List (Option (X × ℕ))) (k j : ℕ) (w : Numbered X) → slice_get (present_from k came) j ≡ Some w → k ≤ w.1
+  from_on [] k j w at = absurd (grind (arith, at))
+  from_on (None ∷ us) k j w at = omega (arith, from_on us (suc k) j w at)
+  from_on (Some u ∷ us) k zero w at = let is : (u.0, k, u.1) ≡ w = grind (arith, at) in omega (arith, ap (λ v. v.1) is)
+  from_on (Some u ∷ us) k (suc j) w at = omega (arith, from_on us (suc k) j w at)
+
+  abbrev AreApart : List (Numbered X) → Type 0
+  AreApart parties = (i j : ℕ) (v w : Numbered X) → slice_get parties i ≡ Some v → slice_get parties j ≡ Some w → v.1 ≡ w.1 → i ≡ j
+
+  first_apart : (u : X × ℕ) (us : List (Option (X × ℕ))) (k j : ℕ) (v w : Numbered X) → Some (u.0, k, u.1) ≡ Some v → slice_get (present_from (suc k) us) j ≡ Some w → v.1 ≡ w.1 → ⊥
+  first_apart u us k j v w here there same =
+      let is : (u.0, k, u.1) ≡ v = grind (arith, here) in
+      omega (arith, from_on us (suc k) j w there, ap (λ x. x.1) is, same)
+
+  present_apart : (came : List (Option (X × ℕ))) (k : ℕ) → AreApart (present_from k came)
+  present_apart [] k i j v w here there same = absurd (grind (arith, here))
+  present_apart (None ∷ us) k i j v w here there same = present_apart us (suc k) i j v w here there same
+  present_apart (Some u ∷ us) k zero zero v w here there same = refl
+  present_apart (Some u ∷ us) k zero (suc j) v w here there same = absurd (first_apart u us k j v w here there same)
+  present_apart (Some u ∷ us) k (suc i) zero v w here there same = absurd (first_apart u us k i w v there here (sym same))
+  present_apart (Some u ∷ us) k (suc i) (suc j) v w here there same = ap suc (present_apart us (suc k) i j v w here there same)
+
+  abbrev with_mark : (Numbered X → ℕ) → Numbered X → Numbered X
+  with_mark marks u = (u.0, u.1, marks u)
+
   -- if `Between` holds of the parties with some marks, it holds of them with their own marks
   pub of_counted : (log : List (Entry C V)) (words : ℕ × S) (marks : Numbered X → ℕ) (parties : List (Numbered X)) → Between m seat_of words_of log words (map (λ v. (v.0, v.1, marks v)) parties) → Between m seat_of words_of log words parties
   of_counted log words marks parties is =
-      record { came = is.came; seen = is.seen; led = is.led; encodes = is.encodes; words_are = is.words_are; exclusive = is.exclusive; stand = each (λ v. StandsFor is.seen.plain v.1 (is.seen.span v.1) (Some (seat_of v.0))) (λ v so. so) parties is.stand }
+      record {
+        came = is.came;
+        seen = is.seen;
+        led = is.led;
+        encodes = is.encodes;
+        words_are = is.words_are;
+        exclusive = is.exclusive;
+        stand = each (λ v. StandsFor is.seen.plain v.1 (is.seen.span v.1) (Some (seat_of v.0))) (λ v so. so) parties is.stand;
+        apart = λ i j v w here there same. is.apart i j (with_mark marks v) (with_mark marks w) (marked parties i v here) (marked parties j w there) same;
+        others = λ p all. is.others p (back p parties all);
+      }
     where
+      marked : (vs : List (Numbered X)) (i : ℕ) (v : Numbered X) → slice_get vs i ≡ Some v → slice_get (map (with_mark marks) vs) i ≡ Some (with_mark marks v)
+      marked [] i v at = absurd (grind (arith, at))
+      marked (u ∷ us) zero v at = let e : u ≡ v = grind (arith, at) in ap (λ w. Some (with_mark marks w)) e
+      marked (u ∷ us) (suc i) v at = marked us i v at
+
+      back : (p : ℕ) (vs : List (Numbered X)) → All (λ v. v.1 ≢ p) vs → All (λ v. v.1 ≢ p) (map (with_mark marks) vs)
+      back p [] all = All-nil (λ v. v.1 ≢ p)
+      back p (u ∷ us) all =
+          All-cons (λ v. v.1 ≢ p) (with_mark marks u) (map (with_mark marks) us) (All-head (λ v. v.1 ≢ p) u us all) (back p us (All-tail (λ v. v.1 ≢ p) u us all))
+
       each : (P : Numbered X → Type 0) → ((v : Numbered X) → P (v.0, v.1, marks v) → P v) → (vs : List (Numbered X)) → All P (map (λ v. (v.0, v.1, marks v)) vs) → All P vs
       each P so [] all = All-nil P
       each P so (v ∷ vs) all =
@@ -56,6 +119,8 @@ module _ {W V C L A B X S : Type 0} {t : Table W V C L B} {by : Machine W V C L 
       let n : ℕ = length (map kind came) in let seen : Seen W V C L = seen_after m (opening m n) log in
       let good = reached.good f n log in let Stand : Numbered X → Type 0 = λ v. StandsFor seen.plain v.1 (seen.span v.1) (Some (seat_of v.0)) in
       let state : seen.state ≡ record { words = w; value = value; seats = seats m seat_of words_of came ++ [] } = reached.state_is f n log ∙ ap (λ j. after m (at_first m j) log) (let e : n ≡ n + 0 = omega arith in e) ∙ led 0 in
+      let seated : (p : ℕ) → slice_get (state_at m n log).seats p ≡ slice_get (seats m seat_of words_of came) p =
+          λ p. ap (λ (s : State W V C L). slice_get s.seats p) (sym (reached.state_is f n log) ∙ state) ∙ ap (λ l. slice_get l p) (append-nil (seats m seat_of words_of came)) in
       record {
         came = n;
         seen = seen;
@@ -63,6 +128,11 @@ module _ {W V C L A B X S : Type 0} {t : Table W V C L B} {by : Machine W V C L 
         encodes = good.encodes;
         words_are = words_is ∙ ap (λ (s : State W V C L). words_of s.words) (sym state);
         exclusive = good.exclusive;
-        stand = All-same Stand parties (present_from 0 came) is (sit m seat_of words_of Stand 0 [] came refl (λ v at.
-            reached.stands f n log v.1 (ap (λ (s : State W V C L). slice_get s.seats v.1) (sym (reached.state_is f n log) ∙ state) ∙ ap (λ l. slice_get l v.1) (append-nil (seats m seat_of words_of came)) ∙ at)));
+        stand = All-same Stand parties (present_from 0 came) is (sit m seat_of words_of Stand 0 [] came refl (λ v at. reached.stands f n log v.1 (seated v.1 ∙ at)));
+        apart = subst (AreApart m seat_of words_of) (sym is) (present_apart m seat_of words_of came 0);
+        others = λ p all.
+            let there : (o : Option (Seat C L)) → slice_get (seats m seat_of words_of came) p ≡ o → StandsFor seen.plain p (seen.span p) o =
+                λ o at. subst (StandsFor seen.plain p (seen.span p)) (reached.seat_is f n log p o (seated p ∙ at)) (good.parties p).stands in
+            ⊎_elim (λ idle. there (Some Idle) idle) (λ past. there None (slice_get_past (seats m seat_of words_of came) p past))
+            (free m seat_of words_of came 0 p p (omega arith) (All-same (λ v. v.1 ≢ p) (present_from 0 came) parties (sym is) all));
       }

@@ -1,7 +1,7 @@
 -- What holds of a lock between any two steps of the threads that use it.
-use Rattle.std.specs.Prelude.{◌≡◌, ℕ, List, Some}
+use Rattle.std.specs.Prelude.{◌≡◌, ◌≢◌, ℕ, List, Some, slice_get}
 use Rattle.std.specs.List.{All}
-use Rattle.spin_step.specs.Parties.{IsExclusive}
+use Rattle.spin_step.specs.Parties.{IsExclusive, entries, no_entries}
 use Rattle.spin_core.specs.Own.{Numbered}
 use Rattle.spin_step.specs.declared.place.Seat.{Seat}
 use Rattle.spin_step.specs.Calls.{encoded}
@@ -25,3 +25,7 @@ pub record Between {W V C L A X S : Type 0} (m : Machine W V C L A) (seat_of : X
   pub exclusive : IsExclusive seen.plain
   -- each party holds and waits in the plain lock as its view says
   pub stand : All (λ v. StandsFor seen.plain v.1 (seen.span v.1) (Some (seat_of v.0))) parties
+  -- no two parties have one number
+  pub apart : (i j : ℕ) (v w : Numbered X) → slice_get parties i ≡ Some v → slice_get parties j ≡ Some w → v.1 ≡ w.1 → i ≡ j
+  -- whoever is none of these parties has nothing in the plain lock
+  pub others : (p : ℕ) → All (λ v. v.1 ≢ p) parties → entries p seen.plain ≡ no_entries

@@ -1,7 +1,8 @@
 //! One law for each kind of lock, except for a `Barrier` and the seated locks. Each law is the contract of a function
 //! that does nothing. A caller that calls this function learns what the law states.
-ghost use Rattle.std.specs.Prelude.{ℕ, List};
+ghost use Rattle.std.specs.Prelude.{◌≡◌, ◌++◌, ◌∷◌, ℕ, List};
 ghost use Rattle.spin_core.specs.Own.{Numbered};
+ghost use Rattle.spin_core.specs.Run.{IsPlayed};
 ghost use Rattle.spin_core.specs.declared.tie.Opening.{Opening};
 ghost use Rattle.spin_core.specs.declared.trace.Trace.{Trace};
 ghost use Rattle.spin_fair.specs.Fair as fair_mutex;
@@ -21,6 +22,7 @@ ghost use Rattle.spin_seats.specs.declared.seats.rule.View.{View as SeatsView};
 ghost use Rattle.spin_ticket.specs.Queue as ticket_mutex;
 ghost use Rattle.spin_ticket.specs.declared.ticket.rule.View.{View as TicketMutexView};
 ghost use Rattle.spin_threads.specs.Between.{Between};
+ghost use Rattle.spin_world.specs.Fairness.{ComesAfterStarvers};
 
 /// Between any two steps of the threads that use a `SpinMutex`, the lock's word is 1 if a party holds the lock, else 0.
 /// At most one party holds the lock. Each party holds or waits in the plain lock as its view says.
@@ -77,4 +79,16 @@ pub fn between_any_two_steps_of_a_rwlock<T>()
 /// object `Once` (`bare`, `foretold`). `opening` says whether the cell was made with a value.
 pub fn between_any_two_steps_of_a_once<T, S>()
     ensures { (opening : Opening (OnceStage T S)) (word : ℕ) (trace : Trace (once_values.Valued T) (Unit {0})) (parties : List (Numbered OnceView)) → once.IsOnce opening word trace parties → Between (once_machine (once_values.given_of opening.value)) place_of once.words_of (foretold (once_values.bare trace.entries)) (word, trace.word) parties }
+{}
+
+/// No newcomer acquires a `FairMutex` while a starver is registered. A newcomer is a party that neither holds the lock nor
+/// is registered.
+///
+/// # Contract
+/// The moves in the cell's trace are a schedule of the model for so many parties, and none of them is skipped. By
+/// `ComesAfterStarvers` a move of this schedule by which a newcomer acquires the lock finds no starver registered.
+pub fn no_newcomer_acquires_a_fair_mutex_beside_a_starver<T>()
+    ensures { (opening : Opening T) (word : ℕ) (trace : Trace (fair_mutex.Done T) (Unit {0})) (parties : List (Numbered FairMutexView)) → fair_mutex.IsFair opening word trace parties
+        → (came : ℕ) × IsPlayed (fair_mutex.model opening.value) came trace.entries
+        × ((past rest : List (fair_mutex.Done T)) (next : fair_mutex.Done T) → trace.entries ≡ past ++ (next ∷ rest) → ComesAfterStarvers (fair_mutex.model opening.value) came past next.0 next.1) }
 {}

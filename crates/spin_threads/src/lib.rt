@@ -32,6 +32,7 @@ pub use laws::{
     between_any_two_steps_of_a_fair_mutex, between_any_two_steps_of_a_once,
     between_any_two_steps_of_a_rwlock, between_any_two_steps_of_a_spin_mutex,
     between_any_two_steps_of_a_ticket_mutex, between_any_two_steps_of_seats,
+    no_newcomer_acquires_a_fair_mutex_beside_a_starver,
 };
 pub use limits::{
     a_call_of_a_fair_mutex_keeps_its_limit, a_call_of_a_rwlock_keeps_its_limit,
