@@ -88,6 +88,16 @@ const ROWS: &[Row] = &[
          schedule\n0 begin starve\n0 step\n0 step\n\nstates 27, outcomes 1, stuck 3\n",
         "",
     ),
+    // Whether the owner let the leaked guard go shows in no line, so three states have two texts.
+    (
+        &[],
+        "flag 5 2\n0 begin lock\n0 leak\n1 owner get\n",
+        0,
+        "outcome 1\n0 begin lock: granted\n0 leak: leaked\n1 owner get: value 5\nend: 1 value 5\n\n\
+         outcome 2\n0 begin lock: granted\n0 leak: leaked\n1 owner get: passed over\nend: 1 value 5\n\n\
+         states 15, outcomes 2, stuck 0\n",
+        "",
+    ),
     (
         &["--limit", "5"],
         "flag 5 1",
