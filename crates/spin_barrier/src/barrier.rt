@@ -2,11 +2,13 @@
 //! [`Barrier::wait`].
 //!
 //! It uses only the contract of `Mutex`.
-ghost use Rattle.std.specs.Prelude.{◌≡◌};
+ghost use Rattle.std.specs.Prelude.{◌≡◌, IfOk};
+ghost use Rattle.spin_barrier.specs.Keeping.{Waits};
 
+use crate::keep::{Keeper, Kept};
 use spin_core::relax::{RelaxStrategy, Spin};
 use spin_mutex::mutex::Mutex;
-use spin_step_more::barrier::{self, State};
+use spin_step_more::barrier::State;
 use std::sync::Wait;
 
 /// A barrier at which the threads of a group wait for each other. It is reusable: after a group it gathers
@@ -30,8 +32,8 @@ use std::sync::Wait;
 /// assert!(rt; first != second);
 /// ```
 #[derive(Drop)]
-pub struct Barrier<R = Spin> {
-    state: Mutex<State, R>,
+pub struct Barrier<R = Spin, K: Keeper = ()> {
+    pub(crate) state: Mutex<Kept<K>, R>,
 }
 
 /// The result of [`Barrier::wait`]: whether the thread leads its group.
@@ -66,7 +68,10 @@ impl<R> Barrier<R> {
     /// ```
     pub const fn new(n: usize) -> Self {
         Barrier {
-            state: Mutex::new(State::new(n)),
+            state: Mutex::new(Kept {
+                state: State::new(n),
+                keep: (),
+            }),
         }
     }
 }
@@ -79,28 +84,53 @@ impl<R: RelaxStrategy> Barrier<R> {
     /// with strategy `R` between two looks.
     ///
     /// # Contract
-    /// Whether and when the call returns is not promised. The step functions promise that a thread waits for
-    /// its group and that one thread leads ([`State::arrive`] and `may_leave`). Only a test shows that this
-    /// call does so.
+    /// Whether and when the call returns is not promised. No clause says that a thread waits for its group and that
+    /// one thread leads. The same code says so of a barrier with a [`Roll`](crate::roll::Roll), where
+    /// arrivals have names.
     pub fn wait<W: Wait>(&self, rt: &W) -> BarrierWaitResult {
-        let mut state = self.state.lock(rt);
-        let leads = state.arrive();
-        let generation = state.generation;
-        drop(state);
+        self.wait_with(rt, &mut (), ()).0
+    }
+}
+
+impl<R: RelaxStrategy, K: Keeper> Barrier<R, K> {
+    /// Arrives at the barrier, and spins until the group is full. Also returns what the party then knows.
+    ///
+    /// # Contract
+    /// The party has to be `ready`. What it has and knows afterwards is what the keeper says of an arrival (`came`), and,
+    /// if the party does not lead, of a follower that may leave (`left`). Whether and when the call returns is not
+    /// promised.
+    pub fn wait_with<W: Wait>(
+        &self,
+        rt: &W,
+        own: &mut K::Own,
+        seen: K::Seen,
+    ) -> (BarrierWaitResult, K::Seen)
+        requires { K.ready own.old seen }
+        ensures { Waits K.came K.left own.old seen result.0.leads own.new result.1 }
+    {
+        let mut seen = seen;
+        let mut kept = self.state.lock(rt);
+        let leads = kept.arrive(own, &mut seen);
+        let generation = kept.state.generation;
+        drop(kept);
         if !leads {
-            self.follow(rt, generation);
+            seen = self.follow(rt, generation, seen);
         }
-        BarrierWaitResult { leads }
+        (BarrierWaitResult { leads }, seen)
     }
 
-    // Waits until the group of this generation is full.
-    fn follow<W: Wait>(&self, rt: &W, generation: usize) {
-        R::retry(rt, (), |()| {
-            if barrier::may_leave(*self.state.lock(rt), generation) {
-                Ok(())
-            } else {
-                Err(())
-            }
-        })
+    // Waits until the group of this generation is full. Returns what the party then knows.
+    fn follow<W: Wait>(&self, rt: &W, generation: usize, seen: K::Seen) -> K::Seen
+        requires { K.follows seen generation }
+        ensures { K.left seen result }
+    {
+        R::retry(
+            rt,
+            (),
+            move |()| -> Result<K::Seen, ()>
+                requires { K.follows seen generation }
+                ensures { IfOk result (λ found. K.left seen found) }
+            { self.state.lock(rt).look(generation, &seen) },
+        )
     }
 }

@@ -6,3 +6,5 @@
 
 pub mod barrier;
 pub mod gate;
+pub mod keep;
+pub mod roll;

@@ -1,0 +1,109 @@
+-- One more arrival at a barrier whose arrivals are kept.
+use Rattle.std.proofs.Common.{◌≡◌, ◌∙◌, refl, List, [], ◌∷◌, ◌++◌, ℕ, ◌+◌, ◌-◌, ◌*◌, ◌/◌, ◌%◌, ◌<◌, ◌≤◌, ◌==◌, Bool, true, false, not, sym, subst, ap, MatchBool, arith}
+use Rattle.std.specs.Prelude.{max, length}
+use mathlib.Core.List.{IsPrefix}
+use mir.Val.{bool_byte}
+use Rattle.std.proofs.lemmas.List.{append_assoc}
+use Rattle.std.proofs.lemmas.Nat.{div-add-mod', div-mul-add}
+use Rattle.std.proofs.Math.ListN.{length-append}
+use Rattle.std.proofs.Math.Nat.{mod-lt, mod-eq_of_lt, mul-add-mod_self_right, suc-mul, le-max_right, zero-div}
+use Rattle.spin_step.specs.Plain.{fresh}
+use Rattle.spin_step.specs.Barriers.{IsBarrier, arrived, generation_at}
+use Rattle.spin_step_more.proofs.Barriers.{Arrival, barrier_arrive-words, barrier_may_leave-full}
+use Rattle.spin_barrier.specs.Gathered.{gathered, groups, leads, fills, one_if, AllWithin, Arrived, Waited}
+use Rattle.spin_barrier.specs.Keeping.{IsArrival}
+
+parts : (n q g r : ℕ) → n ≡ q * g + r → r < g → (n / g ≡ q) × (n % g ≡ r)
+parts n q g r sum less = (ap (λ j. j / g) sum ∙ div-mul-add q g r less, ap (λ j. j % g) sum ∙ (mul-add-mod_self_right q g r ∙ mod-eq_of_lt less))
+
+within : (k g : ℕ) → k % g + 1 < g → ((k + 1) / g ≡ k / g) × ((k + 1) % g ≡ k % g + 1)
+within k g less = parts (k + 1) (k / g) g (k % g + 1) (omega (arith, div-add-mod' k g)) less
+
+at_end : (k g : ℕ) → k % g + 1 ≡ g → ((k + 1) / g ≡ k / g + 1) × ((k + 1) % g ≡ 0)
+at_end k g last = parts (k + 1) (k / g + 1) g 0 (omega (arith, div-add-mod' k g, suc-mul (k / g) g, last)) (omega (arith, last))
+
+by_parts : (k g : ℕ) → 0 < g → (k + 1) / g ≡ k / g + one_if (((k + 1) % g) == 0)
+by_parts k g some = grind (arith, mod-lt k some, within k g, at_end k g)
+
+-- one more group is full after an arrival that leads, and else as many as before
+groups-grow : (n k : ℕ) → groups n (k + 1) ≡ groups n k + one_if (leads n (k + 1))
+groups-grow n k = by_parts k (max n 1) (le-max_right n 1)
+
+-- the words after one more arrival, and whether it leads
+pub one_more : (g k n count generation : ℕ) (b : Bool) (n' count' generation' : ℕ) → IsBarrier (gathered g k) n count generation → IsArrival n count generation b n' count' generation' → IsBarrier (gathered g (k + 1)) n' count' generation' × (b ≡ leads g (k + 1))
+one_more g k n count generation b n' count' generation' is a =
+    let after : Arrival (gathered g k) n (arrived n count generation) generation = barrier_arrive-words (gathered g k) n count generation is in (
+      subst (λ (z : ℕ). IsBarrier (gathered g (k + 1)) z count' generation') (sym a.0)
+          (subst (λ (x : (ℕ × ℕ) × Bool). IsBarrier (gathered g (k + 1)) n x.0.0 x.0.1) (sym a.1) after.words),
+      ap (λ (x : (ℕ × ℕ) × Bool). x.1) a.1 ∙ after.leads,
+    )
+
+-- the leaders after one more arrival
+pub led_more : (n k k' l l' : ℕ) (b : Bool) → k' ≡ k + 1 → l ≡ groups n k → l' ≡ l + one_if b → b ≡ leads n (k + 1) → l' ≡ groups n k'
+led_more n k k' l l' b grown before counted led = grind (arith, groups-grow n k)
+
+pub as_byte : (b : Bool) → bool_byte b ≡ one_if b
+as_byte true = refl
+as_byte false = refl
+
+pub longer : {T : Type 0} (k l : List T) → IsPrefix k l → length k ≤ length l
+longer k l p = omega (arith, length-append k p.0, ap length p.1)
+
+-- the words before any arrival
+pub at_first : (g n n' k count generation : ℕ) → g ≡ n → n' ≡ n → k ≡ 0 → IsBarrier (fresh 0 n 0) n count generation → IsBarrier (gathered g k) n' count generation
+at_first g n n' k count generation sized same none is =
+    subst (λ (z : ℕ). IsBarrier (gathered z k) n' count generation) (sym sized)
+    (subst (λ (z : ℕ). IsBarrier (gathered n k) z count generation) (sym same)
+    (subst (λ (z : ℕ). IsBarrier (gathered n z) n count generation) (sym none) is))
+
+pub none_led : (n k l : ℕ) → k ≡ 0 → l ≡ 0 → l ≡ groups n k
+none_led n k l none no_leader = grind (arith, zero-div (max n 1))
+
+-- the last arrival of a group finds its group full
+own_group : (n k : ℕ) → 0 < k → leads n k ≡ true → fills n k ≤ k
+own_group n k some last = let g : ℕ = max n 1 in
+    let last' : k % g ≡ 0 = grind (arith, last) in
+    let whole : k ≡ (k / g) * g = omega (arith, div-add-mod' k g, last') in
+    let positive : 0 < k / g = grind (arith, some, whole) in
+    let before : k - 1 ≡ (k / g - 1) * g + (g - 1) = omega (arith, whole, suc-mul (k / g - 1) g, positive, ap (λ q. q * g) (one_less (k / g) positive), le-max_right n 1) in
+    let same : (k - 1) / g ≡ k / g - 1 = (parts (k - 1) (k / g - 1) g (g - 1) before (omega (arith, le-max_right n 1))).0 in
+    omega (arith, whole, ap (λ q. (q + 1) * g) same, ap (λ q. q * g) (one_less (k / g) positive))
+  where
+    one_less : (q : ℕ) → 0 < q → q - 1 + 1 ≡ q
+    one_less q some = omega arith
+
+-- an arrival that does not lead and finds another generation finds its group full
+pub leaves : (g t n k l count generation own : ℕ) → IsBarrier (gathered g t) n count generation → l ≡ t → k ≤ l → generation_at (gathered g 0) k ≡ own → leads g k ≡ false → not (generation == own) ≡ true → fills g k ≤ l
+leaves g t n k l count generation own is listed known at follows leave =
+    subst (λ (z : ℕ). fills g k ≤ z) (sym listed)
+    (barrier_may_leave-full (gathered g t) k n count generation own is (subst (λ (z : ℕ). k ≤ z) listed known) at follows leave)
+
+module _ {X : Type 0} (size : X → ℕ) where
+  pub within_more : (l : List X) (a b : ℕ) → AllWithin size l a → a ≤ b → AllWithin size l b
+  within_more [] a b all more = tt
+  within_more (y ∷ l) a b all more = (omega (arith, all.0, more), within_more l a b all.1 more)
+
+  pub within_push : (l : List X) (x : X) (a b : ℕ) → AllWithin size l a → a ≤ b → size x ≤ b → AllWithin size (l ++ x ∷ []) b
+  within_push [] x a b all more new = (new, tt)
+  within_push (y ∷ l) x a b all more new = (omega (arith, all.0, more), within_push l x a b all.1 more new)
+
+pub pushed : {X : Type 0} (now l : List X) (x : X) → now ≡ l ++ x ∷ [] → length now ≡ length l + 1
+pushed now l x e = ap length e ∙ length-append l (x ∷ [])
+
+-- a party that leads, and one that does not
+pub by_leads : {A B C : Type 0} (b : Bool) → (b ≡ true → A → C) → (b ≡ false → B → C) → MatchBool b A B → C
+by_leads true led followed m = led refl m
+by_leads false led followed m = followed refl m
+
+module _ {X : Type 0} (n : ℕ) (seen : List X) (mine : X) (b : Bool) (there now : List X) where
+  place : b ≡ leads n (length there) → (a : Arrived seen mine there) → b ≡ leads n (length a.0 + 1)
+  place tells a = tells ∙ ap (leads n) (pushed there a.0 mine a.1.1)
+
+  pub waited_leading : b ≡ leads n (length there) → Arrived seen mine there → b ≡ true → now ≡ there → Waited n seen mine b now
+  waited_leading tells a led same = let k : ℕ = length a.0 + 1 in
+      let long : length now ≡ k = ap length same ∙ pushed there a.0 mine a.1.1 in
+      (a.0, [], (a.1.0, (same ∙ a.1.1, (place tells a, subst (λ (z : ℕ). fills n k ≤ z) (sym long) (own_group n k (omega arith) (sym (place tells a) ∙ led))))))
+
+  pub waited_following : b ≡ leads n (length there) → Arrived seen mine there → fills n (length there) ≤ length now → IsPrefix there now → Waited n seen mine b now
+  waited_following tells a full p =
+      (a.0, p.0, (a.1.0, (sym p.1 ∙ (ap (λ (z : List X). z ++ p.0) a.1.1 ∙ append_assoc a.0 (mine ∷ []) p.0), (place tells a, subst (λ (z : ℕ). fills n z ≤ length now) (pushed there a.0 mine a.1.1) full))))
