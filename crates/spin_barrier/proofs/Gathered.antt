@@ -1,17 +1,21 @@
 -- One more arrival at a barrier whose arrivals are kept.
-use Rattle.std.proofs.Common.{◌≡◌, ◌∙◌, refl, List, [], ◌∷◌, ◌++◌, ℕ, ◌+◌, ◌-◌, ◌*◌, ◌/◌, ◌%◌, ◌<◌, ◌≤◌, ◌==◌, Bool, true, false, not, sym, subst, ap, MatchBool, arith}
+use Rattle.std.proofs.Common.{◌≡◌, ◌∙◌, ◌⊎◌, Option, Some, IfSome, le_refl, le_trans, refl, List, [], ◌∷◌, ◌++◌, ℕ, ◌+◌, ◌-◌, ◌*◌, ◌/◌, ◌%◌, ◌<◌, ◌≤◌, ◌==◌, Bool, true, false, not, sym, subst, ap, MatchBool, arith}
 use Rattle.std.specs.Prelude.{max, length}
 use mathlib.Core.List.{IsPrefix}
+use mathlib.Core.Logic.{inl, inr}
+use base.Growing.{prefix_trans}
 use mir.Val.{bool_byte}
-use Rattle.std.proofs.lemmas.List.{append_assoc}
+use Rattle.std.proofs.lemmas.List.{append-nil, append_assoc}
 use Rattle.std.proofs.lemmas.Nat.{div-add-mod', div-mul-add}
 use Rattle.std.proofs.Math.ListN.{length-append}
-use Rattle.std.proofs.Math.Nat.{mod-lt, mod-eq_of_lt, mul-add-mod_self_right, suc-mul, le-max_right, zero-div}
+use Rattle.std.proofs.Math.Nat.{mod-lt, mod-eq_of_lt, mul-add-mod_self_right, suc-mul, le-max_left, le-max_right}
 use Rattle.spin_step.specs.Plain.{fresh}
 use Rattle.spin_step.specs.Barriers.{IsBarrier, arrived, generation_at}
 use Rattle.spin_step_more.proofs.Barriers.{Arrival, barrier_arrive-words, barrier_may_leave-full}
-use Rattle.spin_barrier.specs.Gathered.{gathered, groups, leads, fills, one_if, AllWithin, Arrived, Waited}
+use Rattle.spin_barrier.specs.Gathered.{gathered, groups, leads, fills, one_if, AllWithin, Arrived, Waited, Told}
 use Rattle.spin_barrier.specs.Keeping.{IsArrival}
+use Rattle.spin_history.specs.Entries.{last, InOrder}
+use Rattle.spin_history.proofs.Entries.{later}
 
 parts : (n q g r : ℕ) → n ≡ q * g + r → r < g → (n / g ≡ q) × (n % g ≡ r)
 parts n q g r sum less = (ap (λ j. j / g) sum ∙ div-mul-add q g r less, ap (λ j. j % g) sum ∙ (mul-add-mod_self_right q g r ∙ mod-eq_of_lt less))
@@ -56,8 +60,10 @@ at_first g n n' k count generation sized same none is =
     (subst (λ (z : ℕ). IsBarrier (gathered n k) z count generation) (sym same)
     (subst (λ (z : ℕ). IsBarrier (gathered n z) n count generation) (sym none) is))
 
-pub none_led : (n k l : ℕ) → k ≡ 0 → l ≡ 0 → l ≡ groups n k
-none_led n k l none no_leader = grind (arith, zero-div (max n 1))
+-- no thread has arrived, and nothing is held
+pub none_held : (n count generation each held amount : ℕ) → IsBarrier (fresh 0 n 0) n count generation → held ≡ 0 → amount ≡ 0 → (held ≡ count) × (amount ≡ count * each)
+none_held n count generation each held amount is no_parts nothing = let none : count ≡ 0 = sym is.counts ∙ mod-eq_of_lt (le-max_right n 1) in
+    (no_parts ∙ sym none, grind (arith, none, nothing))
 
 -- the last arrival of a group finds its group full
 own_group : (n k : ℕ) → 0 < k → leads n k ≡ true → fills n k ≤ k
@@ -107,3 +113,34 @@ module _ {X : Type 0} (n : ℕ) (seen : List X) (mine : X) (b : Bool) (there now
   pub waited_following : b ≡ leads n (length there) → Arrived seen mine there → fills n (length there) ≤ length now → IsPrefix there now → Waited n seen mine b now
   waited_following tells a full p =
       (a.0, p.0, (a.1.0, (sym p.1 ∙ (ap (λ (z : List X). z ++ p.0) a.1.1 ∙ append_assoc a.0 (mine ∷ []) p.0), (place tells a, subst (λ (z : ℕ). fills n z ≤ length now) (pushed there a.0 mine a.1.1) full))))
+
+-- a group has arrived once the group of some arrival is full
+pub a_group : (n k m : ℕ) → fills n k ≤ m → n ≤ m
+a_group n k m full = omega (arith, full, suc-mul ((k - 1) / max n 1) (max n 1), le-max_left n 1)
+
+module _ {X : Type 0} where
+  whole : (k t l : List X) → k ++ t ≡ l → length l ≤ length k → k ≡ l
+  whole k [] l e short = sym (append-nil k) ∙ e
+  whole k (x ∷ t) l e short = absurd (omega (arith, short, ap length e, length-append k (x ∷ t)))
+
+  -- of two lists of which one is a prefix of the other, the shorter one is the prefix
+  pub shorter : (k l : List X) → IsPrefix k l ⊎ IsPrefix l k → length k ≤ length l → IsPrefix k l
+  shorter k l (inl p) short = p
+  shorter k l (inr p) short = ([], append-nil k ∙ sym (whole l p.0 k p.1 short))
+
+  module _ (size : X → ℕ) where
+    within_at : (k l : List X) (x : X) (b : ℕ) → AllWithin size (k ++ x ∷ l) b → size x ≤ b
+    within_at [] l x b all = all.0
+    within_at (y ∷ k) l x b all = within_at k l x b all.1
+
+    -- who knows of an arrival has heard what it told
+    pub hears : (theirs mine : List X) (told heard : ℕ) → IsPrefix theirs mine → Told size told theirs → AllWithin size mine heard → told ≤ heard
+    hears theirs mine told heard p t all =
+        let found : mine ≡ t.0 ++ t.2 ∷ (t.1 ++ p.0) = sym p.1 ∙ (ap (λ (z : List X). z ++ p.0) t.3.0 ∙ append_assoc t.0 (t.2 ∷ t.1) p.0) in
+        le_trans t.3.1 (within_at t.0 (t.1 ++ p.0) t.2 heard (subst (λ (z : List X). AllWithin size z heard) found all))
+
+-- A reading of a number that never falls, by a party that has heard what another told, is at least what that one had read.
+pub reads_on : (told known now : List ℕ) (x y : ℕ) → IsPrefix told known → IsPrefix known now → InOrder (λ a b. a ≤ b) now → last told ≡ Some x → last now ≡ Some y → x ≤ y
+reads_on told known now x y heard later_on order x_last y_last =
+    subst (λ (o : Option ℕ). IfSome o (λ before. before ≤ y)) x_last
+    (later (λ a b. a ≤ b) (λ a. le_refl a) (λ a b c h g. le_trans h g) told now y (prefix_trans told known now heard later_on) order y_last)

@@ -43,6 +43,6 @@ Arrived {X} seen mine now = (before : List X) × ((length seen ≤ length before
 abbrev pub Waited : {X : Type 0} → ℕ → List X → X → Bool → List X → Type 0
 Waited {X} n seen mine led now = (before after : List X) × ((length seen ≤ length before) × ((now ≡ before ++ mine ∷ after) × ((led ≡ leads n (length before + 1)) × (fills n (length before + 1) ≤ length now))))
 
--- one of the entries has this size
+-- one of the entries has at least this size
 abbrev pub Told : {X : Type 0} → (X → ℕ) → ℕ → List X → Type 0
-Told {X} size b l = (before after : List X) × (x : X) × ((l ≡ before ++ x ∷ after) × (size x ≡ b))
+Told {X} size b l = (before after : List X) × (x : X) × ((l ≡ before ++ x ∷ after) × (b ≤ size x))

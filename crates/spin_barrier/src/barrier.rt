@@ -76,6 +76,20 @@ impl<R> Barrier<R> {
     }
 }
 
+// The one body of `wait` and `wait_with`. It is a macro, since each call that may wait costs its caller a test of a byte.
+macro_rules! wait_at {
+    ($barrier:expr, $rt:expr, $own:expr, $seen:ident) => {{
+        let mut kept = $barrier.state.lock($rt);
+        let leads = kept.arrive($own, &mut $seen);
+        let generation = kept.state.generation;
+        drop(kept);
+        if !leads {
+            $seen = $barrier.follow($rt, generation, $seen);
+        }
+        (BarrierWaitResult { leads }, $seen)
+    }};
+}
+
 impl<R: RelaxStrategy> Barrier<R> {
     /// Arrives at the barrier, and spins until the group is full.
     ///
@@ -88,7 +102,8 @@ impl<R: RelaxStrategy> Barrier<R> {
     /// one thread leads. The same code says so of a barrier with a [`Roll`](crate::roll::Roll), where
     /// arrivals have names.
     pub fn wait<W: Wait>(&self, rt: &W) -> BarrierWaitResult {
-        self.wait_with(rt, &mut (), ()).0
+        let mut seen = ();
+        wait_at!(self, rt, &mut (), seen).0
     }
 }
 
@@ -109,14 +124,7 @@ impl<R: RelaxStrategy, K: Keeper> Barrier<R, K> {
         ensures { Waits K.came K.left own.old seen result.0.leads own.new result.1 }
     {
         let mut seen = seen;
-        let mut kept = self.state.lock(rt);
-        let leads = kept.arrive(own, &mut seen);
-        let generation = kept.state.generation;
-        drop(kept);
-        if !leads {
-            seen = self.follow(rt, generation, seen);
-        }
-        (BarrierWaitResult { leads }, seen)
+        wait_at!(self, rt, own, seen)
     }
 
     // Waits until the group of this generation is full. Returns what the party then knows.

@@ -7,4 +7,5 @@
 pub mod barrier;
 pub mod gate;
 pub mod keep;
+pub mod pool;
 pub mod roll;

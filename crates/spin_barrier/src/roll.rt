@@ -4,12 +4,12 @@ ghost use Rattle.std.specs.Prelude.{◌≡◌, ◌≤◌, ◌<◌, ◌+◌, ℕ,
 ghost use Rattle.std.proofs.Props.{props};
 ghost use mathlib.Core.List.{IsPrefix};
 ghost use Rattle.spin_step.specs.Barriers.{IsBarrier, generation_at};
-ghost use Rattle.spin_barrier.specs.Gathered.{gathered, groups, leads, fills, one_if, Arrived, Waited, AllWithin, AllWithin-prop};
+ghost use Rattle.spin_barrier.specs.Gathered.{gathered, groups, leads, fills, one_if, Arrived, Waited, Told, AllWithin, AllWithin-prop};
 
 use crate::barrier::{Barrier, BarrierWaitResult};
 use crate::keep::{Keeper, Kept};
 use spin_core::relax::RelaxStrategy;
-use spin_history::history::{BlankLog, History, Log, Snapshot};
+use spin_history::history::{BlankLog, ClosedLog, History, Log, Snapshot};
 use spin_mutex::mutex::Mutex;
 use spin_step_more::barrier::State;
 use std::marker::Brand;
@@ -35,11 +35,15 @@ pub struct Party<N: Groups, L: Ledger> {
     pub led: Share<L>,
 }
 
-/// What a party knows: which arrivals there were, and what was told. It has no bytes.
+/// What a party knows: some arrivals, and all that these told. It has no bytes.
+///
+/// An arrival tells what its party knows of a log of the client's, such as that of a `Register`. How much that is, is
+/// measured by the number of its entries.
 #[derive(Drop)]
 pub struct Known<H: History, V, G: History> {
     pub arrivals: Snapshot<Snapshot<V, G>, H>,
     pub told: Snapshot<V, G>,
+    ghost heard: { AllWithin (λ one. length one.entries) arrivals.entries (length told.entries) } by { AllWithin-prop (λ one. length one.entries) arrivals.entries (length told.entries) },
 }
 
 impl<N: Groups, L: Ledger> Party<N, L> {
@@ -80,6 +84,43 @@ impl<H: History, V, G: History> Known<H, V, G> {
             told: self.told.copy(),
         }
     }
+
+    /// Adds what a snapshot of the client's log knows. The next arrival tells it.
+    pub fn learn(&mut self, seen: &Snapshot<V, G>)
+        ensures arrivals { self.new.arrivals.entries ≡ self.old.arrivals.entries }
+        ensures told { IsPrefix self.old.told.entries self.new.told.entries × IsPrefix seen.now.entries self.new.told.entries }
+        ensures count { length seen.now.entries ≤ length self.new.told.entries }
+    {
+        let Known { arrivals: _, told } = self;
+        told.merge(seen);
+    }
+
+    /// Adds what this party knows of the client's log to a snapshot.
+    pub fn teach(&self, seen: &mut Snapshot<V, G>)
+        ensures { IsPrefix seen.old.entries seen.new.entries × IsPrefix self.now.told.entries seen.new.entries }
+    {
+        seen.merge(&self.told);
+    }
+
+    /// Shows that this party, which knows of all arrivals, has heard what another one told.
+    ///
+    /// # Contract
+    /// One of the other's arrivals has to have told it, or more.
+    pub fn hears(
+        &self,
+        other: &Known<H, V, G>,
+        told: &Snapshot<V, G>,
+        all: &ClosedLog<Snapshot<V, G>, H>,
+    )
+        requires told { Told (λ one. length one.entries) (length told.now.entries) other.now.arrivals.entries }
+        requires all { length all.now.entries ≤ length self.now.arrivals.entries }
+        ensures { IsPrefix told.now.entries self.now.told.entries }
+    {
+        let mut theirs = other.arrivals.copy();
+        all.observe(&mut theirs);
+        theirs.compare(&self.arrivals);
+        told.compare(&self.told);
+    }
 }
 
 /// The arrivals at a barrier, and what they told. It has no bytes.
@@ -106,8 +147,8 @@ impl<N: Groups, L: Ledger, H: History, V, G: History> Keeper for Roll<N, L, H, V
     ghost ready = { λ own seen. (0 < own.came.parts) × (0 < own.led.parts) };
 
     ghost came = { λ own seen led own' there.
-        ((led ≡ leads N.group (length there.arrivals.entries)) × (Arrived seen.arrivals.entries seen.told there.arrivals.entries × AllWithin (λ one. length one.entries) there.arrivals.entries (length there.told.entries)))
-        × (IsPrefix seen.told.entries there.told.entries)
+        ((led ≡ leads N.group (length there.arrivals.entries)) × Arrived seen.arrivals.entries seen.told there.arrivals.entries)
+        × IsPrefix seen.told.entries there.told.entries
         × ((own'.came.amount ≡ own.came.amount + 1) × (own'.led.amount ≡ own.led.amount + one_if led))
         × ((own'.came.parts ≡ own.came.parts) × (own'.led.parts ≡ own.led.parts)) };
 
@@ -115,7 +156,7 @@ impl<N: Groups, L: Ledger, H: History, V, G: History> Keeper for Roll<N, L, H, V
 
     ghost left = { λ there now.
         (fills N.group (length there.arrivals.entries) ≤ length now.arrivals.entries)
-        × (IsPrefix there.arrivals.entries now.arrivals.entries × AllWithin (λ one. length one.entries) now.arrivals.entries (length now.told.entries))
+        × IsPrefix there.arrivals.entries now.arrivals.entries
         × IsPrefix there.told.entries now.told.entries };
 
     fn arrive(
@@ -132,20 +173,24 @@ impl<N: Groups, L: Ledger, H: History, V, G: History> Keeper for Roll<N, L, H, V
             log,
             told,
         } = self;
-        log.observe(&mut seen.arrivals);
+        let Known {
+            arrivals,
+            told: mine,
+        } = seen;
+        log.observe(arrivals);
         came.add(&mut own.came, 1);
         led.add(&mut own.led, leads as u64);
-        log.append(&seen.told);
-        told.merge(&seen.told);
-        log.observe(&mut seen.arrivals);
-        seen.told.merge(told);
+        log.append(mine);
+        told.merge(mine);
+        log.observe(arrivals);
+        mine.merge(told);
     }
 
     fn look(&self, _state: State, _generation: usize, seen: &Known<H, V, G>) -> Known<H, V, G> {
-        let mut now = seen.copy();
-        self.log.observe(&mut now.arrivals);
-        now.told.merge(&self.told);
-        now
+        let (mut arrivals, mut told) = (seen.arrivals.copy(), seen.told.copy());
+        self.log.observe(&mut arrivals);
+        told.merge(&self.told);
+        Known { arrivals, told }
     }
 }
 
@@ -190,18 +235,17 @@ impl<R, N: Groups, L: Ledger, H: History, V, G: History> Barrier<R, Roll<N, L, H
         (Barrier { state }, party, known)
     }
 
-    /// Ends the barrier. Needs all parts of its ledgers.
+    /// Ends the barrier, and returns the list of all arrivals. Needs all parts of its ledgers.
     ///
     /// # Contract
     /// As many threads have led as groups are full: the arrivals divided by the size of a group, which counts as 1 if it
     /// is 0.
-    pub fn close(self, every: &mut Party<N, L>, known: &mut Known<H, V, G>)
+    pub fn close(self, every: &mut Party<N, L>) -> ClosedLog<Snapshot<V, G>, H>
         requires came { every.old.came.parts ≡ N.parts }
         requires led { every.old.led.parts ≡ L.parts }
-        ensures led { every.new.led.amount ≡ groups N.group every.new.came.amount }
+        ensures led { every.old.led.amount ≡ groups N.group every.old.came.amount }
         ensures same { (every.new.came.amount ≡ every.old.came.amount) × (every.new.led.amount ≡ every.old.led.amount) }
-        ensures all { length known.new.arrivals.entries ≡ every.new.came.amount }
-        ensures known { IsPrefix known.old.arrivals.entries known.new.arrivals.entries }
+        ensures all { length result.entries ≡ every.old.came.amount }
     {
         let Self { state } = self;
         let Kept { state: _, keep } = state.into_inner();
@@ -213,7 +257,7 @@ impl<R, N: Groups, L: Ledger, H: History, V, G: History> Barrier<R, Roll<N, L, H
         } = keep;
         came.audit(&mut every.came);
         led.audit(&mut every.led);
-        log.observe(&mut known.arrivals);
+        log.close()
     }
 }
 
@@ -227,7 +271,8 @@ impl<R: RelaxStrategy, N: Groups, L: Ledger, H: History, V, G: History> Barrier<
     /// The party's arrival is the k-th one, for some k that it had not seen before, and it told what `known.told` knew. It
     /// leads exactly if it fills its group, and then counts once more as a leader. When the call returns, all of its
     /// group have arrived: the party knows of as many arrivals as fill the group of the k-th one (`waited`). And
-    /// `known.told` then knows what each of these told (`heard`). Whether and when the call returns is not promised.
+    /// `known.told` then knows what each of these told (`heard` of [`Known`]). Whether and when the call returns is not
+    /// promised.
     pub fn wait<W: Wait>(
         &self,
         rt: &W,
@@ -237,7 +282,7 @@ impl<R: RelaxStrategy, N: Groups, L: Ledger, H: History, V, G: History> Barrier<
         requires counts { 0 < party.old.came.parts }
         requires tells { 0 < party.old.led.parts }
         ensures waited { Waited N.group known.old.arrivals.entries known.old.told result.leads known.new.arrivals.entries }
-        ensures heard { AllWithin (λ one. length one.entries) known.new.arrivals.entries (length known.new.told.entries) }
+        ensures group { N.group ≤ length known.new.arrivals.entries }
         ensures told { IsPrefix known.old.told.entries known.new.told.entries }
         ensures came { party.new.came.amount ≡ party.old.came.amount + 1 }
         ensures led { party.new.led.amount ≡ party.old.led.amount + one_if result.leads }
