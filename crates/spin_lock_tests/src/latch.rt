@@ -1,10 +1,7 @@
-//! What no contract says of a latch: which calls succeed, that threads make progress, and one schedule of its object.
+//! What no contract says of a latch: which calls succeed, and that threads make progress.
 use crate::equal::equal;
 use crate::parts::{Crew, in_threads};
 use spin_core_tests::latch::Latch;
-use spin_core_tests::latch::calls::LatchCall;
-use spin_core_tests::latch::object::LatchObject;
-use spin_world_core::{Move, World};
 use std::process::Abort;
 use std::sync::Wait;
 
@@ -53,36 +50,4 @@ fn two_threads_write_and_read(rt: HostRuntime) {
     let same = in_threads(&rt, rt.alloc(), &both, 2);
     equal(&rt, same.as_slice(), [true; 2].as_slice());
     equal(&rt, both.0.into_inner(), (2 * TURNS, 2 * TURNS));
-}
-
-/// The moves of two readers and a writer, and the word after them.
-const SCHEDULE: &[(usize, Move<LatchCall, ()>, usize)] = &[
-    (0, Move::Begin(LatchCall::TryRead), 0),
-    (0, Move::Step, 0),
-    (0, Move::Step, 2),
-    (1, Move::Begin(LatchCall::Read), 2),
-    (1, Move::Step, 2),
-    (1, Move::Step, 4),
-    (2, Move::Begin(LatchCall::TryWrite), 4),
-    (2, Move::Step, 4),
-    (0, Move::Begin(LatchCall::ReleaseRead), 4),
-    (0, Move::Step, 2),
-    (2, Move::Begin(LatchCall::Write), 2),
-    (2, Move::Step, 2),
-    (1, Move::Begin(LatchCall::ReleaseRead), 2),
-    (1, Move::Step, 0),
-    (2, Move::Step, 1),
-    (0, Move::Begin(LatchCall::TryRead), 1),
-    (0, Move::Step, 1),
-    (2, Move::Begin(LatchCall::ReleaseWrite), 1),
-    (2, Move::Step, 0),
-];
-
-#[test]
-fn a_schedule_goes_by_the_table(rt: HostRuntime) {
-    let mut world = World::new(rt.alloc(), LatchObject::new(), 3).expect(&rt, "memory");
-    for (party, action, word) in SCHEDULE {
-        world.act(*party, *action);
-        equal(&rt, world.words(), *word);
-    }
 }

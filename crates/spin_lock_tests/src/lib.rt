@@ -3,8 +3,6 @@
 #![tactic(auto)]
 
 #[cfg(test)]
-mod ends;
-#[cfg(test)]
 mod equal;
 #[cfg(test)]
 mod granted;
@@ -17,16 +15,10 @@ mod once;
 #[cfg(test)]
 mod parts;
 #[cfg(test)]
-mod relax;
-#[cfg(test)]
 mod rwlock;
 #[cfg(test)]
 mod sends;
 #[cfg(test)]
 mod small;
-#[cfg(test)]
-mod steps;
-#[cfg(test)]
-mod texts;
 #[cfg(test)]
 mod waiting;

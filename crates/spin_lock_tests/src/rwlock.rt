@@ -1,4 +1,3 @@
 //! `RwLock`.
-mod calls;
 mod threads;
 mod values;

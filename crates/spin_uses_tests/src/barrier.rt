@@ -21,16 +21,6 @@ fn a_barrier_travels_whatever_its_strategy_is(rt: HostRuntime) {
     travels::<Spin>();
 }
 
-#[test]
-fn a_group_of_none_is_a_group_of_one(rt: HostRuntime) {
-    for n in [0, 1] {
-        let barrier: Barrier = Barrier::new(n);
-        for _ in 0..3 {
-            equal(&rt, barrier.wait(&rt).is_leader(), true);
-        }
-    }
-}
-
 const LOOKS: u32 = 100_000;
 
 /// The results of one round of ten threads.

@@ -22,7 +22,7 @@ use std::thread::{Threads, join};
 const KEYS: u64 = 100;
 
 /// The square of the key, modulo 2^64.
-struct Squares;
+pub struct Squares;
 
 impl Answers for Squares {
     type Key = u64;
@@ -36,10 +36,10 @@ impl Answers for Squares {
     ghost respects_clone = { Prim.search rules };
 }
 
-type SquareCache = Cache<Squares, Global, Yield>;
+pub type SquareCache = Cache<Squares, Global, Yield>;
 
 // What a caller knows of an answer, whichever thread made it. The call counts the squares that it had to make itself.
-fn square<W: Wait>(
+pub fn square<W: Wait>(
     rt: &W,
     cache: &SquareCache,
     key: u64,
@@ -84,19 +84,6 @@ fn threads_make_each_answer_once(rt: HostRuntime) {
     let right = in_threads(&rt, rt.alloc(), &both, 2);
     equal(&rt, right.as_slice(), [true; 2].as_slice());
     equal(&rt, both.made.load(SeqCst), KEYS);
-}
-
-// If a caller asked for exclusive access, it would wait for ever for the reader, which never leaves.
-#[test]
-fn an_answer_that_is_there_takes_no_write(rt: HostRuntime) {
-    let cache: SquareCache = Cache::new(rt.alloc());
-    let made = Cell::new(0);
-    equal(&rt, square(&rt, &cache, 3, &made), Ok(9));
-    let reader = cache.read(&rt);
-    equal(&rt, square(&rt, &cache, 3, &made), Ok(9));
-    equal(&rt, reader.answer(&3).copied(), Some(9));
-    equal(&rt, reader.answer(&4).copied(), None);
-    equal(&rt, made.get(), 1);
 }
 
 /// Threads that read a square that exists.
@@ -206,33 +193,6 @@ fn a_cache_of_texts(rt: HostRuntime) {
         let wanted = name.to_ascii_uppercase(rt.alloc()).expect(&rt, "memory");
         equal(&rt, shouted, wanted);
     }
-}
-
-/// Why no answer was made.
-#[derive(Clone, Copy, Debug, PartialEq, Eq)]
-enum Unmade {
-    Odd,
-    NoMemory,
-}
-
-impl From<AllocError> for Unmade {
-    fn from(_refused: AllocError) -> Unmade {
-        Unmade::NoMemory
-    }
-}
-
-// An answer that was refused is asked for again by the next caller.
-#[test]
-fn an_answer_that_is_refused_is_not_kept(rt: HostRuntime) {
-    let cache: SquareCache = Cache::new(rt.alloc());
-    equal(
-        &rt,
-        cache.answer(&rt, 3, |_| Err(Unmade::Odd)),
-        Err(Unmade::Odd),
-    );
-    let made = cache.answer(&rt, 3, |key| Ok::<_, Unmade>(key.wrapping_mul(*key)));
-    equal(&rt, made, Ok(9));
-    equal(&rt, cache.answer(&rt, 3, |_| Err(Unmade::Odd)), Ok(9));
 }
 
 /// Any number may be the answer for a key.

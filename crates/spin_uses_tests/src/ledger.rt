@@ -2,7 +2,6 @@
 ghost use Rattle.std.specs.Prelude.{◌≡◌, ◌<◌, ◌^◌, sum};
 
 use super::equal::equal;
-use bumpalo::Bump;
 use spin_uses::ledger::{Accounts, Ledger, Opening, Refused, Transfer, replay, total};
 use std::alloc::{Allocator, Global};
 use std::marker::Brand;
@@ -10,12 +9,16 @@ use std::process::Abort;
 use std::sync::Wait;
 use std::thread::{Threads, join};
 
-fn transfer(from: usize, to: usize, amount: u64) -> Transfer {
+pub fn transfer(from: usize, to: usize, amount: u64) -> Transfer {
     Transfer { from, to, amount }
 }
 
 /// Compares each account's balance, and the total.
-fn holds<O: Opening, A: Allocator, R: Abort>(rt: &R, accounts: &Accounts<O, A>, told: [u64; 3]) {
+pub fn holds<O: Opening, A: Allocator, R: Abort>(
+    rt: &R,
+    accounts: &Accounts<O, A>,
+    told: [u64; 3],
+) {
     let [first, second, third] = told;
     equal(rt, accounts.balance(0), Some(first));
     equal(rt, accounts.balance(1), Some(second));
@@ -55,17 +58,6 @@ fn makes_and_refuses<O: Opening, R: Abort>(rt: &R, alloc: Global, balances: Vec<
 fn a_transfer_is_made_whole_or_not_at_all(rt: HostRuntime) {
     let balances = [100, 20, 0].to_vec(rt.alloc()).expect(&rt, "memory");
     makes_and_refuses::<Brand, _>(&rt, rt.alloc(), balances);
-}
-
-#[test]
-fn a_journal_is_replayed(rt: HostRuntime) {
-    let journal = [transfer(0, 2, 30), transfer(2, 1, 10)];
-    let balances = replay(rt.alloc(), &[100, 20, 0], &journal).expect(&rt, "memory");
-    equal(&rt, balances.as_slice(), [70, 30, 20].as_slice());
-    let refused = replay(rt.alloc(), &[29, 20, 0], &journal);
-    equal(&rt, refused.err(), Some(Refused::TooLittle));
-    let refused = replay(rt.alloc(), &[100, 20], &journal);
-    equal(&rt, refused.err(), Some(Refused::NoSuchAccount));
 }
 
 /// Makes random transfers between random accounts, as many as `turns`. Returns how many succeeded.
@@ -123,48 +115,4 @@ fn threads_trade_and_leave_the_total(rt: HostRuntime) {
     let opening = [100, 20, 0];
     let balances = opening.to_vec(rt.alloc()).expect(&rt, "memory");
     trades_in_two::<Brand, _>(&rt, rt.alloc(), &opening, balances);
-}
-
-/// Makes a transfer, and replays the journal, with this many bytes of memory left. Returns whether memory sufficed for
-/// both.
-fn is_refused_whole<'a, O: Opening, R: Abort>(
-    rt: &R,
-    arena: &'a Bump,
-    left: usize,
-    balances: Vec<u64, &'a Bump>,
-) -> bool
-    requires opening { balances.items ≡ O.balances }
-    requires fits { sum O.balances < 2 ^ 64 }
-{
-    arena.set_allocation_limit(Some(0));
-    let filled = arena.chunk_capacity().saturating_sub(left);
-    let filled = Vec::<u8, &'a Bump>::with_capacity(arena, filled).expect(rt, "memory");
-    let mut accounts: Accounts<O, &'a Bump> = Accounts::open(arena, balances);
-    let first = accounts.transfer(transfer(0, 2, 30));
-    let again = replay(arena, &[100, 20, 0], accounts.journal()).err();
-    drop(filled);
-    if first.is_err() {
-        equal(rt, first, Err(Refused::OutOfMemory));
-        holds(rt, &accounts, [100, 20, 0]);
-        equal(rt, accounts.journal().is_empty(), true);
-        return false;
-    }
-    holds(rt, &accounts, [70, 20, 30]);
-    if again.is_some() {
-        equal(rt, again, Some(Refused::OutOfMemory));
-    }
-    again.is_none()
-}
-
-#[test]
-fn each_allocation_is_refused(rt: HostRuntime) {
-    let mut refused = 0u32;
-    for left in 0..512usize {
-        let arena = Bump::try_with_capacity(rt.alloc(), 1024).expect(&rt, "memory");
-        let balances = Vec::from_slice(&arena, &[100u64, 20, 0]).expect(&rt, "memory");
-        if !is_refused_whole::<Brand, _>(&rt, &arena, left, balances) {
-            refused = refused.saturating_add(1);
-        }
-    }
-    equal(&rt, 24 <= refused && refused < 512, true);
 }

@@ -21,13 +21,9 @@ mod guide;
 #[cfg(test)]
 mod ledger;
 #[cfg(test)]
-mod names;
-#[cfg(test)]
 mod parts;
 #[cfg(test)]
 mod phases;
-#[cfg(test)]
-mod registers;
 #[cfg(test)]
 mod seated;
 #[cfg(test)]

@@ -1,5 +1,4 @@
 //! Tests of the seated locks and of their callers: what no contract says of them.
 mod callers;
 mod calls;
-mod memory;
 mod readers;

@@ -1,4 +1,4 @@
-//! What no contract says: which calls succeed, what the count tells, and that threads make progress.
+//! What no contract says: no more threads sit than there are seats, and threads make progress.
 mod passes;
 
 use super::equal::equal;
@@ -7,25 +7,6 @@ use spin_seats::seats::Seats;
 use std::process::Abort;
 use std::sync::Wait;
 use std::sync::atomic::{AtomicU64, Ordering};
-
-#[test]
-fn as_many_sit_as_there_are_seats(rt: HostRuntime) {
-    let seats: Seats<2> = Seats::new();
-    let unused = seats.count();
-    let first = seats.try_enter(&rt).expect(&rt, "two are free");
-    let second = seats.enter(&rt);
-    let (full, refused) = (seats.count(), seats.try_enter(&rt).is_none());
-    drop(first);
-    let one_left = seats.count();
-    let third = seats.try_enter(&rt).expect(&rt, "one is free");
-    let refused_again = seats.try_enter(&rt).is_none();
-    drop(second);
-    drop(third);
-    equal(&rt, [unused, full, one_left, seats.count()], [0, 2, 1, 0]);
-    let none: Seats<0> = Seats::default();
-    let refused = [refused, refused_again, none.try_enter(&rt).is_none()];
-    equal(&rt, refused, [true; 3]);
-}
 
 /// Threads that take a seat again and again, and count how many are taken.
 #[derive(Drop)]
@@ -55,23 +36,6 @@ fn three_visit_two_seats(rt: HostRuntime) {
     };
     drop(in_threads(&rt, rt.alloc(), &visitors, 3));
     equal(&rt, visitors.seats.count(), 0);
-}
-
-#[test]
-fn a_hundred_sit_at_once(rt: HostRuntime) {
-    let seats: Seats<100> = Seats::new();
-    let mut guards = Vec::new(rt.alloc());
-    for _ in 0..100u32 {
-        let guard = seats.try_enter(&rt).expect(&rt, "one is free");
-        equal(&rt, guards.push(guard).is_ok(), true);
-    }
-    equal(
-        &rt,
-        (seats.count(), seats.try_enter(&rt).is_none()),
-        (100, true),
-    );
-    drop(guards);
-    equal(&rt, seats.count(), 0);
 }
 
 const TRIES: u64 = 400_000;

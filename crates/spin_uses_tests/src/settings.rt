@@ -1,58 +1,12 @@
-//! What no contract says: good texts are read, what each bad line is, and all threads see the same settings.
+//! What a caller knows of the settings of a text, and that all threads see the same.
 ghost use Rattle.spin_uses.specs.Settings.{IsAnswerFor};
 
 use super::equal::equal;
 use super::parts::{Crew, in_threads};
 use spin_core::relax::Yield;
-use spin_uses::settings::{Answer, BadLine, Setting, Settings, SharedSettings};
+use spin_uses::settings::{Answer, BadLine, Settings, SharedSettings};
 use std::process::Abort;
 use std::sync::Wait;
-
-#[test]
-fn a_line_sets_one_thing_or_nothing(rt: HostRuntime) {
-    for (line, setting) in [
-        ("port = 8080", Some(Setting::Port(8080))),
-        ("port = 65535", Some(Setting::Port(65535))),
-        ("port = 65536", None),
-        ("workers = 65536", Some(Setting::Workers(65536))),
-        ("workers = 007", Some(Setting::Workers(7))),
-        ("workers = +7", Some(Setting::Workers(7))),
-        ("workers = -7", None),
-        ("workers = ", None),
-        ("verbose = true", Some(Setting::Verbose(true))),
-        ("verbose = false", Some(Setting::Verbose(false))),
-        ("verbose = 1", None),
-        ("port=8080", None),
-        (" port = 8080", None),
-        ("colour = 7", None),
-        ("", None),
-    ] {
-        equal(&rt, (line, Setting::of_line(line)), (line, setting));
-    }
-}
-
-#[test]
-fn a_text_has_settings_or_a_first_bad_line(rt: HostRuntime) {
-    let settings = Settings {
-        port: 80,
-        workers: 1,
-        verbose: true,
-    };
-    for (text, answer) in [
-        ("", Ok(Settings::default())),
-        ("port = 80\nverbose = true", Ok(settings)),
-        ("verbose = true\r\nport = 80\r\n", Ok(settings)),
-        ("port = 8\nport = 80\nverbose = true\n", Ok(settings)),
-        ("port = 80\n\nverbose = true", Err(BadLine { number: 2 })),
-        ("verbose = yes\nport = x", Err(BadLine { number: 1 })),
-        (
-            "port = 80\nworkers = 1\nworker = 2",
-            Err(BadLine { number: 3 }),
-        ),
-    ] {
-        equal(&rt, (text, text.parse::<Settings>()), (text, answer));
-    }
-}
 
 // A caller's proof: it shares the settings of its text, and knows what the answer means.
 fn ask<W: Wait>(rt: &W, text: &str) -> Answer

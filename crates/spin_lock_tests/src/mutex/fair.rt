@@ -1,9 +1,8 @@
-//! What no contract says of starvers: which calls succeed while a thread starves.
+//! A starver enters by each of its calls, and registers beside others.
 use crate::equal::equal;
 use crate::parts::{Crew, in_threads};
-use spin_core::relax::{Loop, RelaxStrategy};
+use spin_core::relax::RelaxStrategy;
 use spin_fair::fair::{FairMutex, LockRejectReason, Starvation};
-use std::mem::forget;
 use std::process::Abort;
 use std::sync::Wait;
 
@@ -14,9 +13,9 @@ pub const OPEN: Seen = (false, None);
 
 pub const HELD: Seen = (true, Some(LockRejectReason::Locked));
 
-const STARVED: Seen = (false, Some(LockRejectReason::Starved));
+pub const STARVED: Seen = (false, Some(LockRejectReason::Starved));
 
-const HELD_AND_STARVED: Seen = (true, Some(LockRejectReason::Starved));
+pub const HELD_AND_STARVED: Seen = (true, Some(LockRejectReason::Starved));
 
 // Returns the reason why `try_lock_starver` fails, if it fails.
 pub fn refusal<R>(lock: &FairMutex<u64, R>) -> Option<LockRejectReason> {
@@ -32,34 +31,15 @@ pub fn shows<R>(rt: &impl Abort, lock: &FairMutex<u64, R>, wanted: Seen) {
     equal(rt, seen(lock), wanted);
 }
 
-fn starve<'a, R>(rt: &(impl Abort + Wait), lock: &'a FairMutex<u64, R>) -> Starvation<'a, u64, R> {
+pub fn starve<'a, R>(
+    rt: &(impl Abort + Wait),
+    lock: &'a FairMutex<u64, R>,
+) -> Starvation<'a, u64, R> {
     lock.starve(rt).expect(rt, "below the cap")
 }
 
-#[test]
-fn a_starver_comes_before_newcomers(rt: HostRuntime) {
-    let lock: FairMutex<u64> = FairMutex::new(42);
-    let guard = lock.lock(&rt);
-    shows(&rt, &lock, HELD);
-    equal(&rt, lock.try_lock().is_none(), true);
-    let starvation = starve(&rt, &lock);
-    shows(&rt, &lock, HELD_AND_STARVED);
-    drop(guard);
-    shows(&rt, &lock, STARVED);
-    equal(&rt, lock.try_lock().is_none(), true);
-    let guard = starvation.try_lock().ok().expect(&rt, "open");
-    shows(&rt, &lock, HELD);
-    equal(&rt, *guard, 42);
-    let starvation = starve(&rt, &lock);
-    shows(&rt, &lock, HELD_AND_STARVED);
-    drop(guard);
-    shows(&rt, &lock, STARVED);
-    drop(starvation);
-    shows(&rt, &lock, OPEN);
-}
-
 // Checks that a starver acquires the lock by `lock`, and that the lock is free afterwards.
-fn enters_in_the_end<R: RelaxStrategy>(
+pub fn enters_in_the_end<R: RelaxStrategy>(
     rt: &(impl Abort + Wait),
     lock: &FairMutex<u64, R>,
     starvation: Starvation<'_, u64, R>,
@@ -78,34 +58,6 @@ fn each_call_of_a_starver_enters(rt: HostRuntime) {
     shows(&rt, &lock, HELD);
     drop(guard);
     enters_in_the_end(&rt, &lock, starve(&rt, &lock));
-}
-
-#[test]
-fn a_refused_starver_stays_registered(rt: HostRuntime) {
-    let lock: FairMutex<u64, Loop> = FairMutex::new(42);
-    let first = starve(&rt, &lock);
-    let second = starve(&rt, &lock);
-    shows(&rt, &lock, STARVED);
-    let first = first.try_lock_fair().err().expect(&rt, "two starve");
-    shows(&rt, &lock, STARVED);
-    let guard = second.try_lock().ok().expect(&rt, "open");
-    shows(&rt, &lock, HELD_AND_STARVED);
-    let first = first.try_lock().err().expect(&rt, "held");
-    let first = first.try_lock_fair().err().expect(&rt, "held");
-    shows(&rt, &lock, HELD_AND_STARVED);
-    drop(guard);
-    enters_in_the_end(&rt, &lock, first);
-}
-
-#[test]
-fn a_forgotten_starver_keeps_newcomers_away(rt: HostRuntime) {
-    let lock: FairMutex<u64> = FairMutex::new(42);
-    forget(starve(&rt, &lock));
-    shows(&rt, &lock, STARVED);
-    equal(&rt, lock.try_lock().is_none(), true);
-    equal(&rt, starve(&rt, &lock).try_lock().is_ok(), true);
-    shows(&rt, &lock, STARVED);
-    equal(&rt, lock.into_inner(), 42);
 }
 
 const STARVES: u32 = 100_000;

@@ -4,7 +4,7 @@ use crate::mutex::fair::{HELD, OPEN, refusal, seen, shows};
 use crate::parts::{Crew, in_threads};
 use crate::waiting::await_number;
 use spin_core::relax::{RelaxStrategy, Spin, Yield};
-use spin_fair::attempts::{Waiting, begin, look_and_try, looks};
+use spin_fair::attempts::{Waiting, begin, look_and_try};
 use spin_fair::fair::{FairMutex, FairMutexGuard, LockRejectReason, STARVATION_SPINS};
 use std::process::Abort;
 use std::sync::Wait;
@@ -124,7 +124,7 @@ fn a_waiting_lock_is_patient(rt: HostRuntime) {
 }
 
 // Makes one more attempt of a waiting call.
-fn again<'a, R: Wait>(
+pub fn again<'a, R: Wait>(
     rt: &R,
     waiting: Waiting<'a, u64>,
 ) -> Result<FairMutexGuard<'a, u64, Yield>, Waiting<'a, u64>> {
@@ -132,7 +132,7 @@ fn again<'a, R: Wait>(
 }
 
 // Returns how many attempts it takes until one acquires the lock.
-fn looks_on<R: Wait>(rt: &R, waiting: Waiting<'_, u64>) -> usize {
+pub fn looks_on<R: Wait>(rt: &R, waiting: Waiting<'_, u64>) -> usize {
     let mut waiting = waiting;
     let mut looked: usize = 0;
     for _ in rt.forever() {
@@ -176,19 +176,4 @@ fn it_starves_at_the_look_after_its_patience(rt: HostRuntime) {
     let both = Counted(Held::of(FairMutex::new(1)));
     let looked = in_threads(&rt, rt.alloc(), &both, 2);
     equal(&rt, looked.as_slice(), [0, STARVATION_SPINS + 2].as_slice());
-}
-
-#[test]
-fn a_look_at_a_free_lock_does_not_count(rt: HostRuntime) {
-    let lock: FairMutex<u64, Yield> = FairMutex::new(1);
-    let guard = lock.lock(&rt);
-    let waiting = begin(&lock).err().expect(&rt, "held");
-    let waiting = again(&rt, waiting).err().expect(&rt, "held");
-    equal(&rt, looks(&waiting), 1);
-    let starver = lock.starve(&rt);
-    drop(guard);
-    let waiting = again(&rt, waiting).err().expect(&rt, "starved");
-    equal(&rt, looks(&waiting), 1);
-    drop(starver);
-    equal(&rt, looks_on(&rt, waiting), 1);
 }

@@ -1,5 +1,5 @@
 //! The drops of a value that is made once, and of the closure or initialiser that makes it.
-use crate::ends::counted::Counted;
+use super::counted::Counted;
 use crate::equal::equal;
 use spin_once::lazylock::LazyLock;
 use spin_once::once::Once;

@@ -1,5 +1,5 @@
 //! Tests of the names at the root of `spin`, each by its path there. Begin at [`each_mutex_by_its_name`].
-use super::equal::equal;
+use crate::equal::equal;
 use spin::mutex::{
     FairMutex, FairMutexGuard, SpinMutex, SpinMutexGuard, TicketMutex, TicketMutexGuard,
 };
@@ -41,7 +41,7 @@ struct Kept {
     fifth: Barrier,
 }
 
-const fn kept(value: u64) -> Kept {
+const fn make_kept(value: u64) -> Kept {
     Kept {
         first: Mutex::new(value),
         second: SpinMutex::new(value),
@@ -53,7 +53,7 @@ const fn kept(value: u64) -> Kept {
 
 #[test]
 fn a_const_fn_makes_locks(rt: HostRuntime) {
-    let kept = kept(7);
+    let kept = make_kept(7);
     let held = [
         *kept.first.lock(&rt),
         *kept.second.lock(&rt),

@@ -1,5 +1,5 @@
 //! How the value of each lock is dropped. A reader-writer lock has three cases, one for each kind of holder.
-use crate::ends::counted::Counted;
+use super::counted::Counted;
 use crate::equal::equal;
 use spin_fair::fair::{FairMutex, FairMutexGuard};
 use spin_flag::spin::{SpinMutex, SpinMutexGuard};

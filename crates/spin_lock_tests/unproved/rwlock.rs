@@ -1,5 +1,4 @@
-//! What no contract says: which calls succeed, and what the counts tell.
-
+//! Which calls of an `RwLock` succeed, and what the counts tell.
 use crate::equal::equal;
 use spin_core::relax::Loop;
 use spin_rwlock::rwlock::{RwLock, RwLockReadGuard, RwLockUpgradableGuard, RwLockWriteGuard};

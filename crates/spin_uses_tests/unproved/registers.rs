@@ -1,5 +1,5 @@
 //! What no contract says of registers: several readers may read at once, and which tries succeed.
-use super::equal::equal;
+use crate::equal::equal;
 use spin::Yield;
 use spin::mutex::SpinMutex;
 use spin::rwlock::RwLock;

@@ -1,7 +1,4 @@
-//! What the contracts of the step functions leave to tests: each function returns the right word.
-
-mod rw;
-
+//! Each step function returns the right word.
 use crate::equal::equal;
 use spin_core::step::{flag, once, ticket};
 use spin_step_more::barrier::State;
