@@ -1,11 +1,17 @@
--- Starvers go first: each step preserves `StarversFirst`, an order among the last moves of the parties.
-use Rattle.std.proofs.Common.{◌≡◌, ℕ, zero, suc, ◌<◌, ◌≤◌, List, [], ◌∷◌, ◌++◌, length, Option, Some, None, sym, ap, ◌∙◌, subst, arith, slice_set, inl, inr}
+-- Starvers go first: each step preserves `StarversFirst`, an order among the last moves of the parties, and
+-- `NewcomersFoundNobody`.
+use Rattle.std.proofs.Common.{◌≡◌, ℕ, zero, suc, ◌<◌, ◌≤◌, List, [], ◌∷◌, ◌++◌, length, Option, Some, None, sym, ap, ◌∙◌, subst, arith, slice_set, inl, inr, map}
 use Rattle.std.specs.Prelude.{slice_get, ◌⊎◌}
+use Rattle.std.proofs.lemmas.List.{append_assoc, append-nil}
 use Rattle.spin_core.specs.Cell.{after}
-use Rattle.spin_core.specs.Own.{Numbered, present_from, Rested, IsRun}
+use Rattle.spin_core.specs.Own.{Numbered, present_from, Rested, IsRun, by_party, kind}
+use Rattle.spin_step.specs.declared.schedule.Move.{Move}
+use Rattle.spin_step.specs.Schedules.{State}
+use Rattle.spin_step_more.specs.declared.fair_calls.FairCall.{FairCall}
+use Rattle.spin_step_more.specs.declared.fair_calls.FairPoint.{FairPoint}
 use Rattle.spin_fair.specs.declared.fair.rule.View.{View}
 use Rattle.spin_fair.specs.declared.fair.rule.View.TheVariants.{Holding}
-use Rattle.spin_fair.specs.Fair.{Done, model, seat_of, words_of, views_of, starver, StarversFirst}
+use Rattle.spin_fair.specs.Fair.{Done, model, seat_of, words_of, views_of, starver, StarversFirst, FoundNobody, NewcomersFoundNobody}
 
 module _ {X : Type 0} where
   -- the party `v` at the place `i` is the one that made the step, or was at this place before the step
@@ -50,6 +56,37 @@ first_after id view vs w len marks late alone order i j v u at_i at_j holds star
     both (inl a) (inr b) = absurd (alone (ap (λ x. x.0) (sym a) ∙ holds) j u b starves)
     both (inr a) (inl b) = omega (arith, marks i v a, late, ap (λ x. x.2) b)
     both (inr a) (inr b) = order i j v u a b holds starves
+
+-- Each newcomer that holds found nobody, also after a step, if the party that makes the step found nobody in case it is
+-- a newcomer that holds now.
+module _ {T : Type 0} (value : T) (log es : List (Done T)) where
+  found_before : (v : Numbered View) → FoundNobody value log v → FoundNobody value (log ++ es) v
+  found_before v (past, rest, own, least, is, mark, free) =
+      (past, rest ++ es, own, least, ap (λ l. l ++ es) is ∙ append_assoc (past ++ by_party v.1 own) rest es, mark, free)
+
+  pub found_after : (id : ℕ) (view : Option (Numbered View)) (vs : List (Numbered View)) (w : Numbered View) → (w.0 ≡ Holding → FoundNobody value (log ++ es) w) → NewcomersFoundNobody value log vs
+      → NewcomersFoundNobody value (log ++ es) (after id view vs w)
+  found_after id view vs w now before i v at holds = both (stood id view vs w i v at)
+    where
+      both : Stood vs w i v → FoundNobody value (log ++ es) v
+      both (inl is) = subst (FoundNobody value (log ++ es)) (sym is) (now (ap (λ x. x.0) (sym is) ∙ holds))
+      both (inr there) = found_before v (before i v there holds)
+
+pub found_without : {T : Type 0} (value : T) (log : List (Done T)) (before behind : List (Numbered View)) (v : Numbered View) → NewcomersFoundNobody value log (before ++ v ∷ behind) → NewcomersFoundNobody value log (before ++ behind)
+found_without value log before behind v found i x at holds = let there = still before behind v i x at in found there.0 x there.1 holds
+
+-- a party that has made the moves `own` after the run `log`, which had led to the word 0, found nobody
+pub found_free : {T : Type 0} (value : T) (log : List (Done T)) (s : ℕ × Unit {0}) (vs : List (Numbered View)) → IsRun (model value) seat_of words_of log s vs → s.0 ≡ 0
+    → (own : List (Move FairCall T)) (w : Numbered View) → w.2 ≡ length (log ++ by_party w.1 own) → FoundNobody value (log ++ by_party w.1 own) w
+found_free {T} value log s vs run free own w mark = (
+  log,
+  [],
+  own,
+  length (map kind run.0),
+  sym (append-nil (log ++ by_party w.1 own)),
+  mark,
+  λ more. ap (λ (z : State ℕ T FairCall FairPoint). z.words) (run.5 more) ∙ (ap (λ (z : ℕ × Unit {0}). z.0) (sym run.4) ∙ free),
+)
 
 within : {T : Type 0} (schedule : List (Done T)) (k : ℕ) (came : List (Option (View × ℕ))) (i : ℕ) (v : Numbered View) → Rested schedule k came → slice_get (present_from k came) i ≡ Some v → v.2 ≤ length schedule
 within schedule k [] i v rest at = absurd (cc (at))

@@ -1,5 +1,5 @@
 -- The steps of a fair mutex keep its rule. Each step makes the plain step of its step function, and its moves of the lock's model.
-use Rattle.std.proofs.Common.{◌≡◌, ℕ, ◌+◌, ◌-◌, ◌%◌, ◌^◌, ◌<◌, ◌≤◌, true, false, if◌then◌else◌, List, [], ◌∷◌, map, length, ◌==◌, Bool, Option, Some, None, refl, sym, ap, ◌∙◌, arith, subst, eq-eqb, ne_eqb, bit_or, length-append, set, inl, inr, unwrap_or, is_some, nat_lt}
+use Rattle.std.proofs.Common.{◌≡◌, ℕ, ◌+◌, ◌-◌, ◌%◌, ◌^◌, ◌<◌, ◌≤◌, true, false, if◌then◌else◌, List, [], ◌∷◌, ◌++◌, map, length, ◌==◌, Bool, Option, Some, None, refl, sym, ap, ◌∙◌, arith, subst, eq-eqb, ne_eqb, bit_or, length-append, set, inl, inr, unwrap_or, is_some, nat_lt}
 use Rattle.std.proofs.lemmas.List.Sums.{sum_by-le-sum_by}
 use Rattle.std.specs.Prelude.{slice_get}
 use lib.Seq.{set-set}
@@ -14,7 +14,7 @@ use Rattle.spin_step.proofs.Holders.{is_holder-from_entries, is_empty-none, leng
 use Rattle.spin_step.proofs.Starvers.{is_starver-from_entries, length-without_starver}
 use Rattle.spin_step_more.specs.Starvers.{most_starvers, is_set, starve, lock_starved}
 use Rattle.spin_core.specs.Cell.{writes, reads, off, alone, use_of, reading, writing as writer, readers_of, writers_of, Limits, Meets, Allows, Rests, words}
-use Rattle.spin_core.specs.Own.{Numbered, what}
+use Rattle.spin_core.specs.Own.{Numbered, what, by_party}
 use Rattle.spin_core.specs.Passes.{Ending, IsOut, leaves_by}
 use Rattle.spin_core.specs.Traced.{Traces}
 use Rattle.spin_core.specs.Values.{left, Leaves}
@@ -42,8 +42,8 @@ use Rattle.spin_step_more.specs.declared.fair_calls.FairCall.TheVariants.{Lock, 
 use Rattle.spin_fair.specs.declared.fair.rule.View.{View}
 use Rattle.spin_fair.specs.declared.fair.rule.View.TheVariants.{Idle, Starving, Holding, Served, Trying, Looking, Loading, Registering, Setting, Awaiting, HoldingStarving}
 use Rattle.spin_fair.specs.Fair as fairs
-use Rattle.spin_fair.specs.Fair.{part, use_of_view, use_of_party, seat_of, model, words_of, Says, Turn, says_of, Word, IsFair, fair_ways, known_of, Told, AreSteps, steps_by, answered, in_call, call_of, looks_by, tries_by, alone_by, alone_to, not_alone, gives_up_by, frees_by, looks_of, tried, tried_by, looked, looked_by, registered, finds_no_room, goes_for, registered_by, registers_by, Registers, MayRegister, MayTry, finds_flag_set, set_by, sets_by, MaySet, waits, awaits, HoldsStarving, awaited_by, awaits_by, served_by, views_of, newcomer, starver, HoldsAt, StarvesAt}
-use Rattle.spin_fair.proofs.First.{first_after, first_without, marks_within, viewed}
+use Rattle.spin_fair.specs.Fair.{part, use_of_view, use_of_party, seat_of, model, words_of, Says, Turn, says_of, Word, IsFair, fair_ways, known_of, Told, AreSteps, steps_by, answered, in_call, call_of, looks_by, tries_by, alone_by, alone_to, not_alone, gives_up_by, frees_by, looks_of, tried, tried_by, looked, looked_by, registered, finds_no_room, goes_for, registered_by, registers_by, Registers, MayRegister, MayTry, finds_flag_set, set_by, sets_by, MaySet, waits, awaits, HoldsStarving, awaited_by, awaits_by, served_by, views_of, newcomer, starver, HoldsAt, StarvesAt, FoundNobody}
+use Rattle.spin_fair.proofs.First.{first_after, first_without, found_after, found_without, found_free, marks_within, viewed}
 use Rattle.spin_fair.proofs.Moves as moves
 use Rattle.spin_fair.proofs.Moves.{Moves, Takes, load_moves, attempt_moves, attempt_to_know_moves, first_moves, try_moves, look_moves, starve_moves, turn_moves, again_moves, turn_again_moves, alone_moves, try_alone_moves, lock_alone_moves, set_is, try_set_moves, lock_set_moves, starver_set_moves, await_moves, unregister_moves, give_up_moves, release_moves}
 
@@ -402,13 +402,17 @@ module _ {T : Type 0} (opening : Opening T) where
       let w : Numbered View = made.0 in let told : Told v₀ says view t.entries made.1 n w = made.3 in let kept = made.2.1 in
       let order = first_after id view vs w (length t.entries) (marks_within v₀ t.entries (n, t.word) vs meets.0.2) (omega (arith, told.3, length-append t.entries made.1))
       (λ got. nobody_starves n t.word vs meets.0.1.0 (frees told.0 told.1 n w.0 told.6 got)) meets.0.1.1 in
-      (w, made.1, (made.2.0, ((kept.0.0, (kept.0.1, order), kept.0.2), kept.1)), told)
+      let own_are : by_party w.1 told.0 ≡ made.1 = sym told.2 in
+      let found = found_after v₀ t.entries made.1 id view vs w
+      (λ got. subst (λ es. FoundNobody v₀ (t.entries ++ es) w) own_are
+      (found_free v₀ t.entries (n, t.word) vs meets.0.2 (frees told.0 told.1 n w.0 told.6 got) told.0 w (told.3 ∙ ap (λ es. length (t.entries ++ es)) told.2))) meets.0.1.2 in
+      (w, made.1, (made.2.0, ((kept.0.0, (kept.0.1, order, found), kept.0.2), kept.1)), told)
 
   pub starts : (t : Trace (fairs.Done T) (Unit {0})) → t.name ≡ opening.name → t.entries ≡ [] → Meets (IsFair opening) (fair_ways opening) 0 t []
   unfolding IsFair known_of
   starts t named empty =
       let meets = mutexes.starts (mutex opening) 0 t named empty refl (plays.begins fair 0 0 0 tt (omega arith) refl refl) in
-      ((meets.0.0, (meets.0.1, λ i j v w at. absurd (cc (at))), meets.0.2), meets.1)
+      ((meets.0.0, (meets.0.1, (λ i j v w at. absurd (cc (at))), λ i v at. absurd (cc (at))), meets.0.2), meets.1)
 
   -- a party that does not use the value may make this step
   abbrev pub MayTurn : Option (Numbered View) → Option T → (ℕ → ℕ) → Turn T → Type 0
@@ -576,7 +580,7 @@ module _ {T : Type 0} (opening : Opening T) where
   rests None out = tt
   rests (Some v) out =
       let rest = mutexes.rests (mutex opening) (Some v) out in
-      (rest.0, λ n t before behind kept. let without = rest.1 n t before behind (kept.0, kept.1.0, kept.2) in (without.0, (without.1, first_without before behind v kept.1.1), without.2))
+      (rest.0, λ n t before behind kept. let without = rest.1 n t before behind (kept.0, kept.1.0, kept.2) in (without.0, (without.1, first_without before behind v kept.1.1, found_without opening.value t.entries before behind v kept.1.2), without.2))
 
 pub never_reads : (v : View) → use_of_view v ≡ reads → ⊥
 never_reads Holding e = absurd cc

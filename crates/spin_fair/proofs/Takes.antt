@@ -28,7 +28,7 @@ use Rattle.spin_step.specs.declared.answer.Answer.TheVariants.{Granted}
 use Rattle.spin_step_more.specs.declared.fair.LockRejectReason.TheVariants.{Locked, Starved}
 use Rattle.spin_step_more.specs.declared.fair_calls.FairCall.{FairCall}
 use Rattle.spin_step_more.specs.declared.fair_calls.FairCall.TheVariants.{Lock, TryLockStarver, Starve, StarverTryLock, StarverLock}
-use Rattle.spin_fair.specs.Fair.{model_at, seat_of, words_of, use_of_view, use_of_party, Done, IsFair, fair_ways, known_of, Told, Turn, says_of, AreSteps, answered, in_call, call_of, Comes, Moves, refusal, answer_of, tries_by, alone_by, not_alone, missed_alone, looked, looks_of, patience, registered_end, no_room_end, loads, register_ends, registered_so, no_room_so, flag_set_end, flag_set_so, finds_no_room, finds_flag_set, Registers, awaits, awaited_by, MaySet, MayAwait}
+use Rattle.spin_fair.specs.Fair.{model_at, seat_of, words_of, use_of_view, use_of_party, Done, IsFair, fair_ways, known_of, Told, Turn, says_of, AreSteps, answered, in_call, call_of, Comes, Moves, refusal, answer_of, tries_by, alone_by, not_alone, missed_alone, looked, looks_of, patience, registered_end, no_room_end, loads, register_ends, registered_so, no_room_so, flag_set_end, flag_set_so, finds_no_room, Registers, awaits, awaited_by, MaySet, MayAwait}
 use Rattle.spin_fair.specs.Guards.{Holds}
 use Rattle.spin_fair.specs.Waits.{Spot, view_of, here, Turned, Goes, GoesOn, FindsNoRoom, Held, held_at, Gets}
 use Rattle.spin_fair.specs.declared.fair.account.Account.{Account}

@@ -1,12 +1,12 @@
 -- The rule of a fair mutex. The word of the mutex is that of a plain lock whose holders and starvers are the parties
 -- that hold the mutex or starve. The trace is a schedule of the lock's model. The schedule leads to this word and to
 -- the views of all parties.
-use Rattle.std.specs.Prelude.{◌≡◌, ◌⊎◌, ℕ, ◌+◌, ◌++◌, Bool, true, false, List, [], ◌∷◌, map, Option, Some, None, if◌then◌else◌, ◌%◌, ◌==◌, nat_lt, is_some, ◌<◌, ◌≤◌, slice_get}
+use Rattle.std.specs.Prelude.{◌≡◌, ◌⊎◌, ℕ, ◌+◌, ◌++◌, Bool, true, false, List, [], ◌∷◌, map, length, Option, Some, None, if◌then◌else◌, ◌%◌, ◌==◌, nat_lt, is_some, ◌<◌, ◌≤◌, slice_get}
 use Rattle.spin_step.specs.Plain.{writing, fair_word}
 use Rattle.spin_step_more.specs.Starvers.{most_starvers, is_set, starve}
 use Rattle.spin_core.specs.Cell.{Use, Knowledge, off, writes, alone, Ways}
 use Rattle.spin_core.specs.Views.{Part, idle, holds, starves, holds_starving, part_at, Encodes, no_word}
-use Rattle.spin_core.specs.Own.{Numbered, Runs, Tells}
+use Rattle.spin_core.specs.Own.{Numbered, Runs, Tells, by_party}
 use Rattle.spin_core.specs.Passes as passes
 use Rattle.spin_core.specs.Passes.{Course, Ending, IsOut, Waits, Ends, Begins, IsCall, WritesSome, leaves_by, Made, Between}
 use Rattle.spin_core.specs.Values.{last}
@@ -20,10 +20,11 @@ use Rattle.spin_step.specs.declared.place.Seat.{Seat}
 use Rattle.spin_step.specs.declared.place.Seat.TheVariants as seat
 use Rattle.spin_step.specs.declared.answer.Answer.{Answer}
 use Rattle.spin_step.specs.declared.answer.Answer.TheVariants as answer
+use Rattle.spin_step.specs.declared.schedule.Move.{Move}
 use Rattle.spin_step.specs.declared.schedule.Move.TheVariants.{Begin, Step}
 use Rattle.spin_step.specs.declared.schedule.Outcome.TheVariants.{Begun, GoingOn, Answered}
 use Rattle.spin_step.specs.Machines.{Machine}
-use Rattle.spin_step.specs.Schedules.{Entry}
+use Rattle.spin_step.specs.Schedules.{Entry, after, at_first}
 use Rattle.spin_step_more.specs.declared.fair.LockRejectReason.{LockRejectReason}
 use Rattle.spin_step_more.specs.declared.fair.LockRejectReason.TheVariants.{Locked, Starved}
 use Rattle.spin_step_more.specs.declared.fair_calls.FairCall.{FairCall}
@@ -115,9 +116,22 @@ starver _ = 0
 abbrev pub StarversFirst : List (Numbered View) → Type 0
 StarversFirst parties = (i j : ℕ) (v w : Numbered View) → slice_get parties i ≡ Some v → slice_get parties j ≡ Some w → v.0 ≡ Holding → 0 < starver w.0 → v.2 ≤ w.2
 
+-- A party acquired the lock by its last moves (`own`), between which nobody else made a move. Before them the model's
+-- word was 0: nobody held the lock, and nobody was registered as a starver. A lock with the opening value `value` has
+-- made the moves `log`.
+abbrev pub FoundNobody : {T : Type 0} → T → List (Done T) → Numbered View → Type 0
+FoundNobody {T} value log v =
+    (past rest : List (Done T)) × (own : List (Move FairCall T)) × (least : ℕ) × (log ≡ (past ++ by_party v.1 own) ++ rest) × (v.2 ≡ length (past ++ by_party v.1 own))
+    × ((more : ℕ) → (after (model value) (at_first (model value) (least + more)) past).words ≡ 0)
+
+-- each newcomer that holds the lock found nobody when it acquired the lock
+abbrev pub NewcomersFoundNobody : {T : Type 0} → T → List (Done T) → List (Numbered View) → Type 0
+NewcomersFoundNobody value log parties = (i : ℕ) (v : Numbered View) → slice_get parties i ≡ Some v → v.0 ≡ Holding → FoundNobody value log v
+
 -- what holds of the first word, the trace and the parties of a lock with this opening
 unfoldable pub IsFair : {T : Type 0} → Opening T → ℕ → Trace (Done T) (Unit {0}) → List (Numbered View) → Type 0
-IsFair opening word trace parties = Runs (model opening.value) seat_of words_of (λ n second vs. Word n second vs × StarversFirst parties) opening.name word trace parties
+IsFair opening word trace parties =
+    Runs (model opening.value) seat_of words_of (λ n second vs. Word n second vs × StarversFirst parties × NewcomersFoundNobody opening.value trace.entries parties) opening.name word trace parties
 
 -- while nobody holds the lock, its value is the one written last, unless the owner has borrowed the value
 unfoldable pub known_of : {T : Type 0} → Opening T → Knowledge (Trace (Done T) (Unit {0})) T

@@ -40,10 +40,10 @@ pub const STARVATION_SPINS: usize = 1024;
 /// Starvers may overtake each other. Newcomers may overtake each other too. A waiting thread passes the time with the
 /// strategy `R`.
 ///
-/// While a guard or a hold of the lock lives, no other call acquires it. If a newcomer holds the lock, each registered
-/// starver made its last move after the newcomer acquired it (`no_newcomer_holds_that_came_behind_a_starver`). A guard
-/// gives a value of `T`, with all that the invariant of `T` says. Without a [`pass`](Self::pass) nothing else is
-/// promised of what other threads wrote.
+/// While a guard or a hold of the lock lives, no other call acquires it. A newcomer that holds the lock acquired it
+/// while no starver was registered (`no_newcomer_holds_that_came_behind_a_starver`). A guard gives a value of `T`, with
+/// all that the invariant of `T` says. Without a [`pass`](Self::pass) nothing else is promised of what other threads
+/// wrote.
 ///
 /// # Examples
 /// ```

@@ -8,7 +8,7 @@ ghost use Rattle.spin_step.specs.Plain.{holder_weight, starver_weight};
 ghost use Rattle.spin_step_more.specs.Starvers.{is_set, unlocked, unstarved, lock_starved};
 ghost use Rattle.spin_fair.specs.declared.fair.rule.View.{View};
 ghost use Rattle.spin_fair.specs.declared.fair.rule.View.TheVariants.{Holding};
-ghost use Rattle.spin_fair.specs.Fair.{Done, IsFair, model, seat_of, words_of, starver, views_of, HoldsAt, StarvesAt};
+ghost use Rattle.spin_fair.specs.Fair.{Done, IsFair, model, seat_of, words_of, starver, views_of, FoundNobody, HoldsAt, StarvesAt};
 
 /// Each run of a [`FairMutex`](crate::fair::FairMutex) on threads is a schedule of its model.
 ///
@@ -22,16 +22,16 @@ pub fn every_run_of_a_fair_mutex_is_a_schedule<T>()
     ensures { (opening : Opening T) (word : ℕ) (trace : Trace (Done T) (Unit {0})) (parties : List (Numbered View)) → IsFair opening word trace parties → IsRun (model opening.value) seat_of words_of trace.entries (word, trace.word) parties }
 {}
 
-/// States that a newcomer that holds a `FairMutex` acquired it before each registered starver made its last move.
-///
-/// So no newcomer acquires the lock while a starver is registered: the newcomer's move would be later than the
-/// starver's.
+/// States that a newcomer that holds a `FairMutex` acquired it while nobody held it and no starver was registered. Each
+/// starver that is registered now made its last move after that.
 ///
 /// # Contract
-/// The rule has to hold (`IsFair`). The last move of a newcomer that holds is the one by which it acquired the lock. Its
-/// mark, the length of the trace right after that move, is at most the mark of each registered starver.
+/// The rule has to hold (`IsFair`). A newcomer that holds acquired the lock by its last moves. Just before them the
+/// model's word was 0, which encodes a lock without holders and starvers (`FoundNobody`). The newcomer's mark, the
+/// length of the trace right after these moves, is at most the mark of each registered starver (`earlier`).
 pub fn no_newcomer_holds_that_came_behind_a_starver<T>()
-    ensures { (opening : Opening T) (word : ℕ) (trace : Trace (Done T) (Unit {0})) (parties : List (Numbered View)) → IsFair opening word trace parties → (i j : ℕ) (v w : Numbered View) → slice_get parties i ≡ Some v → slice_get parties j ≡ Some w → v.0 ≡ Holding → 0 < starver w.0 → v.2 ≤ w.2 }
+    ensures found_nobody { (opening : Opening T) (word : ℕ) (trace : Trace (Done T) (Unit {0})) (parties : List (Numbered View)) → IsFair opening word trace parties → (i : ℕ) (v : Numbered View) → slice_get parties i ≡ Some v → v.0 ≡ Holding → FoundNobody opening.value trace.entries v }
+    ensures earlier { (opening : Opening T) (word : ℕ) (trace : Trace (Done T) (Unit {0})) (parties : List (Numbered View)) → IsFair opening word trace parties → (i j : ℕ) (v w : Numbered View) → slice_get parties i ≡ Some v → slice_get parties j ≡ Some w → v.0 ≡ Holding → 0 < starver w.0 → v.2 ≤ w.2 }
 {}
 
 /// States that the blind operations on the word of a `FairMutex` do what its step functions say.
