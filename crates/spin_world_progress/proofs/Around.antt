@@ -1,7 +1,7 @@
 -- A turn is a stretch of entries that leads back to the state in which it began. Its endless repetition is fair if, from
 -- each place of the turn, the rest of the turn and one more turn are a round.
 use Rattle.spin_step.specs.Calls.{Asked}
-use Rattle.spin_world_progress.proofs.Names.{◌≡◌, ℕ, zero, suc, ◌+◌, ◌==◌, ◌&&◌, ◌||◌, Bool, true, false, Option, Some, List, [], ◌∷◌, ◌++◌, slice_get, refl, ap, sym, ◌∙◌, subst, arith, and_parts, Hold, Seat, Idle, Calling, Holding, Leaked, Gone, Move, Machine, State, happens, after, at_first, may_read, not, Test, occurs, is_awaited, MovesOn, IsRound, AreRounds, stretch, IsFair, ends_or_weak, MayStarve}
+use Rattle.spin_world_progress.proofs.Names.{◌≡◌, ℕ, zero, suc, ◌+◌, ◌==◌, ◌&&◌, ◌||◌, Bool, true, false, Option, Some, List, [], ◌∷◌, ◌++◌, slice_get, refl, ap, sym, ◌∙◌, subst, arith, and_parts, Hold, Seat, Idle, Calling, Holding, Leaked, Gone, Move, Machine, State, happens, after, at_first, may_read, not, Test, occurs, is_awaited, MovesOn, IsRound, AreRounds, stretch, IsFair, ends_or_weak, MayStarve, Seen, opening, seen_after}
 
 -- the endless schedule of an entry x and the rest xs of a turn, followed by the turn `e ∷ es` again and again
 abbrev pub around : {X : Type 0} → X → List X → X → List X → ℕ → X
@@ -115,22 +115,23 @@ module _ {W V C L A : Type 0} (m : Machine W V C L A) where
       pub never_around : (place : ℕ) → occurs m test start (stretch (around e es e es) 0 place) ≡ false
       never_around place = never place start e es first
 
-  -- after some entries a party is in a call with the promise `what`; then some fair schedule has no event that passes
-  -- the test
-  abbrev pub Forever : (ℕ → Test V C L A) → ℕ → Asked → Type 0
-  Forever test n what =
-      (past : Turn) × (schedule : ℕ → ℕ × Move C V) × (p : ℕ) × (c : C) × (l : L) × (h : Option Hold)
+  -- After some entries a party is in a call with the promise `what`, and P holds of the party and that state. Then some
+  -- fair schedule has no event that passes the test.
+  abbrev pub ForeverWhere : (Seen W V C L → ℕ → Type 0) → (ℕ → Test V C L A) → ℕ → Asked → Type 0
+  ForeverWhere P test n what =
+      (past : Turn) × (schedule : ℕ → ℕ × Move C V) × (p : ℕ) × (c : C) × (l : L) × (h : Option Hold) × P (seen_after m (opening m n) past) p
       × (let s = after m (at_first m n) past in (slice_get s.seats p ≡ Some (Calling c l h)) × (m.asks c h ≡ what) × IsFair m s schedule × ((place : ℕ) → occurs m (test p) s (stretch schedule 0 place) ≡ false))
 
-  pub forever : (test : ℕ → Test V C L A) (n : ℕ) (past : Turn) (s : State W V C L) → after m (at_first m n) past ≡ s → (e : ℕ × Move C V) (es : Turn) (p : ℕ) (c : C) (l : L) (h : Option Hold)
-      → slice_get s.seats p ≡ Some (Calling c l h) → Within (test p) s e es s (e ∷ es) → Forever test n (m.asks c h)
-  forever test n past s is e es p c l h there turns = (
+  pub forever_where : (P : Seen W V C L → ℕ → Type 0) (test : ℕ → Test V C L A) (n : ℕ) (past : Turn) (s : State W V C L) → after m (at_first m n) past ≡ s → (e : ℕ × Move C V) (es : Turn) (p : ℕ) (c : C) (l : L) (h : Option Hold)
+      → slice_get s.seats p ≡ Some (Calling c l h) → Within (test p) s e es s (e ∷ es) → P (seen_after m (opening m n) past) p → ForeverWhere P test n (m.asks c h)
+  forever_where P test n past s is e es p c l h there turns so = (
     past,
     around e es e es,
     p,
     c,
     l,
     h,
+    so,
     subst (λ s. (slice_get s.seats p ≡ Some (Calling c l h)) × (m.asks c h ≡ m.asks c h) × IsFair m s (around e es e es) × ((place : ℕ) → occurs m (test p) s (stretch (around e es e es) 0 place) ≡ false)) (sym is)
         (there, refl, fair_around (test p) s e es turns, never_around (test p) s e es turns),
   )
@@ -138,7 +139,9 @@ module _ {W V C L A : Type 0} (m : Machine W V C L A) where
   -- if no event of the repeated turn ends the call or fails spuriously, a call with this promise may starve
   pub starves : (n : ℕ) (past : Turn) (s : State W V C L) → after m (at_first m n) past ≡ s → (e : ℕ × Move C V) (es : Turn) (p : ℕ) (c : C) (l : L) (h : Option Hold)
       → slice_get s.seats p ≡ Some (Calling c l h) → Within (ends_or_weak p) s e es s (e ∷ es) → MayStarve m n (m.asks c h)
-  starves = forever (λ p. ends_or_weak p)
+  starves n past s is e es p c l h there turns =
+      let (before, schedule, q, d, i, j, so, rest) = forever_where (λ seen q. Unit {0}) (λ p. ends_or_weak p) n past s is e es p c l h there turns tt in
+      (before, schedule, q, d, i, j, rest)
 
   -- whether the stretches are rounds, as a test
   abbrev pub are_rounds : State W V C L → List Turn → Bool

@@ -14,3 +14,4 @@ pub mod Starving
 pub mod Seats
 pub mod Fair
 pub mod RwFree
+pub mod Registered

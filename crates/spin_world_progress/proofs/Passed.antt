@@ -1,6 +1,14 @@
--- A `lock` without a ticket may be passed over again and again.
-use Rattle.spin_world_progress.proofs.Names.{◌≡◌, ℕ, zero, suc, ◌+◌, ◌<◌, ◌==◌, ◌||◌, true, false, Some, None, List, [], ◌∷◌, length, nat_lt, slice_get, refl, ap, sym, ◌∙◌, subst, arith, ne_eqb, lt-ltb, ticket_limit, Answer, Idle, Calling, Move, Begin, Step, TicketWords, TicketCall, TicketPoint, Take, joined, Machine, State, after, at_first, ticket_machine, eqb_self, occurs, IsRound, AreRounds, grants, MayBePassedOver}
+-- A `lock` without a ticket may be passed over again and again. Once all tickets are taken, it is never granted.
+use Rattle.spin_world_progress.proofs.Names.{◌≡◌, ℕ, zero, suc, ◌+◌, ◌-◌, ◌<◌, ◌==◌, ◌||◌, ◌++◌, Bool, true, false, Some, None, List, [], ◌∷◌, length, nat_lt, slice_get, refl, ap, sym, ◌∙◌, subst, arith, ne_eqb, lt-ltb, ticket_limit, Answer, Idle, Calling, Move, Begin, Step, TicketWords, TicketCall, TicketPoint, Take, joined, Machine, State, after, at_first, ticket_machine, eqb_self, occurs, IsRound, AreRounds, grants, MayBePassedOver, ends_or_weak, entries, is_empty, empty_is, opening, seen_after, row_tells, calls}
 use Rattle.spin_step.specs.declared.ticket_calls.TicketCall.TheVariants.{Lock, Release}
+use Rattle.spin_step.specs.declared.ticket_calls.TicketPoint.TheVariants.{LoadNext}
+use Rattle.spin_step.specs.Asks.{waits_to_enter}
+use Rattle.std.proofs.lemmas.Bool.{ltb-true, le-ltb}
+use Rattle.spin_step.proofs.Schedules.{after-append}
+use Rattle.spin_world.proofs.TicketOwed.{ticket_notes, ticket_facts}
+use Rattle.spin_world_core.proofs.Shapes.{row_of}
+use Rattle.spin_world_progress.specs.Starving.{MayStarveWhere, HasNoTicket}
+use Rattle.spin_world_progress.proofs.Around.{forever_where}
 use Rattle.spin_world_progress.proofs.Progress.{occurs-append}
 
 module _ {V : Type 0} (v : V) (first : ℕ) where
@@ -61,6 +69,57 @@ module _ {V : Type 0} (v : V) (first : ℕ) where
 
   starts : first < ticket_limit → after m (at_first m 2) past ≡ behind first
   starts left = grind (arith, lt-ltb first ticket_limit left)
+
+  -- Once all tickets are taken, a `lock` without a ticket is never granted.
+
+  -- all numbers below k are taken, and party 0 has found no number left
+  abbrev spent : ℕ → State TicketWords V TicketCall TicketPoint
+  spent k = record { words = record { next = k; serving = k }; value = Some v; seats = Calling Lock LoadNext None ∷ Idle ∷ [] }
+
+  reached : (r k : ℕ) → k + r < ticket_limit → (es : List (ℕ × Move TicketCall V)) × (after m (behind k) es ≡ behind (k + r))
+  reached zero k left = let same : k ≡ k + 0 = omega arith in ([], ap behind same)
+  reached (suc r) k left =
+      let (es, is) = reached r (k + 1) (omega (arith, left)) in
+      let same : k + 1 + r ≡ k + suc r = omega arith in
+      (round ++ es, after-append m (behind k) round es ∙ ap (λ s. after m s es) (comes_to k (omega (arith, left))) ∙ is ∙ ap behind same)
+
+  module _ (k : ℕ) (last : k + 1 ≡ ticket_limit) where
+    last_low : nat_lt k ticket_limit ≡ true
+    last_low = lt-ltb k ticket_limit (omega (arith, last))
+
+    none_left : nat_lt (k + 1) ticket_limit ≡ false
+    none_left = le-ltb (k + 1) ticket_limit (omega (arith, last))
+
+    changed : (k + 1 == k) ≡ false
+    changed = ne_eqb (k + 1) k (λ e. absurd (omega (arith, e)))
+
+    comes_last : after m (behind k) round ≡ spent (k + 1)
+    comes_last = grind (arith, eqb_self k, last_low, none_left, changed)
+
+  -- a party that has found no number left has no ticket
+  ticketless : (k : ℕ) (es : List (ℕ × Move TicketCall V)) → after m (at_first m 2) es ≡ spent k → HasNoTicket (seen_after m (opening m 2) es) 0
+  ticketless k es is =
+      let seen = seen_after m (opening m 2) es in
+      let there : slice_get (after m (at_first m 2) es).seats 0 ≡ Some (Calling Lock LoadNext None) = ap (λ (s : State TicketWords V TicketCall TicketPoint). slice_get s.seats 0) is in
+      empty_is (entries 0 seen.plain).tickets
+      (row_tells (ticket_notes v first) Lock LoadNext None 0 seen.plain (seen.span 0) (λ e. is_empty e.tickets) (row_of (ticket_notes v first) Lock LoadNext None) (calls (ticket_facts v first) 2 es 0 there).knows (grind arith))
+
+  waits_on : (k : ℕ) → nat_lt k ticket_limit ≡ false → (es : List (ℕ × Move TicketCall V)) → after m (at_first m 2) es ≡ spent k → MayStarveWhere HasNoTicket m 2 waits_to_enter
+  waits_on k none es is =
+      forever_where m HasNoTicket (λ p. ends_or_weak p) 2 es (spent k) is (0, Step) [] 0 Lock LoadNext None refl (record { fair = grind (arith, none); back = grind (arith, none); none = grind (arith, none) }) (ticketless k es is)
+
+  pub lock_starves : MayStarveWhere HasNoTicket m 2 waits_to_enter
+  lock_starves = by_left (nat_lt first ticket_limit) refl
+    where
+      by_left : (b : Bool) → nat_lt first ticket_limit ≡ b → MayStarveWhere HasNoTicket m 2 waits_to_enter
+      by_left false none = waits_on first none ((0, Begin Lock) ∷ []) refl
+      by_left true left =
+          let r : ℕ = ticket_limit - (first + 1) in
+          let under : first < ticket_limit = ltb-true first ticket_limit left in
+          let (es, is) = reached r first (omega (arith, under)) in
+          let last : first + r + 1 ≡ ticket_limit = omega (arith, under) in
+          waits_on (first + r + 1) (none_left (first + r) last) (past ++ (es ++ round))
+          (after-append m (at_first m 2) past (es ++ round) ∙ ap (λ s. after m s (es ++ round)) (starts under) ∙ after-append m (behind first) es round ∙ ap (λ s. after m s round) is ∙ comes_last (first + r) last)
 
   pub may_be_passed_over : MayBePassedOver m first
   may_be_passed_over r left =

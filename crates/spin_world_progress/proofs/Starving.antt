@@ -1,8 +1,9 @@
 -- For each kind of call that may starve: a turn of a schedule in which the call starves.
-use Rattle.spin_world_progress.proofs.Names.{◌≡◌, ℕ, zero, suc, ◌≤◌, nat_lt, min, Bool, true, Option, Some, None, [], ◌∷◌, refl, arith, lt-ltb, to_read, to_read_upgradable, reader_limit, most_starvers, Idle, Calling, Holding, Begin, Step, flag_machine, rw_machine, fair_machine, seats, seats_machine, once_machine, MayStarve}
+use Rattle.spin_world_progress.proofs.Names.{◌≡◌, ℕ, zero, suc, ◌≤◌, nat_lt, min, Bool, true, Option, Some, None, List, [], ◌∷◌, refl, arith, Move, opening, seen_after, ends_or_weak, lt-ltb, to_read, to_read_upgradable, reader_limit, most_starvers, Idle, Calling, Holding, Begin, Step, flag_machine, rw_machine, fair_machine, seats, seats_machine, once_machine, MayStarve}
 use Rattle.spin_world.specs.BarrierTable.{barrier_machine}
-use Rattle.spin_world_progress.specs.Starving.{MayDeadlock, grants_or_weak}
-use Rattle.spin_world_progress.proofs.Around.{starves, forever}
+use Rattle.spin_world_progress.specs.Starving.{MayStarveWhere, MayDeadlockWhere, WaitsBesideIdleStarver, grants_or_weak}
+use Rattle.spin_step_more.specs.declared.fair_calls.FairCall.{FairCall}
+use Rattle.spin_world_progress.proofs.Around.{starves, forever_where}
 use Rattle.spin_step.specs.Asks.{initializes, meets, polls, spins_to_write, waits, waits_for_value, waits_or_starves, waits_starving, waits_to_write}
 use Rattle.spin_step.specs.declared.place.Hold.TheVariants as hold
 use Rattle.spin_step.specs.declared.flag_calls.FlagCall.TheVariants as flag
@@ -45,20 +46,28 @@ module _ {V : Type 0} (v : V) (cap : ℕ) where
 
 module _ {V : Type 0} (v : V) (cap patience : ℕ) where
   -- party 1 is a starver, and idle
-  pub newcomer_starves : 1 ≤ cap → MayStarve (fair_machine v cap patience) 2 (waits_or_starves patience)
+  abbrev idle_starver : List (ℕ × Move FairCall V)
+  idle_starver = (1, Begin fair.Starve) ∷ (1, Step) ∷ (1, Step) ∷ (0, Begin fair.Lock) ∷ []
+
+  beside_it : 1 ≤ cap → WaitsBesideIdleStarver (seen_after (fair_machine v cap patience) (opening (fair_machine v cap patience) 2) idle_starver) 0
+  beside_it some =
+      let room : nat_lt 0 (min cap most_starvers) ≡ true = lt-ltb 0 (min cap most_starvers) (omega (arith, some)) in
+      (grind (arith, room), 1, grind (arith, room))
+
+  pub newcomer_starves : 1 ≤ cap → MayStarveWhere WaitsBesideIdleStarver (fair_machine v cap patience) 2 (waits_or_starves patience)
   newcomer_starves some =
       let room : nat_lt 0 (min cap most_starvers) ≡ true = lt-ltb 0 (min cap most_starvers) (omega (arith, some)) in
-      starves (fair_machine v cap patience) 2 ((1, Begin fair.Starve) ∷ (1, Step) ∷ (1, Step) ∷ (0, Begin fair.Lock) ∷ [])
+      forever_where (fair_machine v cap patience) WaitsBesideIdleStarver (λ p. ends_or_weak p) 2 idle_starver
       (record { words = 2; value = Some v; seats = Calling fair.Lock (fair_point.Attempt 0) None ∷ Holding hold.Starver ∷ [] }) (grind (arith, room)) (0, Step) ((0, Step) ∷ []) 0 fair.Lock (fair_point.Attempt 0) None refl
-      (record { fair = refl; back = refl; none = refl })
+      (record { fair = refl; back = refl; none = refl }) (beside_it some)
 
   -- party 1 is an idle starver, and nobody is granted anything
-  pub newcomers_deadlock : 1 ≤ cap → MayDeadlock (fair_machine v cap patience) 2 (waits_or_starves patience)
+  pub newcomers_deadlock : 1 ≤ cap → MayDeadlockWhere WaitsBesideIdleStarver (fair_machine v cap patience) 2 (waits_or_starves patience)
   newcomers_deadlock some =
       let room : nat_lt 0 (min cap most_starvers) ≡ true = lt-ltb 0 (min cap most_starvers) (omega (arith, some)) in
-      forever (fair_machine v cap patience) (λ p. grants_or_weak (fair_machine v cap patience)) 2 ((1, Begin fair.Starve) ∷ (1, Step) ∷ (1, Step) ∷ (0, Begin fair.Lock) ∷ [])
+      forever_where (fair_machine v cap patience) WaitsBesideIdleStarver (λ p. grants_or_weak (fair_machine v cap patience)) 2 idle_starver
       (record { words = 2; value = Some v; seats = Calling fair.Lock (fair_point.Attempt 0) None ∷ Holding hold.Starver ∷ [] }) (grind (arith, room)) (0, Step) ((0, Step) ∷ []) 0 fair.Lock (fair_point.Attempt 0) None refl
-      (record { fair = refl; back = refl; none = refl })
+      (record { fair = refl; back = refl; none = refl }) (beside_it some)
 
   -- two starvers: the other one has set the flag whenever party 0 tries to set it, and has released when party 0 looks
   pub starver_starves : 2 ≤ cap → MayStarve (fair_machine v cap patience) 2 waits_starving

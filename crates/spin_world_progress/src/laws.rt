@@ -7,7 +7,7 @@
 //! round asks only that it makes a step.
 ghost use Rattle.std.specs.Prelude.{◌≡◌, ◌≤◌, ℕ, List, None};
 ghost use Rattle.spin_step.specs.Plain.{to_write, to_read, to_read_upgradable, to_lock_starving};
-ghost use Rattle.spin_step.specs.Asks.{waits, waits_to_write, spins_to_write, waits_or_starves, waits_starving, initializes, waits_for_value, polls, meets};
+ghost use Rattle.spin_step.specs.Asks.{waits, waits_to_write, spins_to_write, waits_or_starves, waits_starving, waits_to_enter, initializes, waits_for_value, polls, meets};
 ghost use Rattle.spin_step.specs.declared.schedule.Move.{Move};
 ghost use Rattle.spin_step.specs.declared.flag_calls.FlagCall.{FlagCall};
 ghost use Rattle.spin_world.specs.declared.flag.Flag.{Flag};
@@ -24,7 +24,7 @@ ghost use Rattle.spin_world.specs.declared.barrier.BarrierObject.{BarrierObject}
 ghost use Rattle.spin_seats.specs.declared.calls.SeatsCall.{SeatsCall};
 ghost use Rattle.spin_world_seats.specs.declared.seats.Seats.{Seats};
 ghost use Rattle.spin_world_progress.specs.Alone.{AnsweredOrDisturbed};
-ghost use Rattle.spin_world_progress.specs.Starving.{MayStarve, MayDeadlock};
+ghost use Rattle.spin_world_progress.specs.Starving.{MayStarve, MayStarveWhere, MayDeadlockWhere, HasNoTicket, Starves, WaitsBesideIdleStarver};
 ghost use Rattle.spin_world_progress.specs.Flag.{LocksInFour, IsDeadlockFree};
 ghost use Rattle.spin_world_progress.specs.Ticket.{EntersInRounds, LocksInRounds, IsNeverStarved, MayBePassedOver};
 ghost use Rattle.spin_world_progress.specs.Fair.{LocksInFive, StarversAreDeadlockFree};
@@ -91,6 +91,11 @@ pub fn a_lock_may_be_passed_over<V: Copy>()
     ensures { (object : Ticket V) → MayBePassedOver (⟦<Ticket<V> as Object>⟧.machine object) object.first }
 {}
 
+/// States that a `lock` without a ticket may starve: once all tickets are taken, it is never answered.
+pub fn a_lock_without_a_ticket_may_starve<V: Copy>()
+    ensures { (object : Ticket V) → MayStarveWhere HasNoTicket (⟦<Ticket<V> as Object>⟧.machine object) 2 waits_to_enter }
+{}
+
 /// States that while a starver waits for a fair lock, some party is granted the lock in every five rounds. This may be
 /// another starver each time. A law of `spin_world` says that the party that is granted the lock is no newcomer.
 pub fn somebody_is_granted_beside_a_starver_in_five_rounds<V: Copy>()
@@ -106,18 +111,24 @@ pub fn starvers_are_free_of_deadlock<V: Copy>()
 /// States that a starver that stays registered and does nothing keeps newcomers out: in some endless fair schedule a
 /// `lock` is never answered.
 pub fn a_newcomer_may_starve_beside_an_idle_starver<V: Copy>()
-    ensures { (object : Fair V) → 1 ≤ object.cap → MayStarve (⟦<Fair<V> as Object>⟧.machine object) 2 (waits_or_starves object.patience) }
+    ensures { (object : Fair V) → 1 ≤ object.cap → MayStarveWhere WaitsBesideIdleStarver (⟦<Fair<V> as Object>⟧.machine object) 2 (waits_or_starves object.patience) }
 {}
 
 /// States that newcomers are not free of deadlock while an idle starver is registered: in some endless fair schedule a
 /// newcomer waits in a `lock`, and nobody is granted anything.
 pub fn newcomers_may_deadlock_beside_an_idle_starver<V: Copy>()
-    ensures { (object : Fair V) → 1 ≤ object.cap → MayDeadlock (⟦<Fair<V> as Object>⟧.machine object) 2 (waits_or_starves object.patience) }
+    ensures { (object : Fair V) → 1 ≤ object.cap → MayDeadlockWhere WaitsBesideIdleStarver (⟦<Fair<V> as Object>⟧.machine object) 2 (waits_or_starves object.patience) }
 {}
 
 /// States that starvers are not served in order: in some endless fair schedule a waiting starver is never answered.
 pub fn a_starver_may_starve<V: Copy>()
     ensures { (object : Fair V) → 2 ≤ object.cap → MayStarve (⟦<Fair<V> as Object>⟧.machine object) 2 waits_starving }
+{}
+
+/// States the same of a party that is in a `lock` and has registered: in some endless fair schedule another starver
+/// goes first each time.
+pub fn a_registered_lock_may_starve<V: Copy>()
+    ensures { (object : Fair V) → 2 ≤ object.cap → MayStarveWhere Starves (⟦<Fair<V> as Object>⟧.machine object) 2 (waits_or_starves object.patience) }
 {}
 
 /// States that a party that has asked to upgrade is granted its upgrade in three rounds, or its exchange fails
