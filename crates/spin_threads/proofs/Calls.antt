@@ -8,7 +8,7 @@ use Rattle.std.proofs.lemmas.List.Elements.{All-nil, All-cons}
 use Rattle.spin_core.specs.Own.{Numbered, by_party, entries_by}
 use Rattle.spin_core.specs.Passes.{IsNumber, IsCall, outcomes_by, Made}
 use Rattle.spin_core.specs.Run.{IsPlayed}
-use Rattle.spin_step.specs.Calls.{Mark}
+use Rattle.spin_step.specs.Calls.{Mark, limit}
 use Rattle.spin_step.specs.declared.place.Hold.{Hold}
 use Rattle.spin_step.specs.declared.place.Seat.{Seat}
 use Rattle.spin_step.specs.declared.place.Seat.TheVariants.{Calling}
@@ -20,13 +20,14 @@ use Rattle.spin_step.specs.declared.schedule.Outcome.TheVariants.{Begun, GoingOn
 use Rattle.spin_step.specs.Acts.{Table}
 use Rattle.spin_step.specs.Machines.{Machine}
 use Rattle.spin_step.specs.Schedules.{Entry, after, at_first}
-use Rattle.spin_world_core.specs.Runs.{seat_of, Seen, Scene, scene, opening, span_after, own_count, held_at, InItsCall}
+use Rattle.spin_world_core.specs.Runs.{seat_of, Seen, Scene, scene, opening, span_after, own_count, held_at, InItsCall, ContinuesWithin, InTime, asked}
 use Rattle.spin_world_core.specs.Users.{seen_after}
 use Rattle.spin_world_core.proofs.Shapes.{Notes}
 use Rattle.spin_world_core.proofs.Steps.{played, Plays}
 use Rattle.spin_world_core.proofs.Preserved.{Invariant, Preserved}
 use Rattle.spin_world_core.proofs.Every.{state-seen_after, kept}
 use Rattle.spin_world_core.proofs.Reached.{good}
+use Rattle.spin_threads.specs.Counts.{AfterEachStep}
 
 module _ {W V C L A B : Type 0} {t : Table W V C L B} {by : Machine W V C L A} {k : Notes t} (facts : Plays by k) where
   abbrev m : Machine W V C L A
@@ -42,6 +43,10 @@ module _ {W V C L A B : Type 0} {t : Table W V C L B} {by : Machine W V C L A} {
   -- the span of a party after its next step
   abbrev pub span_of : ℕ → Seen W V C L → List Mark
   span_of p seen = (event seen (p, Step)).after.span p
+
+  -- this call of a party that held `h` before it can still keep its limit
+  abbrev Continues : C → Option Hold → ℕ → List Mark → Type 0
+  Continues c h = ContinuesWithin (limit m.lock_kind (m.asks c h)) m.lock_kind
 
   pub one_more : (seen : Seen W V C L) (xs : Schedule) (x : Entry C V) → seen_after m seen (xs ++ x ∷ []) ≡ (event (seen_after m seen xs) x).after
   one_more seen [] x = refl
@@ -67,6 +72,7 @@ module _ {W V C L A B : Type 0} {t : Table W V C L B} {by : Machine W V C L A} {
       pub point : L
       pub there : seat_of seen p ≡ Some (Calling c point h)
       pub comes : (event seen (p, Step)).outcome ≡ Answered a None
+      pub so_far : AfterEachStep (Continues c h) p (seen.span p)
       pub span : All (IsBetween c h) (span_of p seen)
       pub count : own_count p (span_of p seen) ≡ n
 
@@ -83,6 +89,26 @@ module _ {W V C L A B : Type 0} {t : Table W V C L B} {by : Machine W V C L A} {
       span_kept (outcome.Value v) mark span is all = all
       span_kept outcome.Written mark span is all = all
       span_kept outcome.Leaked mark span is all = all
+
+    module _ (P : ℕ → List Mark → Type 0) where
+      -- if P holds after each step of the span, it does so also after another party's step
+      keeps_other : (o : Outcome A V) (mark : Mark) (span : ℕ → List Mark) → (mark.party == p) ≡ false → (mark.party ≡ p → ⊥) → AfterEachStep P p (span p) → AfterEachStep P p (span_after o mark span p)
+      keeps_other outcome.Skipped mark span other not_its kept = kept
+      keeps_other Begun mark span other not_its kept = rw other kept
+      keeps_other GoingOn mark span other not_its kept = (λ its. absurd (not_its its), kept)
+      keeps_other (Answered a b) mark span other not_its kept = (λ its. absurd (not_its its), kept)
+      keeps_other (outcome.Value v) mark span other not_its kept = kept
+      keeps_other outcome.Written mark span other not_its kept = kept
+      keeps_other outcome.Leaked mark span other not_its kept = kept
+
+      -- and after a step of its own after which P holds
+      keeps_own : (o : Outcome A V) (mark : Mark) (span : ℕ → List Mark) → o ≡ GoingOn → P p (span_after o mark span p) → AfterEachStep P p (span p) → AfterEachStep P p (span_after o mark span p)
+      keeps_own o mark span comes now kept =
+          subst (λ r. AfterEachStep P p (span_after r mark span p)) (sym comes) (λ its. subst (λ r. P p (span_after r mark span p)) comes now, kept)
+
+    continues_by : (c : C) (l : L) (h : Option Hold) (span : List Mark) (o : Outcome A V) (seat : Option (Seat C L)) → seat ≡ Some (Calling c l h) → o ≡ GoingOn → InTime m.lock_kind p span o (asked m seat) → Continues c h p span
+    continues_by c l h span o seat there comes in_time =
+        subst (λ r. InTime m.lock_kind p span r (Some (m.asks c h))) comes (subst (λ y. InTime m.lock_kind p span o (asked m y)) there in_time)
 
     count_mine : (a : A) (o : Outcome A V) (mark : Mark) (span : ℕ → List Mark) → mark.party ≡ p → (o ≡ GoingOn) ⊎ (o ≡ Answered a None) → own_count p (span_after o mark span p) ≡ own_count p (span p) + 1
     count_mine a o mark span mine steps = grind (arith, mine, steps, eq-eqb mark.party p mine)
@@ -130,10 +156,10 @@ module _ {W V C L A B : Type 0} {t : Table W V C L B} {by : Machine W V C L A} {
     abbrev Walks : Schedule → Type 0
     Walks es =
         (xs : Schedule) (seen : Seen W V C L) → IsAt xs es seen → (c : C) (l : L) (h : Option Hold) → seat_of seen p ≡ Some (Calling c l h) → All (IsBetween c h) (seen.span p)
-        → (i : ℕ) (a : A) → entries_by p es ≡ by_party p (to_make i) → outcomes_by m p seen.state es ≡ to_come i a → IsAnswered c h a (own_count p (seen.span p) + suc i)
+        → AfterEachStep (Continues c h) p (seen.span p) → (i : ℕ) (a : A) → entries_by p es ≡ by_party p (to_make i) → outcomes_by m p seen.state es ≡ to_come i a → IsAnswered c h a (own_count p (seen.span p) + suc i)
 
     one_event : (x : Entry C V) (es : Schedule) → Walks es → Walks (x ∷ es)
-    one_event x es walks xs seen at c l h there span i a made came = by_turn (x.0 == p) refl made came where
+    one_event x es walks xs seen at c l h there span kept_on i a made came = by_turn (x.0 == p) refl made came where
       s : Scene W V C L A
       s = event seen x
 
@@ -149,9 +175,9 @@ module _ {W V C L A B : Type 0} {t : Table W V C L B} {by : Machine W V C L A} {
       all : All (IsBetween c h) (s.after.span p)
       all = span_kept (IsBetween c h) s.outcome mark seen.span here span
 
-      on : (next : L) → seat_of s.after p ≡ Some (Calling c next h) → (j : ℕ) → own_count p (s.after.span p) + suc j ≡ own_count p (seen.span p) + suc i
+      on : (next : L) → seat_of s.after p ≡ Some (Calling c next h) → AfterEachStep (Continues c h) p (s.after.span p) → (j : ℕ) → own_count p (s.after.span p) + suc j ≡ own_count p (seen.span p) + suc i
           → entries_by p es ≡ by_party p (to_make j) → outcomes_by m p s.after.state es ≡ to_come j a → IsAnswered c h a (own_count p (seen.span p) + suc i)
-      on next stays j counts made' came' = subst (IsAnswered c h a) counts (walks (xs ++ x ∷ []) s.after (on_by x es xs seen at) c next h stays all j a made' came')
+      on next stays still j counts made' came' = subst (IsAnswered c h a) counts (walks (xs ++ x ∷ []) s.after (on_by x es xs seen at) c next h stays all still j a made' came')
 
       by_own : (j : ℕ) → j ≡ i → x ∷ entries_by p es ≡ by_party p (to_make j) → s.outcome ∷ outcomes_by m p s.after.state es ≡ to_come j a → IsAnswered c h a (own_count p (seen.span p) + suc i)
       by_own zero so made' came' =
@@ -166,21 +192,26 @@ module _ {W V C L A B : Type 0} {t : Table W V C L B} {by : Machine W V C L A} {
             point = l;
             there = there;
             comes = subst (λ y. (event seen y).outcome ≡ Answered a None) x_is comes;
+            so_far = kept_on;
             span = subst (λ y. All (IsBetween c h) ((event seen y).after.span p)) x_is all;
             count = subst (λ y. own_count p ((event seen y).after.span p) ≡ own_count p (seen.span p) + suc i) x_is (let c = count_mine a s.outcome mark seen.span (ap (λ y. y.0) x_is) (inr comes) in omega (arith, c, so));
           }
       by_own (suc j) so made' came' =
           let x_is : x ≡ (p, Step) = cc (made') in let comes : s.outcome ≡ GoingOn = cc (came') in let own : Scene W V C L A = event seen (p, Step) in
           let stays = stays_by c l h own.outcome own.seat (seat_of own.after p) there (subst (λ y. (event seen y).outcome ≡ GoingOn) x_is comes) (kept facts seen p Step at.fine).keeps.in_call in
-          on stays.0 (subst (λ y. slice_get (event seen y).after.state.seats p ≡ Some (Calling c stays.0 h)) (sym x_is) stays.1) j (let c = count_mine a s.outcome mark seen.span (ap (λ y. y.0) x_is) (inl comes) in omega (arith, c, so)) (cc (made')) (cc (came'))
+          let going : own.outcome ≡ GoingOn = subst (λ y. (event seen y).outcome ≡ GoingOn) x_is comes in
+          let own_mark : Mark = record { party = p; change = own.change; step_kind = own.step_kind; before = seen.plain; after = own.after.plain } in
+          let timely = continues_by c l h (own.after.span p) own.outcome own.seat there going (kept facts seen p Step at.fine).in_time.in_time in
+          let still : AfterEachStep (Continues c h) p (s.after.span p) = subst (λ y. AfterEachStep (Continues c h) p ((event seen y).after.span p)) (sym x_is) (keeps_own (Continues c h) own.outcome own_mark seen.span going timely kept_on) in
+          on stays.0 (subst (λ y. slice_get (event seen y).after.state.seats p ≡ Some (Calling c stays.0 h)) (sym x_is) stays.1) still j (let c = count_mine a s.outcome mark seen.span (ap (λ y. y.0) x_is) (inl comes) in omega (arith, c, so)) (cc (made')) (cc (came'))
 
       by_turn : (b : Bool) → (x.0 == p) ≡ b → (if b then x ∷ entries_by p es else entries_by p es) ≡ by_party p (to_make i) → (if b then s.outcome ∷ outcomes_by m p s.after.state es else outcomes_by m p s.after.state es) ≡ to_come i a
           → IsAnswered c h a (own_count p (seen.span p) + suc i)
       by_turn true same made' came' = by_own i refl made' came'
-      by_turn false same made' came' = on l (promised.keeps.calls p c l h (another x.0 same) there) i (let c = count_other s.outcome mark seen.span same in omega (arith, c)) made' came'
+      by_turn false same made' came' = on l (promised.keeps.calls p c l h (another x.0 same) there) (keeps_other (Continues c h) s.outcome mark seen.span same (another x.0 same) kept_on) i (let c = count_other s.outcome mark seen.span same in omega (arith, c)) made' came'
 
     walk : (es : Schedule) → Walks es
-    walk [] = λ xs seen at c l h there span i a made came. absurd (nothing_made i made)
+    walk [] = λ xs seen at c l h there span kept_on i a made came. absurd (nothing_made i made)
     walk (x ∷ es) = one_event x es (walk es)
 
     -- what follows from the entries `es` for a party whose first move in them begins its call
@@ -205,7 +236,7 @@ module _ {W V C L A B : Type 0} {t : Table W V C L B} {by : Machine W V C L A} {
             held_at own.seat,
             subst (IsAnswered c (held_at own.seat) a) (let c = ap (own_count p) none in omega (arith, c))
                 (walk es (xs ++ x ∷ []) s.after (on_by x es xs seen at) c begins.0 (held_at own.seat) (subst (λ y. slice_get (event seen y).after.state.seats p ≡ Some (Calling c begins.0 (held_at own.seat))) (sym x_is) begins.1)
-                (subst (All (IsBetween c (held_at own.seat))) (sym none) (All-nil (IsBetween c (held_at own.seat)))) i a (cc (made')) (cc (came'))),
+                (subst (All (IsBetween c (held_at own.seat))) (sym none) (All-nil (IsBetween c (held_at own.seat)))) (subst (AfterEachStep (Continues c (held_at own.seat)) p) (sym none) tt) i a (cc (made')) (cc (came'))),
           )
 
       by_turn : (b : Bool) → (x.0 == p) ≡ b → (if b then x ∷ entries_by p es else entries_by p es) ≡ by_party p (Begin c ∷ to_make i) → (if b then s.outcome ∷ outcomes_by m p s.after.state es else outcomes_by m p s.after.state es) ≡ Begun ∷ to_come i a

@@ -38,4 +38,5 @@ pub use limits::{
     a_call_of_a_fair_mutex_keeps_its_limit, a_call_of_a_rwlock_keeps_its_limit,
     a_call_of_a_spin_mutex_keeps_its_limit, a_call_of_a_ticket_mutex_keeps_its_limit,
     a_call_of_seats_keeps_its_limit, a_lock_of_a_ticket_mutex_enters_in_turn,
+    a_lock_of_a_ticket_mutex_has_its_ticket_in_time, an_upgrade_of_a_rwlock_asks_by_its_first_step,
 };

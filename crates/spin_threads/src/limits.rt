@@ -1,25 +1,27 @@
 //! How many steps a call takes. Each law is the contract of a function that does nothing. A caller that calls this
 //! function learns what the law states.
 //!
-//! Each law but the last speaks of every call of every pass of its lock. The call kept the limit that it has in the
-//! model (`limit` of `spin_step`). A step is one of the model. Changes of the first word by others during the call may
-//! raise this limit. The exchanges that the call repeats failed at most as often as others changed that word
-//! (`KeepsLimits`, `IsWithinLimit`).
+//! Each law `.._keeps_its_limit` speaks of every call of every pass of its lock. The call kept the limit that it has in
+//! the model (`limit` of `spin_step`), also before it was answered. A step is one of the model. Changes of the first
+//! word by others during the call may raise this limit. The exchanges that the call repeats failed at most as often as
+//! others changed that word (`KeepsLimits`, `IsWithinLimit`). No limit bounds the looks of a call that waits.
 ghost use Rattle.std.specs.Prelude.{ℕ, Option, List};
 ghost use Rattle.spin_core.specs.Own.{Numbered};
+ghost use Rattle.spin_core.specs.Passes.{IsCall, Made};
 ghost use Rattle.spin_fair.specs.Fair as fair_mutex;
 ghost use Rattle.spin_fair.specs.declared.fair.rule.View.{View as FairMutexView};
 ghost use Rattle.spin_flag.specs.Flag as spin_mutex;
 ghost use Rattle.spin_flag.specs.declared.spin.rule.View.{View as SpinMutexView};
 ghost use Rattle.spin_step.specs.declared.answer.Answer.TheVariants.{Granted};
 ghost use Rattle.spin_step.specs.declared.ticket_calls.TicketCall.TheVariants.{Lock};
+ghost use Rattle.spin_step_more.specs.declared.rw_calls.RwCall.TheVariants.{Upgrade};
 ghost use Rattle.spin_rwlock.specs.Rw as rwlock;
 ghost use Rattle.spin_rwlock.specs.declared.rwlock.rule.View.{View as RwLockView};
 ghost use Rattle.spin_seats.specs.Rule as seats;
 ghost use Rattle.spin_seats.specs.declared.seats.rule.View.{View as SeatsView};
 ghost use Rattle.spin_ticket.specs.Queue as ticket_mutex;
 ghost use Rattle.spin_ticket.specs.declared.ticket.rule.View.{View as TicketMutexView};
-ghost use Rattle.spin_threads.specs.Counts.{KeepsLimits};
+ghost use Rattle.spin_threads.specs.Counts.{KeepsLimits, StepsOfCall, TakesTicketWithin, HasChanged};
 ghost use Rattle.spin_threads.specs.Turns.{EntersInTurn};
 
 /// A try, an `is_locked` and a release of a pass of a `SpinMutex` take one step each.
@@ -64,6 +66,27 @@ pub fn a_call_of_a_rwlock_keeps_its_limit<T>()
 /// `KeepsLimits` says that each call of a pass keeps its limit.
 pub fn a_call_of_seats_keeps_its_limit()
     ensures { (n : ℕ) → KeepsLimits (seats.model n) SeatsView }
+{}
+
+/// A `lock` of a pass of a `TicketMutex` has its ticket after at most two steps, and one more for each change of the
+/// first word by others meanwhile, or it has found no ticket left.
+///
+/// # Contract
+/// `StepsOfCall` says this of each step of the call but the last one, by which it acquires the lock
+/// (`TakesTicketWithin`).
+pub fn a_lock_of_a_ticket_mutex_has_its_ticket_in_time<T>()
+    ensures { (key : ticket_mutex.Key T) (before now : Option (Numbered TicketMutexView)) (old new : List (ticket_mutex.Made T)) →
+        ticket_mutex.Called key Lock Granted before old now new
+        → StepsOfCall (ticket_mutex.model key) now old new (TakesTicketWithin 2 (ticket_mutex.model key).lock_kind) }
+{}
+
+/// An `upgrade` of an `RwLock` asks to upgrade, or upgrades, by its first step.
+///
+/// # Contract
+/// `StepsOfCall` says that after each step of the call but the last one the party has made a plain step (`HasChanged`).
+pub fn an_upgrade_of_a_rwlock_asks_by_its_first_step<T>()
+    ensures { (opening : T) (before now : Option (Numbered RwLockView)) (old new : List (rwlock.Done T)) →
+        Made (rwlock.model opening) before old now new (IsCall Upgrade Granted) → StepsOfCall (rwlock.model opening) now old new HasChanged }
 {}
 
 /// Suppose that a pass acquired a `TicketMutex` by `lock` with the ticket t. Take any moment before that, and let s be
