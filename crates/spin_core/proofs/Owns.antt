@@ -112,28 +112,28 @@ module _ {W V C L A X S : Type 0} (m : Machine W V C L A) (seat_of : X → Seat 
 
   -- a run that leads to these words, and to all who came
   abbrev Ran : Schedule → ℕ × S → Came X → Type 0
-  Ran log s came = (w : W) × (value : Option V) × (s ≡ words_of w) × runs.Leads m log w value (seats came) × Rested log 0 came
+  Ran log s came = (w : W) × (value : Option V) × (s ≡ words_of w) × runs.Leads m log w value (seats came) × Rested log 0 came × run.AreOfCalls m log
 
   module _ (log : Schedule) (s : ℕ × S) (vs : List (Numbered X)) where
     as_ran : Run log s vs → (came : Came X) × (vs ≡ present_from 0 came) × Ran log s came
-    as_ran (came, w, value, is, s_is, leads, played, rested) =
-        (came, is, (w, value, s_is, (λ more. rw (length-map (map kind came) sits) (leads more, played more)), rested))
+    as_ran (came, w, value, is, s_is, leads, played, rested, so) =
+        (came, is, (w, value, s_is, (λ more. rw (length-map (map kind came) sits) (leads more, played more)), rested, so))
 
     as_run : (came : Came X) → vs ≡ present_from 0 came → Ran log s came → Run log s vs
-    as_run came is (w, value, s_is, leads, rested) =
-        let e = length-map (map kind came) sits in (came, w, value, is, s_is, (λ more. rw (← e) (leads more).0), (λ more. rw (← e) (leads more).1), rested)
+    as_run came is (w, value, s_is, leads, rested, so) =
+        let e = length-map (map kind came) sits in (came, w, value, is, s_is, (λ more. rw (← e) (leads more).0), (λ more. rw (← e) (leads more).1), rested, so)
 
     -- the party with this view has its old place among all who came, or a new place behind them
     placed : (id : ℕ) (view : Option (Numbered X)) → Run log s vs → Stands id view vs
         → (front : Came X) × (o : Option (X × ℕ)) × (back : Came X) × Ran log s (front ++ o ∷ back)
         × (kind o ≡ what view) × MadeNone m seat_of words_of log (length front) view
         × ((u : X) (mark : ℕ) → views_after id view vs (u, length front, mark) ≡ present_from 0 (front ++ Some (u, mark) ∷ back))
-    placed id None is at = let (came, vs_are, (w, value, s_is, leads, rested)) = as_ran is in let p : ℕ = length came in
+    placed id None is at = let (came, vs_are, (w, value, s_is, leads, rested, so)) = as_ran is in let p : ℕ = length came in
         let none = nobody log 0 p came (omega arith) rested in
         let there : runs.Leads m log w value (seats (came ++ None ∷ [])) = rw (seats-seam came None []) (runs.joins m log w value (seats came) leads) in
         let becomes : (u : X) (mark : ℕ) → vs ++ (u, p, mark) ∷ [] ≡ present_from 0 (came ++ Some (u, mark) ∷ []) =
         λ u mark. rw (present_from-append 0 p came (Some (u, mark) ∷ []) (omega arith)) (ap (λ xs. xs ++ (u, p, mark) ∷ []) vs_are) in
-        (came, None, [], (w, value, s_is, there, joins log 0 came rested), refl, (tt, none), becomes)
+        (came, None, [], (w, value, s_is, there, joins log 0 came rested, so), refl, (tt, none), becomes)
     placed id (Some v) is at =
         let (came, vs_are, ran) = as_ran is in let (before, after, vs_is, id_is) = around vs id v at in
         let (front, back, came_is, place, are, rest) = split 0 came before v after (sym vs_is ∙ vs_are) in
@@ -145,7 +145,7 @@ module _ {W V C L A X S : Type 0} (m : Machine W V C L A) (seat_of : X → Seat 
         (front, Some (v.0, v.2), back, ran', refl, (sym p, rw (← p) quiet), becomes)
 
   pub opens : (s : ℕ × S) → s ≡ words_of m.words → Run [] s []
-  opens s is = ([], m.words, m.value, refl, is, (λ more. ap (at_first m) (zero-add more)), (λ more. refl), λ q le. refl)
+  opens s is = ([], m.words, m.value, refl, is, (λ more. ap (at_first m) (zero-add more)), (λ more. refl), (λ q le. refl), refl)
 
   -- the result of a step that turns the view `view` of a party into u
   pub step : (view : Option (Numbered X)) (g : OnWord S) (tells : ℕ → X → Type 0) (says : Says V C A X)
@@ -155,7 +155,7 @@ module _ {W V C L A X S : Type 0} (m : Machine W V C L A) (seat_of : X → Seat 
       Run (log ++ es) (g.0 s) (views_after id view vs (u, p, length (log ++ es)))
       × MadeNone m seat_of words_of log p view × run.AreOwn m own outs log es × says own outs (g.1 s) u)
   step view g tells says moves id s log vs is at u so =
-      let (front, o, back, (w, value, s_is, leads, rested), o_is, none, becomes) = placed log s vs id view is at in
+      let (front, o, back, (w, value, s_is, leads, rested, fits), o_is, none, becomes) = placed log s vs id view is at in
       let (own, outs, said, all, fine, w', now, alone, are, become) = moves w value u (rw (← s_is) so) in
       let p : ℕ = length front in let log' : Schedule = log ++ by_party p own in let came : Came X = front ++ Some (u, length log') ∷ back in
       let (leads', mine) = runs.goes m log (w, value, sits (what view)) (w', now, seat_of u) (seats front) (seats back)
@@ -164,7 +164,7 @@ module _ {W V C L A X S : Type 0} (m : Machine W V C L A) (seat_of : X → Seat 
       let there : runs.Leads m log' w' now (seats came) = rw (seats-seam front (Some (u, length log')) back) leads' in
       let rests = made log p own 0 front o u back (omega arith) rested in
       let run = as_run log' (g.0 s) (views_after id view vs (u, p, length log')) came (becomes u (length log'))
-      (w', now, ap g.0 s_is ∙ sym become, there, rests) in
+      (w', now, ap g.0 s_is ∙ sym become, there, rests, runs.of_calls m log p own fits all) in
       (p, own, outs, (run, none, mine, subst (λ y. says own outs (g.1 y) u) (sym s_is) said))
 
   -- an idle party may leave
@@ -172,6 +172,6 @@ module _ {W V C L A X S : Type 0} (m : Machine W V C L A) (seat_of : X → Seat 
       → Run log s (before ++ v ∷ after) → Run log s (before ++ after)
   leave v idle s log before after is = let (came, vs_are, ran) = as_ran log s (before ++ v ∷ after) is in
       let (front, back, came_is, place, are, rest) = split 0 came before v after vs_are in
-      let (w, value, s_is, leads, rested) = rw came_is at ran in
+      let (w, value, s_is, leads, rested, so) = rw came_is at ran in
       as_run log s (before ++ after) (front ++ None ∷ back) (cc (present_from-append 0 v.1 front (None ∷ back) place))
-      (w, value, s_is, rw (seats-seam front None back) (rw (seats-seam front (Some (v.0, v.2)) back, idle) at leads), goes log 0 front (v.0, v.2) back rested)
+      (w, value, s_is, rw (seats-seam front None back) (rw (seats-seam front (Some (v.0, v.2)) back, idle) at leads), goes log 0 front (v.0, v.2) back rested, so)

@@ -17,7 +17,7 @@ use Rattle.spin_step.specs.declared.stepped.Next.TheVariants.{Continue, Answers}
 use Rattle.spin_step.specs.Machines.{Machine}
 use Rattle.spin_step.specs.Schedules.{State, Entry, Happened, after, at_first, happens, moves, skipped, seated, begun, goes_on, refuses, resting, placed, may_write, written_by}
 use Rattle.spin_step.proofs.Schedules.{after-append}
-use Rattle.spin_core.specs.Run.{is_of_call, outcomes, is_played, IsPlayed, AreOwn}
+use Rattle.spin_core.specs.Run.{is_of_call, outcomes, is_played, IsPlayed, AreOfCalls, AreOwn}
 use Rattle.spin_core.specs.Own.{by_party}
 
 pub get_seam : {X : Type 0} (xs : List X) (y : X) (ys : List X) → slice_get (xs ++ y ∷ ys) (length xs) ≡ Some y
@@ -69,7 +69,7 @@ module _ {W V C L A : Type 0} (m : Machine W V C L A) where
     written_alike v true = (Written, (z.0, Some v, z.2), λ xs ys. refl)
     written_alike v false = skips
 
-  moved_alike : (w : W) (value : Option V) (seat : Seat C L) (move : Move C V) → is_of_call move ≡ true
+  moved_alike : (w : W) (value : Option V) (seat : Seat C L) (move : Move C V) → is_of_call m move ≡ true
       → Alike (λ xs ys. moves m (among (w, value, seat) xs ys) (length xs) move seat)
   moved_alike w value Idle (Begin c) is = begun_alike (w, value, Idle) c None (m.begin c None)
   moved_alike w value (Holding h) (Begin c) is = begun_alike (w, value, Holding h) c (Some h) (m.begin c (Some h))
@@ -82,7 +82,7 @@ module _ {W V C L A : Type 0} (m : Machine W V C L A) where
   moved_alike w value seat move is = first_of (search (skips (w, value, seat)), cc)
 
   -- so the moves of a step do among others what they do in a world of the party's own
-  go_among : (z z' : Alone) (own : List (Move C V)) (outs : List (Outcome A V)) → list_all is_of_call own ≡ true
+  go_among : (z z' : Alone) (own : List (Move C V)) (outs : List (Outcome A V)) → list_all (is_of_call m) own ≡ true
       → after m (among z [] []) (by_party 0 own) ≡ among z' [] [] → outcomes m (among z [] []) (by_party 0 own) ≡ outs
       → (xs ys : Seats) → let es = by_party (length xs) own in
       (after m (among z xs ys) es ≡ among z' xs ys) × (outcomes m (among z xs ys) es ≡ outs)
@@ -93,6 +93,12 @@ module _ {W V C L A : Type 0} (m : Machine W V C L A) where
       ≡ record { outcome = o; next = among to xs ys } = λ xs ys. rw (get_seam xs z.2 ys) (alike xs ys) in
       let rest = go_among to z' own _ each.1 (rw (now [] [], after) at is) refl xs ys in
       (rw (now xs ys, after) rest.0, rw (now xs ys) (ap (λ l. o ∷ l) rest.1 ∙ (rw (now [] []) at are)))
+
+  -- so a schedule of moves of calls is still one after a step
+  pub of_calls : (log : Schedule) (p : ℕ) (own : List (Move C V)) → AreOfCalls m log → list_all (is_of_call m) own ≡ true → AreOfCalls m (log ++ by_party p own)
+  of_calls [] p [] so all = refl
+  of_calls [] p (move ∷ own) so all = let each = and_parts (is_of_call m move) (list_all (is_of_call m) own) all in rw each.0 (of_calls [] p own so each.1)
+  of_calls (e ∷ es) p own so all = let each = and_parts (is_of_call m e.1) (list_all (λ x. is_of_call m x.1) es) so in rw each.0 (of_calls es p own each.1 all)
 
   outcomes-append : (s : State W V C L) (xs ys : Schedule) → outcomes m s (xs ++ ys) ≡ outcomes m s xs ++ outcomes m (after m s xs) ys
   outcomes-append s [] ys = refl
@@ -112,7 +118,7 @@ module _ {W V C L A : Type 0} (m : Machine W V C L A) where
 
   -- a party that has others before it and behind it makes moves, with the outcomes that they have in a world of its own
   pub goes : (log : Schedule) (z z' : Alone) (xs ys : Seats) → Leads log z.0 z.1 (xs ++ z.2 ∷ ys)
-      → (own : List (Move C V)) (outs : List (Outcome A V)) → list_all is_of_call own ≡ true → list_all is_played outs ≡ true
+      → (own : List (Move C V)) (outs : List (Outcome A V)) → list_all (is_of_call m) own ≡ true → list_all is_played outs ≡ true
       → after m (among z [] []) (by_party 0 own) ≡ among z' [] [] → outcomes m (among z [] []) (by_party 0 own) ≡ outs
       → (p : ℕ) → p ≡ length xs → let es = by_party p own in Leads (log ++ es) z'.0 z'.1 (xs ++ z'.2 ∷ ys) × AreOwn m own outs log es
   goes log z z' xs ys leads own outs all fine alone are p is =

@@ -8,7 +8,7 @@ use Rattle.spin_step.specs.declared.schedule.Move.{Move}
 use Rattle.spin_step.specs.declared.schedule.Outcome.{Outcome}
 use Rattle.spin_step.specs.Machines.{Machine}
 use Rattle.spin_step.specs.Schedules.{Entry}
-use Rattle.spin_core.specs.Run.{IsPlayed, LeadsTo, AreOwn}
+use Rattle.spin_core.specs.Run.{IsPlayed, AreOfCalls, LeadsTo, AreOwn}
 use Rattle.spin_core.specs.declared.trace.Trace.{Trace}
 
 -- what a party is (X), its number, and its mark
@@ -53,10 +53,10 @@ Rested schedule k (o ∷ us) =
 
 module _ {W V C L A X S : Type 0} (m : Machine W V C L A) (seat_of : X → Seat C L) (words_of : W → ℕ × S) where
   -- The schedule leads to these words, and to the views of all parties that have not left. None of its entries is
-  -- skipped. No party has made an entry from its mark on (`Rested`).
+  -- skipped, and each is a move of a call (`AreOfCalls`). No party has made an entry from its mark on (`Rested`).
   abbrev pub IsRun : List (Entry C V) → ℕ × S → List (Numbered X) → Type 0
   IsRun schedule s vs =
-      (came : List (Option (X × ℕ))) × (w : W) × (value : Option V) × (vs ≡ present_from 0 came) × (s ≡ words_of w) × LeadsTo m seat_of words_of schedule w value (map kind came) × IsPlayed m (length (map kind came)) schedule × Rested schedule 0 came
+      (came : List (Option (X × ℕ))) × (w : W) × (value : Option V) × (vs ≡ present_from 0 came) × (s ≡ words_of w) × LeadsTo m seat_of words_of schedule w value (map kind came) × IsPlayed m (length (map kind came)) schedule × Rested schedule 0 came × AreOfCalls m schedule
 
   -- the party has made no entry after its last step; a new party has made none at all
   abbrev pub MadeNone : List (Entry C V) → ℕ → Option (Numbered X) → Type 0

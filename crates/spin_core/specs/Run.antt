@@ -12,9 +12,10 @@ use Rattle.spin_step.specs.Machines.{Machine}
 use Rattle.spin_step.specs.Schedules.{State, Entry, after, at_first, happens}
 pub use Rattle.spin_core.specs.Cell.{OnWord, by_first, by_second}
 
--- the move begins a call, is a step of one, or writes a value
-abbrev pub is_of_call : {C V : Type 0} → Move C V → Bool
-is_of_call m = elim m [ Begin c ↦ true | Step ↦ true | Weak ↦ true | Write v ↦ true | _ ↦ false ]
+-- The move begins a call, is a step of one, or writes a value. On threads no exchange fails spuriously. Only where
+-- closures make the value is there a move `Weak`: it says that a closure has failed.
+abbrev pub is_of_call : {W V C L A : Type 0} → Machine W V C L A → Move C V → Bool
+is_of_call m move = elim move [ Begin c ↦ true | Step ↦ true | Weak ↦ m.lock_kind.makes_value | Write v ↦ true | _ ↦ false ]
 
 -- the move was not skipped
 abbrev pub is_played : {V A : Type 0} → Outcome A V → Bool
@@ -25,6 +26,10 @@ module _ {W V C L A : Type 0} (m : Machine W V C L A) where
   abbrev pub outcomes : State W V C L → List (Entry C V) → List (Outcome A V)
   outcomes s [] = []
   outcomes s (e ∷ es) = (happens m s e.0 e.1).outcome ∷ outcomes (happens m s e.0 e.1).next es
+
+  -- each entry of the schedule is a move as in `is_of_call`
+  abbrev pub AreOfCalls : List (Entry C V) → Type 0
+  AreOfCalls schedule = list_all (λ e. is_of_call m e.1) schedule ≡ true
 
   -- in each world with at least `least` parties, no entry of the schedule is skipped
   abbrev pub IsPlayed : ℕ → List (Entry C V) → Type 0
@@ -55,7 +60,7 @@ module _ {W V C L A : Type 0} (m : Machine W V C L A) where
     -- is one as in `is_of_call`, and none is skipped. P holds of the moves and their outcomes.
     abbrev pub Goes : Option X → X → W → Option V → (ℕ × S) → (List (Move C V) → List (Outcome A V) → Type 0) → Type 0
     Goes view u w value s P =
-        (own : List (Move C V)) × (outs : List (Outcome A V)) × P own outs × (list_all is_of_call own ≡ true) × (list_all is_played outs ≡ true) × (w' : W) × (now : Option V)
+        (own : List (Move C V)) × (outs : List (Outcome A V)) × P own outs × (list_all (is_of_call m) own ≡ true) × (list_all is_played outs ≡ true) × (w' : W) × (now : Option V)
         × (after m (alone w value (sits view)) (of_one own) ≡ record { words = w'; value = now; seats = seat_of u ∷ [] }) × (outcomes (alone w value (sits view)) (of_one own) ≡ outs) × (words_of w' ≡ s)
 
     -- Take any words, and any next view for which `then` holds of the number that the step finds. The party has moves

@@ -12,11 +12,11 @@ use Rattle.spin_step.specs.declared.once_calls.OncePoint.TheVariants.{Run}
 use Rattle.spin_step.specs.declared.place.Hold.{Hold}
 use Rattle.spin_step.specs.declared.place.Seat.{Seat}
 use Rattle.spin_step.specs.declared.place.Seat.TheVariants.{Idle, Calling}
-use Rattle.spin_step.specs.declared.schedule.Move.TheVariants.{Begin, Step, Weak}
+use Rattle.spin_step.specs.declared.schedule.Move.TheVariants.{Begin, Step, Weak, Write}
 use Rattle.spin_step.specs.Schedules.{after, happens, moves, moves_at, at_first}
 use Rattle.spin_step.proofs.Lists.{get-set_same}
 use Rattle.spin_core.specs.Own.{Numbered, IsRun, Rested, present_from, kind, entries_by}
-use Rattle.spin_core.specs.Run.{is_played, outcomes, IsPlayed, LeadsTo, sits}
+use Rattle.spin_core.specs.Run.{is_of_call, is_played, outcomes, AreOfCalls, IsPlayed, LeadsTo, sits}
 use Rattle.spin_once.specs.Foretold.{fails_by, will_fail, named, told_of, foretold, place_of, counted}
 use Rattle.spin_once.specs.Model.{Point, at, failed}
 use Rattle.spin_once.specs.OnceValues.{Made}
@@ -254,8 +254,21 @@ rested_marked log k [] is = λ q ge. none_told q log (is q ge)
 rested_marked log k (None ∷ came) is = (tt, rested_marked log (suc k) came is.1)
 rested_marked log k (Some u ∷ came) is = ((fewer u.1 log, ap (entries_by k) (cut u.1 log) ∙ none_told k (drop u.1 log) is.0.1), rested_marked log (suc k) came is.1)
 
+-- ---- the moves of the parties
+module _ (given : Option (Unit {0})) where
+  fits_by : (p : ℕ) (move : OneMove) (fails rest : Bool) (later : List Made) → (is_of_call (m given) move && rest) ≡ true → (rest ≡ true → AreOfCalls (t given) later) → AreOfCalls (t given) (told_of p move fails later)
+  fits_by p (Begin c) fails rest later so on = on so
+  fits_by p Step fails rest later so on = on so
+  fits_by p Weak fails rest later so on = on so
+  fits_by p (Write v) fails rest later so on = on so
+  fits_by p move fails rest later so on = absurd (cc (so))
+
+  fits : (log : List Made) → AreOfCalls (m given) log → AreOfCalls (t given) (foretold log)
+  fits [] so = refl
+  fits (e ∷ es) so = fits_by e.0 e.1 (will_fail es e.0) (list_all (λ e. is_of_call (m given) e.1) es) (foretold es) so (fits es)
+
 pub is_run : (given : Option (Unit {0})) (log : List Made) (s : ℕ × Unit {0}) (parties : List (Numbered View)) → IsRun (m given) seat_of words_of log s parties → IsRun (t given) place_of words_of (foretold log) s (map (counted log) parties)
-is_run given log s parties (came, w, value, is, words_is, led, played, rested) =
+is_run given log s parties (came, w, value, is, words_is, led, played, rested, so) =
     let both = leads given log w value (map kind came) led played in (
       map (marked log) came,
       w,
@@ -265,4 +278,5 @@ is_run given log s parties (came, w, value, is, words_is, led, played, rested) =
       subst (λ us. LeadsTo (t given) place_of words_of (foretold log) w value us) (sym (kinds_marked log came)) both.0,
       subst (λ us. IsPlayed (t given) (length us) (foretold log)) (sym (kinds_marked log came)) both.1,
       rested_marked log 0 came rested,
+      fits given log so,
     )

@@ -188,7 +188,7 @@ module _ {T S : Type 0} (makes : S → T → Type 0) (key : Key T S) where
   unfolding IsOnce
   starts_made t named empty value is is_made =
       let reader : Numbered View = (Reading, 0, 0) in let met = steps.meets makes key 2 tt (Reading ∷ []) (omega arith, refl) refl in
-      let runs : IsRun (model (Some tt)) seat_of words_of [] (2, tt) (reader ∷ []) = (Some (Reading, 0) ∷ [], 2, Some tt, refl, refl, (λ more. ap idle_state (one_more more)), (λ more. refl), (((omega arith), refl), λ q le. refl)) in
+      let runs : IsRun (model (Some tt)) seat_of words_of [] (2, tt) (reader ∷ []) = (Some (Reading, 0) ∷ [], 2, Some tt, refl, refl, (λ more. ap idle_state (one_more more)), (λ more. refl), (((omega arith), refl), λ q le. refl), refl) in
       let here : IsRun (model given) seat_of words_of (bare t.entries) (2, t.word) (reader ∷ []) = rw (is, empty) runs in
       let only : made key.opening.value t.entries ≡ value ∷ [] = rw (is, empty) refl in
       let few : AtMostOne 2 (made key.opening.value t.entries) = rw only (λ other. absurd (other refl), omega arith) in

@@ -200,18 +200,18 @@ sits_idle _ cm n none = absurd cm
 
 -- the moves of each step are moves of a call, and none is skipped
 module _ {T : Type 0} where
-  steps_only : (answers : List (Option (Answer T))) → list_all (is_of_call {C = RwCall} {V = T}) (map (λ _. Step) answers) ≡ true
-  steps_only [] = refl
-  steps_only (a ∷ answers) = steps_only answers
+  steps_only : (v₀ : T) (answers : List (Option (Answer T))) → list_all (is_of_call (model v₀)) (map (λ _. Step) answers) ≡ true
+  steps_only v₀ [] = refl
+  steps_only v₀ (a ∷ answers) = steps_only v₀ answers
 
   none_skipped : (answers : List (Option (Answer T))) → list_all is_played (map outcome_of answers) ≡ true
   none_skipped [] = refl
   none_skipped (None ∷ answers) = none_skipped answers
   none_skipped (Some a ∷ answers) = none_skipped answers
 
-  of_a_call : (goes_on : Bool) (c : RwCall) (answers : List (Option (Answer T))) → list_all is_of_call (moves_of goes_on c answers) ≡ true
-  of_a_call true c answers = steps_only answers
-  of_a_call false c answers = steps_only answers
+  of_a_call : (v₀ : T) (goes_on : Bool) (c : RwCall) (answers : List (Option (Answer T))) → list_all (is_of_call (model v₀)) (moves_of goes_on c answers) ≡ true
+  of_a_call v₀ true c answers = steps_only v₀ answers
+  of_a_call v₀ false c answers = steps_only v₀ answers
 
   all_played : (goes_on : Bool) (answers : List (Option (Answer T))) → list_all is_played (outcomes_of goes_on answers) ≡ true
   all_played true answers = none_skipped answers
@@ -391,7 +391,7 @@ module _ {T : Type 0} (opening : Opening T) where
           (λ w value u is.
           let t = turn w in let p = plays w value u is in let own = moves_of t.goes_on t.call t.answers in let outs = outcomes_of t.goes_on t.answers in
           let said : course_of (λ x. Unit {0}) t own outs = subst (λ b. behind_write b (λ x. Unit {0}) (steps_of t) own outs) (sym (none w)) (refl, refl) in
-          rw (to w u is) (own, outs, (refl, said), of_a_call t.goes_on t.call t.answers, all_played t.goes_on t.answers, f w, value, p.0, p.1, refl)) allows,
+          rw (to w u is) (own, outs, (refl, said), of_a_call opening.value t.goes_on t.call t.answers, all_played t.goes_on t.answers, f w, value, p.0, p.1, refl)) allows,
     )
 
     -- the party may make a load or an exchange; the number found decides the next view

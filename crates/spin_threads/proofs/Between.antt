@@ -1,15 +1,18 @@
 -- If the trace of a lock on threads is a schedule of its model, then all that the model's laws say of this schedule
 -- holds of the lock.
-use Rattle.std.proofs.Common.{◌≡◌, ◌≢◌, ◌⊎◌, inl, inr, ⊎_elim, ℕ, zero, suc, ◌+◌, ◌≤◌, Option, Some, None, List, [], ◌∷◌, ◌++◌, length, map, slice_get, refl, sym, ap, ◌∙◌, subst, arith}
-use Rattle.std.specs.List.{All}
+use Rattle.std.proofs.Common.{◌≡◌, ◌≢◌, ◌⊎◌, inl, inr, ⊎_elim, ℕ, zero, suc, ◌+◌, ◌≤◌, true, false, Option, Some, None, List, [], ◌∷◌, ◌++◌, length, map, slice_get, refl, sym, ap, ◌∙◌, subst, arith}
+use Rattle.std.specs.List.{All, list_all}
+use Rattle.std.proofs.lemmas.Bool.{and_parts, false≢true}
 use Rattle.std.proofs.lemmas.List.{append_assoc, append-nil, length-append}
 use Rattle.std.proofs.lemmas.Option.{slice_get_past}
 use Rattle.std.proofs.lemmas.List.Elements.{All-nil, All-cons, All-head, All-tail, All-same}
 use Rattle.spin_core.specs.Own.{Numbered, IsRun, present_from, kind}
-use Rattle.spin_core.specs.Run.{sits}
+use Rattle.spin_core.specs.Run.{AreOfCalls, is_of_call, sits}
 use Rattle.spin_core.proofs.Runs.{get_seam}
 use Rattle.spin_step.specs.declared.place.Seat.{Seat}
 use Rattle.spin_step.specs.declared.place.Seat.TheVariants.{Idle}
+use Rattle.spin_step.specs.declared.schedule.Move.{Move}
+use Rattle.spin_step.specs.declared.schedule.Move.TheVariants.{Weak}
 use Rattle.spin_step.specs.Acts.{Table}
 use Rattle.spin_step.specs.Machines.{Machine}
 use Rattle.spin_step.specs.Schedules.{State, Entry, after, at_first}
@@ -18,7 +21,7 @@ use Rattle.spin_world_core.specs.Users.{seen_after}
 use Rattle.spin_world_core.proofs.Shapes.{Notes}
 use Rattle.spin_world_core.proofs.Steps.{played, Plays}
 use Rattle.spin_world_core.proofs.Reached as reached
-use Rattle.spin_threads.specs.Between.{Between}
+use Rattle.spin_threads.specs.Between.{Between, NoneFailsSpuriously, is_sure}
 
 module _ {W V C L A X S : Type 0} (m : Machine W V C L A) (seat_of : X → Seat C L) (words_of : W → ℕ × S) where
   abbrev seats : List (Option (X × ℕ)) → List (Seat C L)
@@ -92,6 +95,7 @@ module _ {W V C L A X S : Type 0} (m : Machine W V C L A) (seat_of : X → Seat 
         exclusive = is.exclusive;
         stand = each (λ v. StandsFor is.seen.plain v.1 (is.seen.span v.1) (Some (seat_of v.0))) (λ v so. so) parties is.stand;
         apart = λ i j v w here there same. is.apart i j (with_mark marks v) (with_mark marks w) (marked parties i v here) (marked parties j w there) same;
+        sure = is.sure;
         others = λ p all. is.others p (back p parties all);
       }
     where
@@ -114,13 +118,24 @@ module _ {W V C L A B X S : Type 0} {t : Table W V C L B} {by : Machine W V C L 
   abbrev m : Machine W V C L A
   m = played t by
 
-  pub between : (log : List (Entry C V)) (words : ℕ × S) (parties : List (Numbered X)) → IsRun m seat_of words_of log words parties → Between m seat_of words_of log words parties
-  between log words parties (came, w, value, is, words_is, led, played, rested) =
+  -- threads make a move `Weak` only where closures make the value
+  pub none_fails : m.lock_kind.makes_value ≡ false → (log : List (Entry C V)) → AreOfCalls m log → NoneFailsSpuriously log
+  none_fails strong [] fits = refl
+  none_fails strong (e ∷ es) fits =
+      let each = and_parts (is_of_call m e.1) (list_all (λ x. is_of_call m x.1) es) fits in
+      rw (by_move e.1 each.0) (none_fails strong es each.1)
+    where
+      by_move : (move : Move C V) → is_of_call m move ≡ true → is_sure move ≡ true
+      by_move Weak is = absurd (false≢true (sym strong ∙ is))
+      by_move _ is = refl
+
+  pub between : (log : List (Entry C V)) (words : ℕ × S) (parties : List (Numbered X)) → NoneFailsSpuriously log → IsRun m seat_of words_of log words parties → Between m seat_of words_of log words parties
+  between log words parties sure (came, w, value, is, words_is, led, played, rested, fits) =
       let n : ℕ = length (map kind came) in let seen : Seen W V C L = seen_after m (opening m n) log in
       let good = reached.good f n log in let Stand : Numbered X → Type 0 = λ v. StandsFor seen.plain v.1 (seen.span v.1) (Some (seat_of v.0)) in
       let state : seen.state ≡ record { words = w; value = value; seats = seats m seat_of words_of came ++ [] } = reached.state_is f n log ∙ ap (λ j. after m (at_first m j) log) (let e : n ≡ n + 0 = omega arith in e) ∙ led 0 in
       let seated : (p : ℕ) → slice_get (state_at m n log).seats p ≡ slice_get (seats m seat_of words_of came) p =
-          λ p. ap (λ (s : State W V C L). slice_get s.seats p) (sym (reached.state_is f n log) ∙ state) ∙ ap (λ l. slice_get l p) (append-nil (seats m seat_of words_of came)) in
+      λ p. ap (λ (s : State W V C L). slice_get s.seats p) (sym (reached.state_is f n log) ∙ state) ∙ ap (λ l. slice_get l p) (append-nil (seats m seat_of words_of came)) in
       record {
         came = n;
         seen = seen;
@@ -130,9 +145,14 @@ module _ {W V C L A B X S : Type 0} {t : Table W V C L B} {by : Machine W V C L 
         exclusive = good.exclusive;
         stand = All-same Stand parties (present_from 0 came) is (sit m seat_of words_of Stand 0 [] came refl (λ v at. reached.stands f n log v.1 (seated v.1 ∙ at)));
         apart = subst (AreApart m seat_of words_of) (sym is) (present_apart m seat_of words_of came 0);
+        sure = sure;
         others = λ p all.
             let there : (o : Option (Seat C L)) → slice_get (seats m seat_of words_of came) p ≡ o → StandsFor seen.plain p (seen.span p) o =
-                λ o at. subst (StandsFor seen.plain p (seen.span p)) (reached.seat_is f n log p o (seated p ∙ at)) (good.parties p).stands in
+            λ o at. subst (StandsFor seen.plain p (seen.span p)) (reached.seat_is f n log p o (seated p ∙ at)) (good.parties p).stands in
             ⊎_elim (λ idle. there (Some Idle) idle) (λ past. there None (slice_get_past (seats m seat_of words_of came) p past))
             (free m seat_of words_of came 0 p p (omega arith) (All-same (λ v. v.1 ≢ p) (present_from 0 came) parties (sym is) all));
       }
+
+  -- of a lock whose closures do not make its value
+  pub between_strong : m.lock_kind.makes_value ≡ false → (log : List (Entry C V)) (words : ℕ × S) (parties : List (Numbered X)) → IsRun m seat_of words_of log words parties → Between m seat_of words_of log words parties
+  between_strong strong log words parties run = between log words parties (none_fails strong log run.8) run

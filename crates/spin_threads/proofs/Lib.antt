@@ -3,3 +3,4 @@ pub mod Calls
 pub mod Counts
 pub mod Moments
 pub mod Onces
+pub mod Sure

@@ -1,14 +1,24 @@
 -- What holds of a lock between any two steps of the threads that use it.
-use Rattle.std.specs.Prelude.{◌≡◌, ◌≢◌, ℕ, List, Some, slice_get}
-use Rattle.std.specs.List.{All}
+use Rattle.std.specs.Prelude.{◌≡◌, ◌≢◌, ℕ, Bool, true, false, List, Some, slice_get}
+use Rattle.std.specs.List.{All, list_all}
 use Rattle.spin_step.specs.Parties.{IsExclusive, entries, no_entries}
 use Rattle.spin_core.specs.Own.{Numbered}
 use Rattle.spin_step.specs.declared.place.Seat.{Seat}
+use Rattle.spin_step.specs.declared.schedule.Move.{Move}
+use Rattle.spin_step.specs.declared.schedule.Move.TheVariants.{Weak}
 use Rattle.spin_step.specs.Calls.{encoded}
 use Rattle.spin_step.specs.Machines.{Machine}
 use Rattle.spin_step.specs.Schedules.{Entry}
 use Rattle.spin_world_core.specs.Runs.{Seen, opening, StandsFor}
 use Rattle.spin_world_core.specs.Users.{seen_after}
+
+-- the move is no spurious failure of an exchange
+abbrev pub is_sure : {C V : Type 0} → Move C V → Bool
+is_sure move = elim move [ Weak ↦ false | _ ↦ true ]
+
+-- no exchange fails spuriously in this history
+abbrev pub NoneFailsSpuriously : {C V : Type 0} → List (Entry C V) → Type 0
+NoneFailsSpuriously log = list_all (λ e. is_sure e.1) log ≡ true
 
 -- The threads have made the moves `log` on a lock with the model m. Then the lock has these words and these parties, and
 -- the fields of this record hold.
@@ -27,5 +37,7 @@ pub record Between {W V C L A X S : Type 0} (m : Machine W V C L A) (seat_of : X
   pub stand : All (λ v. StandsFor seen.plain v.1 (seen.span v.1) (Some (seat_of v.0))) parties
   -- no two parties have one number
   pub apart : (i j : ℕ) (v w : Numbered X) → slice_get parties i ≡ Some v → slice_get parties j ≡ Some w → v.1 ≡ w.1 → i ≡ j
+  -- no exchange of a thread has failed spuriously
+  pub sure : NoneFailsSpuriously log
   -- whoever is none of these parties has nothing in the plain lock
   pub others : (p : ℕ) → All (λ v. v.1 ≢ p) parties → entries p seen.plain ≡ no_entries

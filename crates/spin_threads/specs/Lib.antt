@@ -2,4 +2,5 @@ pub mod Between
 pub mod Counts
 pub mod Moments
 pub mod Onces
+pub mod Progress
 pub mod Turns

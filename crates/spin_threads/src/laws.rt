@@ -1,5 +1,6 @@
 //! One law for each kind of lock, except for a `Barrier` and the seated locks. Each law is the contract of a function
-//! that does nothing. A caller that calls this function learns what the law states.
+//! that does nothing. A caller that calls this function learns what the law states. Each law also says that no exchange
+//! of a thread has failed spuriously (`sure` of `Between`).
 ghost use Rattle.std.specs.Prelude.{◌≡◌, ◌++◌, ◌∷◌, ℕ, List};
 ghost use Rattle.spin_core.specs.Own.{Numbered};
 ghost use Rattle.spin_core.specs.Run.{IsPlayed};

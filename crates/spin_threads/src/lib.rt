@@ -8,11 +8,15 @@
 //! Some answers to a pass were right at some moment of the call, such as a failed try: see
 //! [`a_refused_try_found_the_spin_mutex_held`]. A call of a pass keeps the limit of steps that it has in the model: see
 //! [`a_call_of_a_ticket_mutex_keeps_its_limit`]. A `Once` and a `LazyLock` have no law about limits.
+//!
+//! No exchange of a thread fails spuriously, as one may in the model. So the laws of progress need no alternative: see
+//! [`some_thread_acquires_a_spin_mutex_in_four_rounds`].
 #![tactic(auto)]
 
 mod answers;
 mod laws;
 mod limits;
+mod progress;
 pub mod uses;
 
 pub use answers::{
@@ -39,4 +43,9 @@ pub use limits::{
     a_call_of_a_spin_mutex_keeps_its_limit, a_call_of_a_ticket_mutex_keeps_its_limit,
     a_call_of_seats_keeps_its_limit, a_lock_of_a_ticket_mutex_enters_in_turn,
     a_lock_of_a_ticket_mutex_has_its_ticket_in_time, an_upgrade_of_a_rwlock_asks_by_its_first_step,
+};
+pub use progress::{
+    an_upgrade_of_a_rwlock_is_granted_in_three_rounds,
+    some_thread_acquires_a_rwlock_in_the_rounds_of_the_holders,
+    some_thread_acquires_a_spin_mutex_in_four_rounds,
 };
