@@ -6,6 +6,7 @@
 
 pub mod cache;
 pub mod ledger;
+pub mod meeting;
 pub mod phases;
 pub mod relay;
 pub mod settings;

@@ -5,6 +5,8 @@
 #[cfg(test)]
 mod barrier;
 #[cfg(test)]
+mod barrier_kept;
+#[cfg(test)]
 mod bounded;
 #[cfg(test)]
 mod cache;
