@@ -1,8 +1,9 @@
 //! Tests of worlds, of texts, of the explorer, and of both programs over streams in memory: what no contract says.
+//!
+//! Here are those that run threads, those that run long, and those that show that a caller can do what a call asks. The
+//! others are in `unproved`, which `.ci/tests` runs.
 #![tactic(auto)]
 
-#[cfg(test)]
-mod alike;
 #[cfg(test)]
 mod ends;
 #[cfg(test)]
@@ -10,6 +11,4 @@ mod explorer;
 #[cfg(test)]
 mod program;
 #[cfg(test)]
-mod rows;
-#[cfg(test)]
-mod text;
+mod two_runs;

@@ -1,25 +1,8 @@
 //! The program over streams in memory: texts with all that is written for them, and what the program says when it
 //! fails.
-ghost use Rattle.std.specs.Prelude.{◌≡◌, false};
 
 use crate::ends::{Paper, Tape};
 use spin_explore_run::program;
-use std::alloc::Global;
-
-/// Runs the program. A caller learns nothing of what it ensures: the tests check the results themselves.
-fn run(
-    alloc: Global,
-    words: &[&str],
-    input: &mut Tape<'_>,
-    output: &mut Paper,
-    errors: &mut Paper,
-) -> u8
-    requires input { input.old.failed ≡ false }
-    requires output { output.old.failed ≡ false }
-    requires errors { errors.old.failed ≡ false }
-{
-    program(alloc, words, input, output, errors)
-}
 
 /// Words, a text, the status, what is written, and the line on standard error.
 type Row = (
@@ -135,7 +118,7 @@ fn texts_and_what_comes_of_them(rt: HostRuntime) {
         let mut input = Tape::new(text.as_bytes());
         let mut output = Paper::endless(rt.alloc());
         let mut errors = Paper::endless(rt.alloc());
-        let ended = run(rt.alloc(), words, &mut input, &mut output, &mut errors);
+        let ended = program(rt.alloc(), words, &mut input, &mut output, &mut errors);
         assert_eq!(rt; ended, *status, "{text}");
         output.shows(&rt, told.as_bytes());
         errors.shows(&rt, line.as_bytes());
@@ -150,7 +133,7 @@ fn streams_that_fail(rt: HostRuntime) {
         let mut output = Paper::new(rt.alloc(), usize::MAX, room);
         // Where the output does not fit, the line may not fit either. Then the status is the same.
         let mut errors = Paper::new(rt.alloc(), usize::MAX, room);
-        let ended = run(rt.alloc(), &[], &mut input, &mut output, &mut errors);
+        let ended = program(rt.alloc(), &[], &mut input, &mut output, &mut errors);
         let (status, line) = if room == told.len() {
             (0, "")
         } else {
@@ -164,7 +147,7 @@ fn streams_that_fail(rt: HostRuntime) {
     input.fails = true;
     let mut output = Paper::endless(rt.alloc());
     let mut errors = Paper::endless(rt.alloc());
-    let ended = run(rt.alloc(), &[], &mut input, &mut output, &mut errors);
+    let ended = program(rt.alloc(), &[], &mut input, &mut output, &mut errors);
     assert_eq!(rt; ended, 1);
     output.shows(&rt, b"");
     errors.shows(&rt, b"read failed\n");

@@ -1,62 +1,42 @@
 //! Plays each worked schedule in a new world, with the same code for every object. It compares words and values as
 //! numbers.
 
+use super::alike::{Alike, are_alike};
 use super::objects::{OfHeader, parties_of};
 use super::refused::in_each_room;
 use super::rounds::in_rounds;
 use super::stops::at_each_place;
-use super::transcripts::Worked;
-use super::{gallery_texts, worked_texts};
-use crate::alike::{Alike, are_alike};
+use super::worked::{pages, worked_on};
 use spin_text::{Header, Rest, entry, first_line, header_of};
 use spin_world::{
-    Answer, BarrierObject, Event, Fair, Flag, Move, Object, OnceObject, Outcome, Place, Rw, Ticket,
-    Transcript, World,
+    Answer, BarrierObject, Event, Fair, Flag, Move, OnceObject, Outcome, Place, Rw, Ticket, World,
 };
 use std::alloc::{AllocError, Allocator, Global};
 use std::process::Abort;
+use std::rt::Files;
 
 /// What a schedule shows, and the opening of its world.
 #[derive(Clone, Copy)]
-pub struct Opening {
-    pub shows: &'static str,
+pub struct Opening<'a> {
+    pub shows: &'a str,
     pub header: Header,
 }
 
-/// Creates a world in that opening. Callers of this function, of [`run`], of [`numbers`] and of [`value`] learn nothing
-/// of what these ensure: the tests check the results themselves.
+/// Creates a world in that opening.
 pub fn world<O: OfHeader, A: Allocator + Copy>(
     rt: &impl Abort,
     alloc: A,
-    opening: Opening,
+    opening: Opening<'_>,
 ) -> Result<World<O, A>, AllocError> {
     let object = O::of_header(opening.header).expect(rt, opening.shows);
     World::new(alloc, object, parties_of(opening.header))
-}
-
-/// Runs a schedule in a world.
-pub fn run<O: Object, A: Allocator + Copy>(
-    world: &mut World<O, A>,
-    schedule: &[(usize, Move<O::Call, O::Value>)],
-) -> Result<Transcript<O, A>, AllocError> {
-    world.run(schedule)
-}
-
-/// The words as numbers.
-fn numbers<O: OfHeader>(words: O::Words) -> (u64, Option<u64>) {
-    O::numbers(words)
-}
-
-/// The value of a world.
-fn value<O: OfHeader, A: Allocator + Copy>(world: &World<O, A>) -> Option<u64> {
-    world.value()
 }
 
 /// Creates a world in that opening. There has to be memory for the world.
 pub fn opened<O: OfHeader, A: Allocator + Copy>(
     rt: &impl Abort,
     alloc: A,
-    opening: Opening,
+    opening: Opening<'_>,
 ) -> World<O, A> {
     world(rt, alloc, opening).expect(rt, opening.shows)
 }
@@ -82,7 +62,7 @@ impl Alike for Shown {
 pub fn look_at<O: OfHeader, A: Allocator + Copy>(
     rt: &impl Abort,
     alloc: Global,
-    opening: Opening,
+    opening: Opening<'_>,
     world: &World<O, A>,
 ) -> Shown {
     let mut places = Vec::new(alloc);
@@ -92,8 +72,8 @@ pub fn look_at<O: OfHeader, A: Allocator + Copy>(
         }
     }
     Shown {
-        numbers: numbers::<O>(world.words()),
-        value: value(world),
+        numbers: O::numbers(world.words()),
+        value: world.value(),
         places,
     }
 }
@@ -119,7 +99,7 @@ fn told_of<O: OfHeader>(event: &Event<O::Words, u64, Answer<u64>>) -> Told {
     Told {
         party: event.party,
         outcome: event.outcome,
-        numbers: numbers::<O>(event.words),
+        numbers: O::numbers(event.words),
     }
 }
 
@@ -143,7 +123,7 @@ pub fn play<O: OfHeader, A: Allocator + Copy>(
     world: &mut World<O, A>,
     schedule: &[(usize, Move<O::Call, u64>)],
 ) -> Vec<Told> {
-    let transcript = run(world, schedule).expect(rt, "memory");
+    let transcript = world.run(schedule).expect(rt, "memory");
     tell::<O>(rt, alloc, &transcript.events)
 }
 
@@ -183,7 +163,7 @@ fn try_schedule<O: OfHeader>(
     rt: &impl Abort,
     alloc: Global,
     trial: Trial,
-    opening: Opening,
+    opening: Opening<'_>,
     lines: Rest,
 ) {
     let schedule = schedule_of::<O>(rt, alloc, opening.shows, lines);
@@ -197,7 +177,7 @@ fn try_schedule<O: OfHeader>(
 }
 
 /// Tries a text of any object.
-pub fn try_text(rt: &impl Abort, alloc: Global, trial: Trial, shows: &'static str, text: &str) {
+pub fn try_text(rt: &impl Abort, alloc: Global, trial: Trial, shows: &str, text: &str) {
     let (line, lines) = first_line(text.as_bytes());
     let header = header_of(line).expect(rt, shows);
     let opening = Opening { shows, header };
@@ -211,16 +191,11 @@ pub fn try_text(rt: &impl Abort, alloc: Global, trial: Trial, shows: &'static st
     }
 }
 
-fn try_each(rt: &impl Abort, alloc: Global, trial: Trial, worked: &'static [Worked]) {
-    for (shows, text, _) in worked {
-        try_text(rt, alloc, trial, shows, text);
+/// Tries every worked schedule.
+pub fn try_all<R: Abort + AllocGlobal + Files + Clone + Drop>(rt: &R, trial: Trial) {
+    for page in &pages(rt) {
+        for it in worked_on(rt, rt.alloc(), page) {
+            try_text(rt, rt.alloc(), trial, it.shows, it.schedule);
+        }
     }
-}
-
-/// Tries every worked schedule, including those of the gallery.
-pub fn try_all(rt: &impl Abort, alloc: Global, trial: Trial) {
-    for worked in worked_texts() {
-        try_each(rt, alloc, trial, worked);
-    }
-    try_each(rt, alloc, trial, gallery_texts());
 }

@@ -1,12 +1,8 @@
 //! Memory refused to a world: to `World::new`, to `run` and to `run_in_two`, with each amount from none to enough.
-ghost use Rattle.std.specs.Prelude.{◌≤◌, length};
-
+use super::alike::{Alike, are_alike};
 use super::objects::OfHeader;
 use super::stops::{Run, Two, run_of, runs_of};
-use super::worlds::{
-    Opening, Shown, Told, Trial, holds, look_at, opened, play, run, try_all, world,
-};
-use crate::alike::{Alike, are_alike};
+use super::worlds::{Opening, Shown, Told, Trial, holds, look_at, opened, play, try_all, world};
 use bumpalo::Bump;
 use spin_world::{Move, World, run_in_two};
 use std::alloc::Global;
@@ -32,7 +28,12 @@ fn filled<'a>(rt: &impl Abort, arena: &'a Bump, left: usize) -> Vec<u8, &'a Bump
 }
 
 /// Returns whether a world can be made with this many bytes left.
-fn opens_in<O: OfHeader>(rt: &impl Abort, alloc: Global, opening: Opening, left: usize) -> bool {
+fn opens_in<O: OfHeader>(
+    rt: &impl Abort,
+    alloc: Global,
+    opening: Opening<'_>,
+    left: usize,
+) -> bool {
     let arena = arena(rt, alloc);
     let filled = filled(rt, &arena, left);
     let opens = world::<O, &Bump>(rt, &arena, opening).is_ok();
@@ -49,7 +50,7 @@ fn is_refused<O: OfHeader>(
     left: usize,
 ) -> bool {
     let filled = filled(rt, arena, left);
-    let refused = run(world, schedule).is_err();
+    let refused = world.run(schedule).is_err();
     drop(filled);
     refused
 }
@@ -68,14 +69,14 @@ struct Again {
 fn played_again<O: OfHeader>(
     rt: &impl Abort,
     alloc: Global,
-    opening: Opening,
+    opening: Opening<'_>,
     past: &[(usize, Move<O::Call, u64>)],
     schedule: &[(usize, Move<O::Call, u64>)],
     left: usize,
 ) -> Option<Again> {
     let arena = arena(rt, alloc);
     let mut world = opened::<O, &Bump>(rt, &arena, opening);
-    let _ = run(&mut world, past).expect(rt, opening.shows);
+    let _ = world.run(past).expect(rt, opening.shows);
     if !is_refused(rt, &arena, &mut world, schedule, left) {
         return None;
     }
@@ -97,9 +98,7 @@ fn is_cut_short<O: OfHeader>(
     schedule: &[(usize, Move<O::Call, u64>)],
     at: usize,
     left: usize,
-) -> bool
-    requires { at ≤ length schedule.now }
-{
+) -> bool {
     let filled = filled(rt, arena, left);
     let refused = run_in_two(world, schedule, at).is_err();
     drop(filled);
@@ -111,13 +110,11 @@ fn is_cut_short<O: OfHeader>(
 fn cut_short<O: OfHeader>(
     rt: &impl Abort,
     alloc: Global,
-    opening: Opening,
+    opening: Opening<'_>,
     schedule: &[(usize, Move<O::Call, u64>)],
     at: usize,
     left: usize,
-) -> Option<Shown>
-    requires { at ≤ length schedule.now }
-{
+) -> Option<Shown> {
     let arena = arena(rt, alloc);
     let mut world = opened::<O, &Bump>(rt, &arena, opening);
     if !is_cut_short(rt, &arena, &mut world, schedule, at, left) {
@@ -161,7 +158,7 @@ fn is_as_wanted(rt: &impl Abort, shows: &str, left: usize, again: &Again, past: 
 pub fn in_each_room<O: OfHeader>(
     rt: &impl Abort,
     alloc: Global,
-    opening: Opening,
+    opening: Opening<'_>,
     schedule: &[(usize, Move<O::Call, u64>)],
 ) {
     let shows = opening.shows;
@@ -215,5 +212,5 @@ fn all_refused(rt: &impl Abort, shows: &str, refusals: Refusals) {
 
 #[test]
 fn refused_memory_leaves_a_world_as_it_was(rt: HostRuntime) {
-    try_all(&rt, rt.alloc(), Trial::Refused);
+    try_all(&rt, Trial::Refused);
 }

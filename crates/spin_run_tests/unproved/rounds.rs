@@ -2,8 +2,8 @@
 //! law. Begin with [`in_rounds`].
 
 use super::objects::OfHeader;
-use super::worlds::{Opening, Trial, holds, opened, run, try_text};
-use crate::rows::world;
+use super::rows::world;
+use super::worlds::{Opening, Trial, holds, opened, try_text};
 use spin_text::entry;
 use spin_world::{Answer, Hold, Move, Object, Outcome, Place, World};
 use spin_world_seats::{Seats, SeatsCall};
@@ -87,33 +87,24 @@ impl Round {
     }
 }
 
-/// Plays one move. A caller learns nothing of what this ensures: the tests check the results themselves.
-fn act<O: Object, A: Allocator + Copy>(
-    world: &mut World<O, A>,
-    party: usize,
-    action: Move<O::Call, O::Value>,
-) -> Outcome<O::Answer, O::Value> {
-    world.act(party, action)
-}
-
 /// Plays a schedule, and then the lines of each round.
 pub fn in_rounds<O: OfHeader>(
     rt: &impl Abort,
     alloc: Global,
-    opening: Opening,
+    opening: Opening<'_>,
     past: &[(usize, Move<O::Call, u64>)],
     rounds: &[&str],
     counts: Option<usize>,
 ) {
     let shows = opening.shows;
     let mut world = opened::<O, Global>(rt, alloc, opening);
-    run(&mut world, past).expect(rt, shows);
+    world.run(past).expect(rt, shows);
     for (number, lines) in rounds.iter().enumerate() {
         let mut round = Round::of(rt, &world);
         for line in lines.lines() {
             let (party, action) = entry::<O>(line.as_bytes()).expect(rt, shows);
             let releases = line.as_bytes().ends_with(b"release");
-            round.add(party, act(&mut world, party, action), releases, counts);
+            round.add(party, world.act(party, action), releases, counts);
         }
         round.ends(rt, shows, number, rounds.len());
     }
@@ -339,12 +330,12 @@ const ROUNDS_OF_SEATS: &[&[(usize, Move<SeatsCall, ()>)]] = &[
 #[test]
 fn the_only_seat_is_granted_in_the_fourth_round(rt: HostRuntime) {
     let mut world = world(&rt, rt.alloc(), Seats::new(1), 2);
-    run(&mut world, SEATED).expect(&rt, "memory");
+    world.run(SEATED).expect(&rt, "memory");
     for (number, moves) in ROUNDS_OF_SEATS.iter().enumerate() {
         let mut round = Round::of(&rt, &world);
         for (party, action) in *moves {
             let releases = matches!(action, Move::Begin(SeatsCall::Leave));
-            round.add(*party, act(&mut world, *party, *action), releases, None);
+            round.add(*party, world.act(*party, *action), releases, None);
         }
         round.ends(&rt, "seats", number, ROUNDS_OF_SEATS.len());
     }

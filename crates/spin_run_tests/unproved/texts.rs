@@ -1,32 +1,13 @@
 //! What no contract says: worked texts byte for byte, good and bad lines, and streams that fail.
-ghost use Rattle.std.specs.Prelude.{◌≡◌, Some, None, false};
 
-mod gallery;
-mod lines;
-mod objects;
-mod refused;
-mod rounds;
-mod stops;
-mod transcripts;
-pub mod worlds;
-
-use self::gallery::GALLERY;
-use self::lines::{OUTSIDE, WITHIN};
-use self::transcripts::{WORKED, Worked};
+use super::lines::{OUTSIDE, WITHIN};
+use super::worked::{Worked, pages, worked_on};
 use crate::ends::{Paper, Tape};
 use spin_run::run::{OfStd, RunError, Sink, Source, world_text};
 use std::alloc::Global;
 use std::cell::Cell;
 use std::io;
 use std::process::Abort;
-
-/// Plays a text. A caller learns nothing of what [`world_text`] ensures: the tests check the results themselves.
-fn play<I: Source, O: Sink>(alloc: Global, input: &mut I, output: &mut O) -> Result<(), RunError>
-    requires input { I.failed input.old ≡ false }
-    requires output { O.failed output.old ≡ false }
-{
-    world_text(alloc, input, output)
-}
 
 /// Plays a text over these streams, and compares the answer and what was written.
 fn plays(
@@ -36,12 +17,9 @@ fn plays(
     output: &mut Paper,
     answer: Result<(), RunError>,
     told: &[u8],
-)
-    requires input { input.old.failed ≡ false }
-    requires output { output.old.failed ≡ false }
-{
+) {
     let text = input.rest;
-    assert_eq!(rt; play(alloc, input, output), answer, "{text:?}");
+    assert_eq!(rt; world_text(alloc, input, output), answer, "{text:?}");
     output.shows(rt, told);
 }
 
@@ -62,49 +40,27 @@ fn tells(rt: &impl Abort, alloc: Global, step: usize, shows: &str, text: &[u8], 
     let mut input = Tape::new(text);
     input.step = step;
     let mut output = Paper::new(alloc, step, usize::MAX);
-    play(alloc, &mut input, &mut output).expect(rt, shows);
+    world_text(alloc, &mut input, &mut output).expect(rt, shows);
     assert_eq!(rt; output.text(rt), told, "{shows}");
 }
 
-/// Plays a schedule as [`tells`] does, with its last line feed and without.
-fn tells_ended(rt: &impl Abort, alloc: Global, step: usize, shows: &str, text: &str, told: &str) {
-    let text = text.as_bytes();
-    tells(rt, alloc, step, shows, text, told);
+/// Plays a worked schedule as [`tells`] does, with its last line feed and without.
+fn tells_ended(rt: &impl Abort, alloc: Global, step: usize, it: Worked<'_>) {
+    let text = it.schedule.as_bytes();
     let (without_end, _) = text.split_at(text.len().saturating_sub(1));
-    tells(rt, alloc, step, shows, without_end, told);
-}
-
-/// Plays schedules as [`tells_ended`] does, whole and in small steps.
-fn tell_in_steps(rt: &impl Abort, alloc: Global, worked: &[Worked]) {
-    for (shows, text, told) in worked {
-        for step in [usize::MAX, 1, 2, 3, 4, 5, 6, 7, 8] {
-            tells_ended(rt, alloc, step, shows, text, told);
-        }
+    for text in [text, without_end] {
+        tells(rt, alloc, step, it.shows, text, it.transcript);
     }
-}
-
-/// The worked schedules of each object. All texts of a constant are part of each function that names the constant. So only
-/// this function names [`WORKED`].
-pub fn worked_texts() -> [&'static [Worked]; 6] {
-    WORKED
-}
-
-/// The schedules of the gallery. Only this function names [`GALLERY`].
-pub fn gallery_texts() -> &'static [Worked] {
-    GALLERY
 }
 
 #[test]
 fn worked_texts_whole_and_in_small_steps(rt: HostRuntime) {
-    for worked in worked_texts() {
-        tell_in_steps(&rt, rt.alloc(), worked);
-    }
-}
-
-#[test]
-fn texts_of_the_gallery(rt: HostRuntime) {
-    for (shows, text, told) in gallery_texts() {
-        tells_ended(&rt, rt.alloc(), usize::MAX, shows, text, told);
+    for page in &pages(&rt) {
+        for it in worked_on(&rt, rt.alloc(), page) {
+            for step in [usize::MAX, 1, 2, 3, 4, 5, 6, 7, 8] {
+                tells_ended(&rt, rt.alloc(), step, it);
+            }
+        }
     }
 }
 
@@ -210,7 +166,7 @@ fn ends_of_std(rt: HostRuntime) {
                 calls: &calls,
             });
             let mut input = OfStd::new(b"flag 5 1\n".as_slice());
-            let answer = play(rt.alloc(), &mut input, &mut output);
+            let answer = world_text(rt.alloc(), &mut input, &mut output);
             let failed = (output.has_failed(), input.has_failed());
             let found = (answer, failed, calls.get());
             let calls = if room == 0 { 1 } else { 2 };

@@ -1,8 +1,8 @@
 //! Worked schedules that no text can spell: those of the seats and the dispenser, of several runs, of places, and of
 //! objects that no header makes.
 
-use crate::alike::{Alike, are_alike};
-use crate::text::worlds::{holds, run};
+use super::alike::{Alike, are_alike};
+use super::worlds::holds;
 use spin_world::{
     Answer, Event, Fair, FairCall, Flag, FlagCall, Hold, Move, Object, OnceCall, OnceObject,
     Outcome, Place, World,
@@ -45,7 +45,7 @@ macro_rules! answered {
     };
 }
 
-/// Creates a world with this many parties. A caller learns nothing of what this ensures.
+/// Creates a world with this many parties.
 pub fn world<O: Object>(rt: &impl Abort, alloc: Global, object: O, parties: usize) -> World<O> {
     World::new(alloc, object, parties).expect(rt, "memory")
 }
@@ -81,7 +81,7 @@ where
     W: Copy + PartialEq,
     A: Copy + Alike,
 {
-    let transcript = run(world, rows.moves).expect(rt, "memory");
+    let transcript = world.run(rows.moves).expect(rt, "memory");
     assert!(rt; are_alike(transcript.events.as_slice(), rows.events));
     if let Some(event) = rows.events.last() {
         assert!(rt; world.words() == event.words);

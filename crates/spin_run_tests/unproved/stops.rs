@@ -1,10 +1,8 @@
 //! Tests of every stop of every call. Each beginning of each worked schedule is played in a new world. Each schedule is
 //! played in two runs, cut at each place.
-ghost use Rattle.std.specs.Prelude.{◌≤◌, length};
-
+use super::alike::Alike;
 use super::objects::{OfHeader, Standing, are_words_of, parties_of};
 use super::worlds::{Opening, Shown, Told, Trial, holds, look_at, opened, play, tell, try_all};
-use crate::alike::Alike;
 use spin_text::Header;
 use spin_world::{Answer, Fair, FairCall, Move, Outcome, Place, run_in_two};
 use std::alloc::Global;
@@ -22,7 +20,7 @@ pub struct Run {
 pub fn run_of<O: OfHeader>(
     rt: &impl Abort,
     alloc: Global,
-    opening: Opening,
+    opening: Opening<'_>,
     schedule: &[(usize, Move<O::Call, u64>)],
 ) -> Run {
     let mut world = opened::<O, Global>(rt, alloc, opening);
@@ -48,12 +46,10 @@ pub struct Two {
 pub fn runs_of<O: OfHeader>(
     rt: &impl Abort,
     alloc: Global,
-    opening: Opening,
+    opening: Opening<'_>,
     schedule: &[(usize, Move<O::Call, u64>)],
     at: usize,
-) -> Two
-    requires { at ≤ length schedule.now }
-{
+) -> Two {
     let mut world = opened::<O, Global>(rt, alloc, opening);
     let (first, second) = run_in_two(&mut world, schedule, at).expect(rt, opening.shows);
     let first = tell::<O>(rt, alloc, &first.events);
@@ -124,7 +120,7 @@ fn keeps_value<C: Copy>(schedule: &[(usize, Move<C, u64>)], run: &Run) -> bool {
 }
 
 /// Checks the state in which a run of the first entries of a schedule stops.
-fn is_in_order(rt: &impl Abort, opening: Opening, run: &Run) {
+fn is_in_order(rt: &impl Abort, opening: Opening<'_>, run: &Run) {
     let Opening { shows, header } = opening;
     let at = run.events.len();
     let Shown {
@@ -181,7 +177,7 @@ fn are_one(rt: &impl Abort, shows: &str, at: usize, two: &Two, one: &Run) {
 pub fn at_each_place<O: OfHeader>(
     rt: &impl Abort,
     alloc: Global,
-    opening: Opening,
+    opening: Opening<'_>,
     schedule: &[(usize, Move<O::Call, u64>)],
 ) {
     let whole = run_of::<O>(rt, alloc, opening, schedule);
@@ -197,7 +193,7 @@ pub fn at_each_place<O: OfHeader>(
 
 #[test]
 fn every_stop_of_every_call(rt: HostRuntime) {
-    try_all(&rt, rt.alloc(), Trial::Stops);
+    try_all(&rt, Trial::Stops);
 }
 
 /// A `lock` that registers by its 1029th step: the exchange, 1026 looks, the load, and the exchange that registers.
