@@ -1,4 +1,4 @@
-//! Measures the locks of the Rust crate `spin`, in the way in which `spin_bench` measures ours.
+//! Measures the locks of the Rust crate `spin`, in the way in which `bench/ours` measures ours.
 mod cases;
 mod measure;
 mod sizes;

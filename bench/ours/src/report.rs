@@ -234,10 +234,10 @@ fn try_each<R: Threads + Wait + Clock + Print + AllocGlobal + Sync>(
 /// Tries each case. Barriers get few calls: on a busy machine a wait lasts until each thread of the group has
 /// run.
 pub fn try_all<R: Threads + Wait + Clock + Print + AllocGlobal + Sync>(rt: &R) -> io::Result<()> {
-    try_each(rt, 1000, 1, &ALONE)?;
+    try_each(rt, 100, 1, &ALONE)?;
     for threads in [1, 2, 4] {
-        try_each(rt, 1000, threads, &BESIDE)?;
-        try_each(rt, 20, threads, &["barrier_rounds"])?;
+        try_each(rt, 100, threads, &BESIDE)?;
+        try_each(rt, 10, threads, &["barrier_rounds"])?;
     }
     Ok(())
 }
