@@ -1,3 +1,4 @@
 pub mod Transfers
 pub mod Lines
 pub mod Logged
+pub mod Folds

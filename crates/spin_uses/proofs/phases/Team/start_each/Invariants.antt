@@ -1,4 +1,4 @@
--- from the caller's share each started worker took one part of the book, and the amount of its own gains
+-- from the caller's shares each started worker took one part of each book, and the amount of its own gains
 use Rattle.std.proofs.Common.{◌≡◌, ◌+◌, ◌*◌, ◌≤◌, vec_len, vec_capacity}
 use Rattle.spin_uses.proofs.phases.Team.start_each.Given as goal
 
@@ -8,3 +8,5 @@ invariant-loop-worker g l =
     × (l.mine.amount + l.worker * (l.self.rounds * l.self.gain) ≡ l.workers * (l.self.rounds * l.self.gain))
     × (vec_len l.running ≡ l.worker)
     × (l.workers ≤ vec_capacity l.running)
+    × (l.turns.parts + l.worker ≡ l.fn.turns.parts)
+    × (l.turns.amount ≡ 0)
