@@ -1,3 +1,4 @@
+pub mod Promising
 pub mod Dispensing
 pub mod Drawn
 pub mod RwOtherwise

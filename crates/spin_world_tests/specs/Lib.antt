@@ -1,3 +1,4 @@
+pub mod Careless
 pub mod Dispenser
 pub mod WrongBarrier
 pub mod WrongDispenser

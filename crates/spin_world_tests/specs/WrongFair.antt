@@ -1,7 +1,7 @@
 -- Wrong fair locks, each wrong in one part of its table or machine, and schedules on which the laws refuse these locks.
--- Each lock admits two starvers unless its comment says otherwise. Its `lock` registers after the second look that finds
--- the flag set.
-use Rattle.std.specs.Prelude.{ℕ, ◌+◌, ◌-◌, ◌*◌, ◌/◌, Option, Some, None, not, ◌&&◌, List, [], ◌∷◌, ◌++◌, ◌==◌, nat_lt}
+-- Unless its comment says otherwise, each lock admits two starvers, and its `lock` registers after the second look that
+-- finds the flag set.
+use Rattle.std.specs.Prelude.{ℕ, ◌+◌, ◌-◌, ◌*◌, ◌/◌, true, Option, Some, None, not, ◌&&◌, List, [], ◌∷◌, ◌++◌, ◌==◌, nat_lt}
 use Rattle.spin_step.specs.Plain.{gets, stops_starving, to_lock_unregistered, to_lock_starving, to_lock_starving_alone, to_starve, starver_weight}
 use Rattle.spin_step.specs.declared.place.Hold.{Hold}
 use Rattle.spin_step.specs.declared.place.Hold.TheVariants.{Starver}
@@ -16,9 +16,9 @@ use Rattle.spin_step_more.specs.declared.fair_calls.FairPoint.TheVariants.{First
 use Rattle.spin_step.specs.declared.schedule.Move.{Move}
 use Rattle.spin_step.specs.declared.schedule.Move.TheVariants.{Begin, Step, Weak}
 use Rattle.spin_step.specs.Machines.{Machine}
-use Rattle.spin_step.specs.Acts.{Act, either, load, load_if, exchange, weak_exchange, retry, section, swap, machine_of}
+use Rattle.spin_step.specs.Acts.{Act, either, load, load_if, exchange, weak_exchange, attempt, retry, section, swap, machine_of}
 use Rattle.spin_step.specs.Operations.{sets_lowest_bit}
-use Rattle.spin_step_more.specs.Starvers.{is_set, lock, lock_fair}
+use Rattle.spin_step_more.specs.Starvers.{is_set, lock, lock_fair, starve}
 use Rattle.spin_step_more.specs.FairCalls.{granted, act_of, fair_table, fair_machine}
 use Rattle.spin_step.specs.Asks.{tries_in}
 
@@ -28,9 +28,12 @@ FairAct V = Act ℕ FairPoint (Answer V)
 abbrev FairMachine : Type 0 → Type 0
 FairMachine V = Machine ℕ V FairCall FairPoint (Answer V)
 
--- the lock with these steps instead of its own
+-- the lock with this patience, and with these steps instead of its own
+abbrev with_patience : {V : Type 0} → V → ℕ → ℕ → (FairCall → FairPoint → Option Hold → FairAct V → FairAct V) → FairMachine V
+with_patience v cap patience steps = machine_of (record (fair_table v cap patience) { act = λ c l h. steps c l h (act_of cap patience c l h) })
+
 abbrev with_steps : {V : Type 0} → V → ℕ → (FairCall → FairPoint → Option Hold → FairAct V → FairAct V) → FairMachine V
-with_steps v cap steps = machine_of (record (fair_table v cap 1) { act = λ c l h. steps c l h (act_of cap 1 c l h) })
+with_steps v cap steps = with_patience v cap 1 steps
 
 -- only the steps of `lock` are changed
 abbrev lock_by : {V : Type 0} → V → (FairPoint → FairAct V → FairAct V) → FairMachine V
@@ -247,3 +250,53 @@ abbrev pub lock_past_a_clear_flag : {V : Type 0} → Entries V
 lock_past_a_clear_flag =
     (0, Begin TryLock) ∷ (0, Step) ∷ (1, Begin Lock) ∷ (1, Step) ∷ (1, Step) ∷ (0, Begin Release) ∷ (0, Step) ∷ (1, Step)
     ∷ (0, Begin TryLock) ∷ (0, Step) ∷ (1, Step) ∷ (1, Step) ∷ (1, Step) ∷ (1, Step) ∷ []
+
+-- a `lock` with a patience of 3 that starts to count its looks anew when it has found the cap reached
+abbrev pub counts_anew_at_the_cap : {V : Type 0} → V → FairMachine V
+counts_anew_at_the_cap {V} v =
+    let anew : FairAct V = load (λ w. elim (starve 1 w) [ Some k ↦ Continue (Register w) | None ↦ Continue (Look 0) ]) in
+    with_patience v 1 3 (λ c l h act. elim c [ Lock ↦ elim l [ Load ↦ anew | _ ↦ act ] | _ ↦ act ])
+
+-- one party holds, and another one starves; the `lock` of a third party makes an exchange, four looks, and a load; the
+-- starver stops starving, and then come three more looks
+abbrev pub lock_at_the_cap : {V : Type 0} → Entries V
+lock_at_the_cap =
+    (0, Begin TryLock) ∷ (0, Step) ∷ (1, Begin Starve) ∷ (1, Step) ∷ (1, Step) ∷ (2, Begin Lock) ∷ (2, Step)
+    ∷ (2, Step) ∷ (2, Step) ∷ (2, Step) ∷ (2, Step) ∷ (2, Step) ∷ (1, Begin StarverDrop) ∷ (1, Step) ∷ (2, Step) ∷ (2, Step) ∷ (2, Step) ∷ []
+
+-- a `starve` that finds the cap reached, which is one here, loads the word again
+abbrev pub waits_at_the_cap : {V : Type 0} → V → FairMachine V
+waits_at_the_cap {V} v =
+    let again : FairAct V = load (λ w. elim (starve 1 w) [ Some k ↦ Continue (Register w) | None ↦ Continue Load ]) in
+    with_steps v 1 (λ c l h act. elim c [ Starve ↦ elim l [ Load ↦ again | _ ↦ act ] | _ ↦ act ])
+
+abbrev pub starve_at_the_cap : {V : Type 0} → Entries V
+starve_at_the_cap = (0, Begin Starve) ∷ (0, Step) ∷ (0, Step) ∷ (1, Begin Starve) ∷ (1, Step) ∷ []
+
+-- `starver_try_lock` sets the flag only if its party is the only starver
+abbrev pub sets_the_flag_alone : {V : Type 0} → V → FairMachine V
+sets_the_flag_alone {V} v =
+    let alone : Option Hold → FairAct V = λ h. attempt 2 lock_fair (λ p. gets p to_lock_starving) (Continue Unregister) (Answers Refused h) in
+    with_steps v 2 (λ c l h act. elim c [ StarverTryLock ↦ elim l [ SetFlag ↦ alone h | _ ↦ act ] | _ ↦ act ])
+
+abbrev pub try_of_one_of_two : {V : Type 0} → Entries V
+try_of_one_of_two =
+    (0, Begin Starve) ∷ (0, Step) ∷ (0, Step) ∷ (1, Begin Starve) ∷ (1, Step) ∷ (1, Step) ∷ (0, Begin StarverTryLock) ∷ (0, Step) ∷ []
+
+-- `lock` looks once more after it has registered, before it tries to set the flag
+abbrev pub looks_once_it_starves : {V : Type 0} → V → FairMachine V
+looks_once_it_starves {V} v =
+    let registers : ℕ → FairAct V = λ n. retry n (starve 2) (λ p. gets p to_starve) (Continue Await) (λ w. Continue (Register w)) (Continue (Look 1)) in
+    lock_by v (λ l act. elim l [ Register n ↦ registers n | _ ↦ act ])
+
+-- the holder releases when the `lock` of the other party has registered
+abbrev pub let_go_beside_who_registered : {V : Type 0} → Entries V
+let_go_beside_who_registered =
+    (0, Begin TryLock) ∷ (0, Step) ∷ (1, Begin Lock) ∷ (1, Step) ∷ (1, Step) ∷ (1, Step) ∷ (1, Step) ∷ (1, Step)
+    ∷ (0, Begin Release) ∷ (0, Step) ∷ (1, Step) ∷ []
+
+-- `starve` checks the cap and registers in one event
+abbrev pub starves_in_one : {V : Type 0} → V → FairMachine V
+starves_in_one {V} v =
+    let at_once : FairAct V = section (λ w. true) (starve 2) (λ p. gets p to_starve) (λ w. Answers Granted (Some Starver)) (λ w. Answers Refused None) in
+    with_steps v 2 (λ c l h act. elim c [ Starve ↦ elim l [ Load ↦ at_once | _ ↦ act ] | _ ↦ act ])

@@ -1,6 +1,7 @@
 -- Wrong flags, each wrong in one part of its machine, and schedules on which the laws refuse these flags.
 use Rattle.spin_step.specs.declared.place.Hold.TheVariants.{Read}
-use Rattle.std.specs.Prelude.{ℕ, Bool, true, false, Some, None, List, [], ◌∷◌}
+use Rattle.std.specs.Prelude.{ℕ, Bool, true, false, Option, Some, None, List, [], ◌∷◌}
+use Rattle.spin_step.specs.declared.stepped.Next.{Next}
 use Rattle.spin_step.specs.declared.stepped.Next.TheVariants.{Continue, Answers}
 use Rattle.spin_step.specs.declared.answer.Answer.{Answer}
 use Rattle.spin_step.specs.declared.answer.Answer.TheVariants.{Refused, Is, Granted}
@@ -94,3 +95,10 @@ grants_to_read {V} v =
 
 abbrev pub whole_try : {V : Type 0} → Entries V
 whole_try = (0, Begin TryLock) ∷ (0, Step) ∷ []
+
+-- a `lock` that makes its exchange again after a spurious failure, without a look
+abbrev pub retries_at_once : {V : Type 0} → V → FlagMachine V
+retries_at_once {V} v =
+    let m : FlagMachine V = flag_machine v in
+    let again : FlagPoint → Option (Next FlagPoint (Answer V)) → Option (Next FlagPoint (Answer V)) = λ l next. elim l [ First ↦ Some (Continue First) | _ ↦ next ] in
+    record m { refuse = λ c l h. elim c [ Lock ↦ again l (m.refuse Lock l h) | other ↦ m.refuse other l h ] }

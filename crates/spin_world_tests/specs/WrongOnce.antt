@@ -150,3 +150,29 @@ hesitates V =
 -- a closure runs, another call waits for it, and the closure fails
 abbrev pub a_failure_beside_a_call : {V : Type 0} → V → Entries V
 a_failure_beside_a_call v = (0, Begin TryCallOnceErr) ∷ (0, Step) ∷ (0, Step) ∷ (1, Begin (CallOnce v)) ∷ (1, Step) ∷ (1, Step) ∷ (0, Step) ∷ []
+
+-- a call whose exchange has failed beside a running closure makes its exchange again, without a look
+abbrev pub begins_again : (V : Type 0) → OnceMachine V
+begins_again V = with_steps None (λ w value c l h step. elim l [ TryBegin ↦ either (w == 1) (stays w (Continue TryBegin)) step | _ ↦ step ])
+
+-- the closure that runs then fails
+abbrev pub a_failure_beside_an_exchange : {V : Type 0} → V → Entries V
+a_failure_beside_an_exchange v =
+    (0, Begin TryCallOnceErr) ∷ (1, Begin (CallOnce v)) ∷ (1, Step) ∷ (0, Step) ∷ (0, Step) ∷ (1, Step) ∷ (0, Step) ∷ []
+
+-- a `poll` that finds neither a value nor a closure looks once more
+abbrev pub polls_twice : (V : Type 0) → OnceMachine V
+polls_twice V = with_steps None (λ w value c l h step. elim c [ Poll ↦ elim l [ Look ↦ either (w == 0) (stays w (Continue Await)) step | _ ↦ step ] | _ ↦ step ])
+
+abbrev pub one_poll : {V : Type 0} → Entries V
+one_poll = (0, Begin Poll) ∷ []
+
+-- a call whose closure has failed gets its answer one step later
+abbrev pub fails_late : (V : Type 0) → OnceMachine V
+fails_late V = with_steps None (λ w value c l h step. elim c [
+  | TryCallOnceErr ↦ elim l [ Run ↦ stays 0 (Continue Await) | Await ↦ stays w (Answers Failed h) | _ ↦ step ]
+  | _ ↦ step
+])
+
+abbrev pub a_running_closure : {V : Type 0} → Entries V
+a_running_closure = (0, Begin TryCallOnceErr) ∷ (0, Step) ∷ (0, Step) ∷ []

@@ -9,16 +9,16 @@ use Rattle.spin_step.specs.declared.stepped.Next.TheVariants.{Continue, Answers}
 use Rattle.spin_step.specs.declared.answer.Answer.{Answer}
 use Rattle.spin_step.specs.declared.answer.Answer.TheVariants.{Refused, Done, Count}
 use Rattle.spin_step_more.specs.declared.rw_calls.RwCall.{RwCall}
-use Rattle.spin_step_more.specs.declared.rw_calls.RwCall.TheVariants.{TryRead, Read, TryUpgradeableRead, TryWrite, TryWriteWeak, Write, ReaderCount, TryUpgrade, Upgrade, Downgrade, Release, DowngradeToUpgradeable}
+use Rattle.spin_step_more.specs.declared.rw_calls.RwCall.TheVariants.{TryRead, Read, TryUpgradeableRead, TryWrite, TryWriteWeak, Write, ReaderCount, WriterCount, TryUpgrade, Upgrade, Downgrade, Release, DowngradeToUpgradeable}
 use Rattle.spin_step_more.specs.declared.rw_calls.RwPoint.{RwPoint}
 use Rattle.spin_step_more.specs.declared.rw_calls.RwPoint.TheVariants.{First, Exchange, Asking}
 use Rattle.spin_step.specs.declared.schedule.Move.{Move}
 use Rattle.spin_step.specs.declared.schedule.Move.TheVariants.{Begin, Step, Weak}
 use Rattle.spin_step.specs.Machines.{Machine}
 use Rattle.spin_step.specs.declared.stepped.Next.{Next}
-use Rattle.spin_step.specs.Acts.{Act, load, load_for, exchange, weak_exchange, store, section, swap, Table, machine_of}
+use Rattle.spin_step.specs.Acts.{Act, load, load_for, exchange, weak_exchange, retry, store, section, swap, Table, machine_of}
 use Rattle.spin_step.specs.Operations.{exchanges, adds, subtracts, stores}
-use Rattle.spin_step_more.specs.Readers.{tells, read, write, upgrade, upgrade_asked, read_upgradable}
+use Rattle.spin_step_more.specs.Readers.{tells, read, write, upgrade, upgrade_asked, read_upgradable, writers_in}
 use Rattle.spin_step_more.specs.RwCalls.{granted, goes_for, act_of, asks_of, rw_table, rw_machine, comes_by}
 use Rattle.spin_step.specs.Asks.{waits}
 
@@ -300,3 +300,28 @@ ends_reading v = with_steps v (λ c l h act. elim c [ DowngradeToUpgradeable ↦
 
 abbrev pub downgrade_to_upgradable : {V : Type 0} → Entries V
 downgrade_to_upgradable = (0, Begin TryWrite) ∷ (0, Step) ∷ (0, Begin DowngradeToUpgradeable) ∷ (0, Step) ∷ []
+
+-- `read` loads the word again when its exchange has failed
+abbrev pub reads_anew : {V : Type 0} → V → RwMachine V
+reads_anew {V} v =
+    let again : ℕ → RwAct V = λ n. retry n (read 9) (λ p. gets p to_read) (granted hold.Read) (λ w. Continue First) (Continue First) in
+    read_by v (λ l act. elim l [ Exchange n ↦ again n | _ ↦ act ])
+
+-- another party reads between the load and the exchange of `read`, which then loads again
+abbrev pub read_beside_a_new_reader : {V : Type 0} → Entries V
+read_beside_a_new_reader = (0, Begin Read) ∷ (0, Step) ∷ (1, Begin TryRead) ∷ (1, Step) ∷ (1, Step) ∷ (0, Step) ∷ (0, Step) ∷ []
+
+-- the exchange of a reader that has asked to upgrade is strong
+abbrev pub upgrades_strongly : {V : Type 0} → V → RwMachine V
+upgrades_strongly {V} v =
+    let strong : RwAct V = exchange (swap (weight asking) upgrade_asked) (λ p. gets p to_upgrade_asked) (granted hold.Write) (λ w. Continue Asking) in
+    upgrade_by v (λ l act. elim l [ Asking ↦ strong | _ ↦ act ])
+
+-- `writer_count` counts a reader that asks to upgrade
+abbrev pub counts_asking_as_writing : {V : Type 0} → V → RwMachine V
+counts_asking_as_writing v =
+    with_steps v (λ c l h act. elim c [ WriterCount ↦ load (λ w. Answers (Count (if tells asking w then 1 else writers_in w)) h) | _ ↦ act ])
+
+abbrev pub writers_beside_an_asking_reader : {V : Type 0} → Entries V
+writers_beside_an_asking_reader =
+    (0, Begin TryUpgradeableRead) ∷ (0, Step) ∷ (0, Step) ∷ (0, Begin Upgrade) ∷ (0, Step) ∷ (1, Begin WriterCount) ∷ (1, Step) ∷ []

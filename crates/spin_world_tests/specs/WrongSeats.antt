@@ -14,7 +14,7 @@ use Rattle.spin_seats.specs.declared.calls.SeatsPoint.TheVariants.{First, Exchan
 use Rattle.spin_step.specs.declared.schedule.Move.{Move}
 use Rattle.spin_step.specs.declared.schedule.Move.TheVariants.{Begin, Step, Weak}
 use Rattle.spin_step.specs.Calls.{Asked}
-use Rattle.spin_step.specs.Acts.{Act, load, exchange, store, section, machine_of}
+use Rattle.spin_step.specs.Acts.{Act, load, exchange, retry, store, section, machine_of}
 use Rattle.spin_step.specs.Operations.{exchanges, subtracts}
 use Rattle.spin_seats.specs.Table.{granted, goes_for, comes_by, act_of, asks_of, SeatsTable, seats_table, SeatsMachine, seats_machine}
 use Rattle.spin_step.specs.Asks.{waits, gives_back}
@@ -134,3 +134,13 @@ enter_in_vain = (0, Begin call.Enter) ∷ (0, Step) ∷ (0, Step) ∷ (0, Step) 
 -- by the promise of `leave`, no party may begin this call
 abbrev pub keeps_all : SeatsMachine
 keeps_all = let t : SeatsTable = seats_table 2 in machine_of (record t { asks = λ c h. elim c [ call.Leave ↦ gives_back (λ hold. false) h | other ↦ asks_of other h ] })
+
+-- `enter` loads the word again when its exchange has failed
+abbrev pub enters_anew : SeatsMachine
+enters_anew =
+    let again : ℕ → SeatsAct = λ n. retry n (entered 2) (λ p. gets p to_read) granted (λ w. Continue First) (Continue First) in
+    with_steps 2 (λ c l h act. elim c [ call.Enter ↦ elim l [ Exchange n ↦ again n | _ ↦ act ] | _ ↦ act ])
+
+-- another party enters between the load and the exchange of `enter`, which then loads again
+abbrev pub enter_beside_a_newcomer : Entries
+enter_beside_a_newcomer = (0, Begin call.Enter) ∷ (0, Step) ∷ (takes_a_seat 1 ++ (0, Step) ∷ (0, Step) ∷ [])

@@ -151,3 +151,20 @@ swaps_its_loads v = with_steps v 0 (λ w c l h step. elim l [
 abbrev pub let_go_between : {V : Type 0} → Entries V
 let_go_between =
     (0, Begin TryLock) ∷ (0, Step) ∷ (0, Step) ∷ (0, Step) ∷ (1, Begin TryLock) ∷ (1, Step) ∷ (0, Begin Release) ∷ (0, Step) ∷ []
+
+-- `try_lock` makes its loads again when its exchange has failed
+abbrev pub tries_until_it_wins : {V : Type 0} → V → TicketMachine V
+tries_until_it_wins v = with_steps v 0 (λ w c l h step. elim l [ TryTake n ↦ either (w.next == n) step (stays w (Continue TryLoadNext)) | _ ↦ step ])
+
+-- another party takes the ticket between the loads of `try_lock` and its exchange
+abbrev pub try_beside_a_try : {V : Type 0} → Entries V
+try_beside_a_try =
+    (0, Begin TryLock) ∷ (0, Step) ∷ (0, Step) ∷ (1, Begin TryLock) ∷ (1, Step) ∷ (1, Step) ∷ (1, Step) ∷ (0, Step) ∷ []
+
+-- `lock` is refused if no ticket is left, and none is left here
+abbrev pub refuses_without_tickets : {V : Type 0} → V → TicketMachine V
+refuses_without_tickets v =
+    with_steps v ticket_limit (λ w c l h step. elim l [ LoadNext ↦ either (nat_lt w.next ticket_limit) step (stays w (Answers Refused h)) | _ ↦ step ])
+
+abbrev pub first_step_of_a_lock : {V : Type 0} → Entries V
+first_step_of_a_lock = (0, Begin Lock) ∷ (0, Step) ∷ []

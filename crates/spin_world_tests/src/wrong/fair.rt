@@ -6,7 +6,7 @@ ghost use Rattle.spin_world_core.specs.Runs.{KeepsAll, MomentsAll, CountsAll};
 ghost use Rattle.spin_step_more.specs.FairCalls.{fair_machine};
 ghost use Rattle.spin_world.specs.Fairness.{IsGrantedNext, GoesForAClearFlag};
 ghost use Rattle.spin_world.specs.Fair.{IsFairLock};
-ghost use Rattle.spin_world_tests.specs.WrongFair.{spins_by_setting, two_steps_of_a_starver, waits_for_starvers, lock_beside_a_dropped_starver, refuses_late, starver_beside_a_holder, tries_greedily, try_beside_a_starver, stays_a_starver, try_of_a_starver, starves_without_cap, two_starve, never_registers, lock_beside_a_holder, returns_to_its_exchange, lock_as_it_is_let_go, registers_at_once, hasty_lock, drop_frees, drop_beside_a_holder, tells_the_other_reason, try_beside_a_holder, waits_for_ever, four_looks_of_a_starver, waits_for_quiet, let_go_beside_a_starver, never_looks, loads_uncounted, counts_each_second_look, keeps_the_flag, lock_beside_a_starver, leaves_by_exchange, lock_of_a_starver, sets_by_chance, starver_in_vain, starves_again, tries_alone, opens_with_a_starver, counts_anew, lock_past_a_clear_flag};
+ghost use Rattle.spin_world_tests.specs.WrongFair.{spins_by_setting, two_steps_of_a_starver, waits_for_starvers, lock_beside_a_dropped_starver, refuses_late, starver_beside_a_holder, tries_greedily, try_beside_a_starver, stays_a_starver, try_of_a_starver, starves_without_cap, two_starve, never_registers, lock_beside_a_holder, returns_to_its_exchange, lock_as_it_is_let_go, registers_at_once, hasty_lock, drop_frees, drop_beside_a_holder, tells_the_other_reason, try_beside_a_holder, waits_for_ever, four_looks_of_a_starver, waits_for_quiet, let_go_beside_a_starver, never_looks, loads_uncounted, counts_each_second_look, keeps_the_flag, lock_beside_a_starver, leaves_by_exchange, lock_of_a_starver, sets_by_chance, starver_in_vain, starves_again, tries_alone, opens_with_a_starver, counts_anew, lock_past_a_clear_flag, counts_anew_at_the_cap, lock_at_the_cap, waits_at_the_cap, starve_at_the_cap, sets_the_flag_alone, try_of_one_of_two, looks_once_it_starves, let_go_beside_who_registered, starves_in_one};
 
 /// A `try_lock` that sets the flag whenever the flag is clear. While a party starves, this plain step is not open.
 pub fn a_newcomer_yields_to_starvers<V: Copy>()
@@ -98,9 +98,11 @@ pub fn a_starver_may_not_starve_again<V: Copy>()
     ensures { (value : V) → Stepwise (starves_again value) → ⊥ }
 {}
 
-/// A `starver_try_lock` that asks to lock as the only starver. It should also succeed beside other starvers.
+/// A `starver_try_lock` that asks to lock as the only starver, and one that is refused beside another starver. It should
+/// also succeed beside other starvers.
 pub fn a_starver_tries_beside_others<V: Copy>()
-    ensures { (value : V) → IsFairLock value 2 1 (tries_alone value) → ⊥ }
+    ensures asks { (value : V) → IsFairLock value 2 1 (tries_alone value) → ⊥ }
+    ensures steps { (value : V) → MomentsAll (sets_the_flag_alone value) 2 try_of_one_of_two → ⊥ }
 {}
 
 /// A fair lock that admits one starver, though two were asked for.
@@ -130,8 +132,25 @@ pub fn a_starver_looks_until_the_flag_is_clear<V: Copy>()
     ensures { (value : V) → CountsAll (spins_by_setting value) 2 two_steps_of_a_starver → ⊥ }
 {}
 
-/// A `lock` that starts to count its looks anew when it has found the flag clear. If nobody else changes the word, two
-/// steps after a look past the patience the party has to be a starver, or to have found the cap reached.
-pub fn a_count_of_looks_survives_a_clear_flag<V: Copy>()
-    ensures { (value : V) → CountsAll (counts_anew value) 2 lock_past_a_clear_flag → ⊥ }
+/// A `lock` that starts to count its looks anew when it has found the flag clear, and one that does so when it has found
+/// the cap reached. If nobody else changes the word, two steps after a look past the patience the party has to be a
+/// starver, or to have found the cap reached.
+pub fn a_count_of_looks_is_kept<V: Copy>()
+    ensures clear { (value : V) → CountsAll (counts_anew value) 2 lock_past_a_clear_flag → ⊥ }
+    ensures cap { (value : V) → CountsAll (counts_anew_at_the_cap value) 3 lock_at_the_cap → ⊥ }
+{}
+
+/// A `starve` that finds the cap reached and loads the word again. Then it has to be refused.
+pub fn a_starve_is_refused_at_the_cap<V: Copy>()
+    ensures { (value : V) → CountsAll (waits_at_the_cap value) 2 starve_at_the_cap → ⊥ }
+{}
+
+/// A `lock` that looks when it has registered. If the flag is then clear, its next step has to set the flag.
+pub fn a_lock_that_starves_sets_the_flag<V: Copy>()
+    ensures { (value : V) → CountsAll (looks_once_it_starves value) 2 let_go_beside_who_registered → ⊥ }
+{}
+
+/// A `starve` that checks the cap and registers in one event. No processor does both in one step.
+pub fn a_step_is_one_operation<V: Copy>()
+    ensures { (value : V) → Stepwise (starves_in_one value) → ⊥ }
 {}

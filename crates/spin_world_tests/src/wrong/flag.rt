@@ -4,7 +4,7 @@ ghost use Rattle.std.specs.Prelude.{◌≡◌, []};
 ghost use Rattle.spin_world_core.specs.Runs.{MomentsAll, CountsAll};
 ghost use Rattle.spin_step.specs.Operations.{Stepwise};
 ghost use Rattle.spin_world_core.specs.Runs.{KeepsAll};
-ghost use Rattle.spin_world_tests.specs.WrongFlag.{never_looks, lock_beside_a_holder, refuses_at_its_look, looks_first, lock_alone, looks_for_ever, two_looks, tries_by_chance, one_try, looks_by_chance, look_beside_a_holder, never_releases, locks_to_read, opens_set, grants_to_read, whole_try};
+ghost use Rattle.spin_world_tests.specs.WrongFlag.{never_looks, lock_beside_a_holder, refuses_at_its_look, looks_first, lock_alone, looks_for_ever, two_looks, tries_by_chance, one_try, looks_by_chance, look_beside_a_holder, never_releases, locks_to_read, opens_set, grants_to_read, whole_try, retries_at_once};
 
 /// A flag whose `lock` never tries again after its first failure. If the flag is clear and nobody disturbs this call,
 /// it has to be answered within two steps.
@@ -48,9 +48,11 @@ pub fn a_look_refuses_by_no_chance<V: Copy>()
     ensures { (value : V) → Stepwise (refuses_at_its_look value) → ⊥ }
 {}
 
-/// A `lock` that repeats its exchange when it fails, and never looks.
+/// A `lock` that repeats its exchange when it fails, and never looks. Also a `lock` that repeats it after a spurious
+/// failure: such a failure has to lead where any other failure leads.
 pub fn a_lock_looks_between_its_exchanges<V: Copy>()
-    ensures { (value : V) → CountsAll (never_looks value) 2 lock_beside_a_holder → ⊥ }
+    ensures found { (value : V) → CountsAll (never_looks value) 2 lock_beside_a_holder → ⊥ }
+    ensures chance { (value : V) → Stepwise (retries_at_once value) → ⊥ }
 {}
 
 /// A `try_lock` whose party is told that it reads, though it holds the lock to write.

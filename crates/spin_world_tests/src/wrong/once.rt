@@ -5,9 +5,9 @@ ghost use Rattle.spin_step.specs.Operations.{Stepwise};
 ghost use Rattle.spin_world_core.specs.Runs.{KeepsAll, MomentsAll, CountsAll};
 ghost use Rattle.spin_world_core.specs.Values.{ValuesAll};
 ghost use Rattle.spin_step.specs.OnceCalls.{once_machine};
-ghost use Rattle.spin_world.specs.Keeping.{AnswersAtOnce, LooksFirst, LooksWhereComplete, MayRunAgain};
+ghost use Rattle.spin_world.specs.Keeping.{AnswersAtOnce, LooksFirst, LooksWhereComplete, MayRunAgain, OneRuns};
 ghost use Rattle.spin_world.specs.Once.{IsOnceOf};
-ghost use Rattle.spin_world_tests.specs.WrongOnce.{peeks, runs_on, six_steps, waits_idly, one_wait, always_fails, never_gets, never_looks, one_call, loses_by_chance, a_look_and_chance, opens_at_nothing, replaces, two_closures, sticks, sticks_silently, one_failure, gets_early, get_beside_a_closure, polls_early, poll_beside_a_closure, tells_another, places_another, one_closure, hesitates, a_failure_beside_a_call};
+ghost use Rattle.spin_world_tests.specs.WrongOnce.{peeks, runs_on, six_steps, waits_idly, one_wait, always_fails, never_gets, never_looks, one_call, loses_by_chance, a_look_and_chance, opens_at_nothing, replaces, two_closures, sticks, sticks_silently, one_failure, gets_early, get_beside_a_closure, polls_early, poll_beside_a_closure, tells_another, places_another, one_closure, hesitates, a_failure_beside_a_call, begins_again, a_failure_beside_an_exchange, polls_twice, one_poll, fails_late, a_running_closure};
 
 /// A second closure whose value replaces the first value. Its call makes no plain step, so this closure has not
 /// completed.
@@ -78,9 +78,10 @@ pub fn a_get_begins<V: Copy>()
     ensures { Stepwise (never_gets V) → ⊥ }
 {}
 
-/// A `call_once` that begins with its exchange.
+/// A `call_once` that begins with its exchange, and a call that makes a failed exchange again without a look.
 pub fn a_call_once_looks_first<V: Copy>()
-    ensures { (v : V) → LooksFirst (never_looks V) 1 (one_call v) → ⊥ }
+    ensures first { (v : V) → LooksFirst (never_looks V) 1 (one_call v) → ⊥ }
+    ensures again { (v : V) → LooksFirst (begins_again V) 2 (a_failure_beside_an_exchange v) → ⊥ }
 {}
 
 /// A `call_once` whose exchange may fail spuriously.
@@ -97,4 +98,14 @@ pub fn a_cell_with_a_value_opens_complete<V: Copy>()
 /// value and no closure runs, the call has to run its closure by its second step.
 pub fn a_waiting_call_takes_over<V: Copy>()
     ensures { (v : V) → MayRunAgain (hesitates V) 2 (a_failure_beside_a_call v) → ⊥ }
+{}
+
+/// A `poll` that looks once more though there is neither a value nor a closure.
+pub fn a_poll_answers_what_it_sees<V: Copy>()
+    ensures { AnswersAtOnce (polls_twice V) 1 one_poll → ⊥ }
+{}
+
+/// A call whose closure has failed, and which gets its answer only after a further step.
+pub fn a_failure_is_told_at_once<V: Copy>()
+    ensures { OneRuns (fails_late V) 1 a_running_closure → ⊥ }
 {}

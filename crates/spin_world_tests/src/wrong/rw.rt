@@ -5,7 +5,7 @@ ghost use Rattle.spin_step.specs.Operations.{Stepwise};
 ghost use Rattle.spin_world_core.specs.Runs.{KeepsAll, MomentsAll, CountsAll};
 ghost use Rattle.spin_step_more.specs.RwCalls.{rw_machine};
 ghost use Rattle.spin_world.specs.Rw.{IsRw};
-ghost use Rattle.spin_world_tests.specs.WrongRw.{upgrades_plainly, upgrades_by_looks, upgrade_after_a_refusal, refuses_late, try_beside_a_writer, upgrades_at_once, upgrade_beside_a_reader, upgrades_unasked, ask_beside_a_reader, asks_twice, two_steps_of_an_upgrade, downgrades_asking, read_beside_an_asking_reader, counts_without_asking, count_beside_an_asking_reader, downgrades_in_two, downgrade_alone, reads_and_regrets, reads_and_regrets_unseen, read_beside_a_writer, reads_by_a_mask, writes_by_chance, write_alone, upgrades_anew, upgrade_alone, counts_without_upgradable, count_beside_an_upgradable, looks_for_ever, two_looks, looks_twice, looks_first, one_look, tries_for_ever, read_alone, reads_in_one, reads_by_a_guess, guess_beside_a_reader, reads_weakly, read_by_chance, writes_strongly, waits_strongly, upgrades_by_chance, upgrade_by_chance, never_releases, upgrades_any_reader, writes_by_reading, never_writes, opens_written, forgets_its_value, has_no_owner, comes_beyond_the_cap, upgradable_beside_a_reader, ends_reading, downgrade_to_upgradable};
+ghost use Rattle.spin_world_tests.specs.WrongRw.{upgrades_plainly, upgrades_by_looks, upgrade_after_a_refusal, refuses_late, try_beside_a_writer, upgrades_at_once, upgrade_beside_a_reader, upgrades_unasked, ask_beside_a_reader, asks_twice, two_steps_of_an_upgrade, downgrades_asking, read_beside_an_asking_reader, counts_without_asking, count_beside_an_asking_reader, downgrades_in_two, downgrade_alone, reads_and_regrets, reads_and_regrets_unseen, read_beside_a_writer, reads_by_a_mask, writes_by_chance, write_alone, upgrades_anew, upgrade_alone, counts_without_upgradable, count_beside_an_upgradable, looks_for_ever, two_looks, looks_twice, looks_first, one_look, tries_for_ever, read_alone, reads_in_one, reads_by_a_guess, guess_beside_a_reader, reads_weakly, read_by_chance, writes_strongly, waits_strongly, upgrades_by_chance, upgrade_by_chance, never_releases, upgrades_any_reader, writes_by_reading, never_writes, opens_written, forgets_its_value, has_no_owner, comes_beyond_the_cap, upgradable_beside_a_reader, ends_reading, downgrade_to_upgradable, reads_anew, read_beside_a_new_reader, upgrades_strongly, counts_asking_as_writing, writers_beside_an_asking_reader};
 
 /// A `try_upgrade` that succeeds while another party reads: the plain step is not open.
 pub fn an_upgrade_is_refused_beside_readers<V: Copy>()
@@ -68,11 +68,18 @@ pub fn a_count_tells_the_upgradable_reader<V: Copy>()
     ensures asking { (value : V) → MomentsAll (counts_without_asking value) 2 count_beside_an_asking_reader → ⊥ }
 {}
 
-/// A `read` that looks for ever, and one that looks twice. If the lock admits a reader and nobody disturbs a `read`, it
-/// has to be answered within two steps. Also a `write` that looks, though its first step has to be the exchange.
+/// A `writer_count` that counts a reader that asks to upgrade. At no moment of the call does somebody write.
+pub fn a_reader_that_asks_is_no_writer<V: Copy>()
+    ensures { (value : V) → MomentsAll (counts_asking_as_writing value) 2 writers_beside_an_asking_reader → ⊥ }
+{}
+
+/// A `read` that looks for ever, one that looks twice, and one that loads again when its exchange has failed. If the lock
+/// admits a reader and nobody disturbs a `read`, it has to be answered within two steps. Also a `write` that looks,
+/// though its first step has to be the exchange.
 pub fn a_call_that_waits_is_answered<V: Copy>()
     ensures never { (value : V) → CountsAll (looks_for_ever value) 1 two_looks → ⊥ }
     ensures late { (value : V) → CountsAll (looks_twice value) 1 two_looks → ⊥ }
+    ensures anew { (value : V) → CountsAll (reads_anew value) 2 read_beside_a_new_reader → ⊥ }
     ensures write { (value : V) → CountsAll (looks_first value) 1 one_look → ⊥ }
 {}
 
@@ -97,10 +104,11 @@ pub fn a_read_fails_by_no_chance<V: Copy>()
     ensures { (value : V) → KeepsAll (reads_weakly value) 1 read_by_chance → ⊥ }
 {}
 
-/// A weak `try_write` whose exchange is strong, and a `write` whose exchange is strong.
+/// A weak `try_write` whose exchange is strong, a `write` whose exchange is strong, and such an `upgrade`.
 pub fn a_weak_exchange_is_weak<V: Copy>()
     ensures tries { (value : V) → Stepwise (writes_strongly value) → ⊥ }
     ensures waits { (value : V) → Stepwise (waits_strongly value) → ⊥ }
+    ensures upgrades { (value : V) → Stepwise (upgrades_strongly value) → ⊥ }
 {}
 
 /// A strong `try_upgrade` that may fail spuriously.

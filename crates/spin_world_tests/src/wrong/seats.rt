@@ -5,7 +5,7 @@ ghost use Rattle.spin_step.specs.Operations.{Stepwise};
 ghost use Rattle.spin_world_core.specs.Runs.{KeepsAll, CountsAll, MomentsAll};
 ghost use Rattle.spin_seats.specs.Table.{seats_machine};
 ghost use Rattle.spin_world_seats.specs.Named.{IsSeats};
-ghost use Rattle.spin_world_tests.specs.WrongSeats.{seats_one_too_many, two_on_one_seat, leaves_for_two, one_of_two_leaves, tries_for_ever, two_looks, looks_twice, enter_alone, enters_in_one, enters_by_a_guess, guess_beside_one, enters_by_chance, enter_by_chance, nobody_leaves, enters_or_not, opens_taken, seats_one_on_none, one_sits, counts_free, count_alone, looks_on, enter_in_vain, keeps_all};
+ghost use Rattle.spin_world_tests.specs.WrongSeats.{seats_one_too_many, two_on_one_seat, leaves_for_two, one_of_two_leaves, tries_for_ever, two_looks, looks_twice, enter_alone, enters_in_one, enters_by_a_guess, guess_beside_one, enters_by_chance, enter_by_chance, nobody_leaves, enters_or_not, opens_taken, seats_one_on_none, one_sits, counts_free, count_alone, looks_on, enter_in_vain, keeps_all, enters_anew, enter_beside_a_newcomer};
 
 /// A lock of one seat on which two parties sit. The second one's plain step is not open.
 pub fn nobody_sits_beyond_the_seats()
@@ -23,10 +23,11 @@ pub fn a_try_is_answered()
     ensures { CountsAll tries_for_ever 1 two_looks → ⊥ }
 {}
 
-/// An `enter` that looks twice. If a seat is free and nobody disturbs this call, it has to be answered within two
-/// steps.
+/// An `enter` that looks twice, and one that loads again when its exchange has failed. If a seat is free and nobody
+/// disturbs this call, it has to be answered within two steps.
 pub fn an_enter_is_answered()
-    ensures { CountsAll looks_twice 1 enter_alone → ⊥ }
+    ensures twice { CountsAll looks_twice 1 enter_alone → ⊥ }
+    ensures anew { CountsAll enters_anew 2 enter_beside_a_newcomer → ⊥ }
 {}
 
 /// A try that checks for a free seat and takes it in one event. No processor does both in one step.

@@ -5,7 +5,7 @@ ghost use Rattle.spin_step.specs.Operations.{Stepwise};
 ghost use Rattle.spin_world_core.specs.Runs.{KeepsAll, MomentsAll, CountsAll};
 ghost use Rattle.spin_world.specs.Ticket.{IsTicketLock};
 ghost use Rattle.spin_world.specs.Turns.{TriesByTwoLoads};
-ghost use Rattle.spin_world_tests.specs.WrongTicket.{tries_by_one_load, one_load, swaps_its_loads, let_go_between, looks_in_vain, three_loads, looks_backwards, look_beside_a_queue, queues_behind_nobody, lock_beside_a_holder, never_enters, lock_alone, enters_by_look, two_queue, never_tries, try_alone, looks_at_both, locks_again, tries_by_looking, takes_by_chance, try_in_vain, lock_in_vain, opens_with_a_ticket, leaves_the_last_ticket};
+ghost use Rattle.spin_world_tests.specs.WrongTicket.{tries_by_one_load, one_load, swaps_its_loads, let_go_between, looks_in_vain, three_loads, looks_backwards, look_beside_a_queue, queues_behind_nobody, lock_beside_a_holder, never_enters, lock_alone, enters_by_look, two_queue, never_tries, try_alone, looks_at_both, locks_again, tries_by_looking, takes_by_chance, try_in_vain, lock_in_vain, opens_with_a_ticket, leaves_the_last_ticket, tries_until_it_wins, try_beside_a_try, refuses_without_tickets, first_step_of_a_lock};
 
 /// A ticket lock whose words say at first that a ticket is in the queue, though no party has a ticket.
 pub fn a_ticket_lock_opens_empty<V: Copy>()
@@ -78,4 +78,14 @@ pub fn a_try_lock_asks_to_enter<V: Copy>()
 pub fn a_try_loads_the_next_number_first<V: Copy>()
     ensures hurries { (value : V) → TriesByTwoLoads (tries_by_one_load value) 1 one_load → ⊥ }
     ensures swaps { (value : V) → TriesByTwoLoads (swaps_its_loads value) 2 let_go_between → ⊥ }
+{}
+
+/// A `try_lock` that makes its loads again when its exchange has failed. This call has to be answered by its third step.
+pub fn a_try_is_answered<V: Copy>()
+    ensures { (value : V) → CountsAll (tries_until_it_wins value) 2 try_beside_a_try → ⊥ }
+{}
+
+/// A `lock` that is refused because no ticket is left. It may only wait.
+pub fn a_lock_is_never_refused<V: Copy>()
+    ensures { (value : V) → KeepsAll (refuses_without_tickets value) 1 first_step_of_a_lock → ⊥ }
 {}

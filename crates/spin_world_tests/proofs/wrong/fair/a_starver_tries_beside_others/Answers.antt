@@ -1,7 +1,11 @@
 use Rattle.std.specs.Prelude.{None}
-use Rattle.spin_world_tests.proofs.wrong.fair.a_starver_tries_beside_others.Goals as goal
 use Rattle.std.proofs.Common.{ap}
+use Rattle.std.proofs.lemmas.Bool.{false≢true}
 use Rattle.spin_step.specs.Calls.{Asked}
+use Rattle.spin_world_tests.proofs.wrong.fair.a_starver_tries_beside_others.Goals as goal
 
-pub returns : goal.returns
-returns g c = λ value is. cc (ap (λ (what : Asked). what.tries) (is.starver_try_lock None))
+pub returns-clause-asks : goal.returns-clause-asks
+returns-clause-asks g c = λ value is. cc (ap (λ (what : Asked). what.tries) (is.starver_try_lock None))
+
+pub returns-clause-steps : goal.returns-clause-steps
+returns-clause-steps g c = λ value all. false≢true all.1.1.1.1.1.1.1.0

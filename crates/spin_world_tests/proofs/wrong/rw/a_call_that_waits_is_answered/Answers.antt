@@ -13,3 +13,6 @@ returns-clause-late g c = λ value all. too_many rw 0 (waits to_read) 2 (_ ∷ [
 
 pub returns-clause-write : goal.returns-clause-write
 returns-clause-write g c = λ value all. too_many rw 0 spins_to_write 1 [] _ _ all.1.0.undisturbed refl (search) refl
+
+pub returns-clause-anew : goal.returns-clause-anew
+returns-clause-anew g c = λ value all. too_many rw 0 (waits to_read) 2 (_ ∷ []) _ _ all.1.1.1.1.1.1.0.undisturbed refl (search) refl
