@@ -9,6 +9,8 @@ mod ends;
 #[cfg(test)]
 mod explorer;
 #[cfg(test)]
+mod long;
+#[cfg(test)]
 mod program;
 #[cfg(test)]
 mod two_runs;
