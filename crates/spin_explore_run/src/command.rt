@@ -63,7 +63,8 @@ fn run<I: Source, O: Sink>(
 ///
 /// - 0: what was asked for is written (`Does`). No run can get stuck, or a schedule was asked for.
 /// - 3: what was asked for is written (`Does`), and some run can get stuck.
-/// - 1: an allocation, a read or a write failed, there are more states than the limit (`IsOver`), or the search did not settle.
+/// - 1: an allocation, a read or a write failed, schedules lead to more states than the limit (`IsOver`, `HasSeen`), or the
+///   search did not settle.
 ///   Only a failed write leaves a beginning of the text on `output`.
 /// - 2: the words are no command, a line of the text is wrong, or there is no such outcome.
 ///
