@@ -1,5 +1,5 @@
-//! Callers of the locks: a ledger, a cache, rounds of workers, settings, a relay. Each makes a promise of its own,
-//! which uses the promises of the locks.
+//! Callers of the locks: a ledger, a cache, a meeting of two threads, rounds of workers, settings, a relay. Each makes a
+//! promise of its own, which uses the promises of the locks.
 //!
 //! Begin with [`ledger`].
 #![tactic(auto)]
