@@ -1,5 +1,4 @@
-//! All that parties on two seats may result in. Such a test finds a wrong step before anything is proved, and a call that
-//! its table allows to wait for ever.
+//! All that three parties on two seats may result in. Such a test finds a wrong step before anything is proved.
 
 ghost use Rattle.std.specs.Prelude.{◌<◌, length};
 ghost use Rattle.spin_explore.specs.Programs.{leads};
@@ -8,8 +7,7 @@ ghost use Rattle.spin_explore.specs.Walks.{AreTraced};
 use spin_explore::{Course, Entry, Found, Lock, Programs, explore, schedule};
 use spin_world::{Answer, Move, Outcome, World};
 use spin_world_seats::{Seats, SeatsCall};
-use std::alloc::{AllocError, Global};
-use std::process::Abort;
+use std::alloc::AllocError;
 
 /// Returns how many lines of a course were granted.
 fn granted<L: Lock>(course: &Course<L>) -> usize {
@@ -41,82 +39,31 @@ fn turns_to<L: Lock>(found: &Found<L>, place: usize) -> Result<Vec<usize>, Alloc
     Ok(parties)
 }
 
-/// What three parties do, and two seats for them.
-fn at_two_seats(
-    rt: &impl Abort,
-    alloc: Global,
-    calls: &[(usize, SeatsCall)],
-) -> (Programs<World<Seats>>, Vec<World<Seats>>) {
+#[test]
+fn three_parties_come_to_two_seats(rt: HostRuntime) {
+    let alloc = rt.alloc();
     let mut lines = Vec::new(alloc);
-    for (party, call) in calls {
+    for party in 0..3usize {
         let entry = Entry {
-            party: *party,
+            party,
             lock: 0,
-            action: Move::Begin(*call),
+            action: Move::Begin(SeatsCall::TryEnter),
         };
-        lines.push(entry).expect(rt, "memory");
+        lines.push(entry).expect(&rt, "memory");
     }
-    let world = World::new(alloc, Seats::new(2), 3).expect(rt, "memory");
+    let world = World::new(alloc, Seats::new(2), 3).expect(&rt, "memory");
     let mut locks = Vec::new(alloc);
-    locks.push(world).expect(rt, "memory");
+    locks.push(world).expect(&rt, "memory");
     let programs = Programs {
         alloc,
         lines,
         parties: 3,
     };
-    (programs, locks)
-}
-
-#[test]
-fn three_parties_come_to_two_seats(rt: HostRuntime) {
-    let tries = [
-        (0, SeatsCall::TryEnter),
-        (1, SeatsCall::TryEnter),
-        (2, SeatsCall::TryEnter),
-    ];
-    let (programs, locks) = at_two_seats(&rt, rt.alloc(), &tries);
     let found = explore(programs, locks, 10_000).expect(&rt, "memory");
     for place in 0..found.courses.len() {
         if granted(&found.courses[place]) > 2 {
             let turns = turns_to(&found, place).expect(&rt, "memory");
             assert!(rt; false, "three sit on two seats after turns of {turns:?}");
         }
-    }
-    // No try waits for ever.
-    assert!(rt; found.stuck.is_empty());
-}
-
-#[test]
-fn a_free_seat_is_taken_and_counted(rt: HostRuntime) {
-    let calls = [
-        (0, SeatsCall::Enter),
-        (0, SeatsCall::Leave),
-        (1, SeatsCall::TryEnter),
-        (2, SeatsCall::Count),
-    ];
-    let (programs, locks) = at_two_seats(&rt, rt.alloc(), &calls);
-    let found = explore(programs, locks, 10_000).expect(&rt, "memory");
-    // No `enter` looks for ever beside a free seat.
-    assert!(rt; found.stuck.is_empty());
-    for end in &found.ends {
-        let got = found.courses[*end].got();
-        assert!(rt;
-            matches!(
-                got[0],
-                Some(Outcome::Answered {
-                    answer: Answer::Granted,
-                    ..
-                })
-            )
-        );
-        assert!(rt;
-            matches!(
-                got[3],
-                Some(Outcome::Answered {
-                    answer: Answer::Count(0..=2),
-                    ..
-                })
-            )
-        );
     }
 }
