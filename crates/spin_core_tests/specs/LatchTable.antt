@@ -12,7 +12,7 @@ use Rattle.spin_step.specs.Asks.{gives_back, is_read, is_write, looks_and_tries,
 use Rattle.spin_step.specs.Machines.{Machine}
 use Rattle.spin_step.specs.Acts.{one_number, Act, load_for, exchange, weak_exchange, retry, store, swap, Table, machine_of}
 use Rattle.spin_step.specs.Tables.{usual_table}
-use Rattle.spin_step.specs.Operations.{subtracts}
+use Rattle.spin_step.specs.declared.table.Operation.TheVariants as op
 use Rattle.spin_core_tests.specs.Latch.{latch_limit, latch_word, let_in, taken}
 use Rattle.spin_core_tests.specs.declared.latch.calls.LatchCall.{LatchCall}
 use Rattle.spin_core_tests.specs.declared.latch.calls.LatchCall.TheVariants as call
@@ -55,8 +55,8 @@ act_of call.TryRead l h = comes_by (Answers Refused h) l
 act_of call.Read l h = comes_by (Continue First) l
 act_of call.TryWrite l h = exchange (swap 0 taken) (λ p. gets p to_write) (granted Write) (λ w. Answers Refused h)
 act_of call.Write l h = weak_exchange 0 taken (λ p. gets p to_write) (granted Write) (Continue First)
-act_of call.ReleaseRead l h = store (λ w. nat_lt 1 w) (subtracts 2) (λ p. releases p reading) (Answers Done None)
-act_of call.ReleaseWrite l h = store (λ w. nat_lt 0 w) (subtracts 1) (λ p. releases p writing) (Answers Done None)
+act_of call.ReleaseRead l h = store (λ w. nat_lt 1 w) (op.Subtract 2) (λ p. releases p reading) (Answers Done None)
+act_of call.ReleaseWrite l h = store (λ w. nat_lt 0 w) (op.Subtract 1) (λ p. releases p writing) (Answers Done None)
 
 -- what each call promises: a call to read loads first, a call to write does not
 abbrev pub asks_of : LatchCall → Option Hold → Asked

@@ -18,7 +18,7 @@ use Rattle.spin_seats.specs.Kind as kind
 use Rattle.spin_step.specs.Machines.{Machine}
 use Rattle.spin_step.specs.Acts.{one_number, Act, load, load_for, retry, store, Table, machine_of}
 use Rattle.spin_step.specs.Tables.{usual_table}
-use Rattle.spin_step.specs.Operations.{subtracts}
+use Rattle.spin_step.specs.declared.table.Operation.TheVariants as op
 
 abbrev pub Answered : Type 0
 Answered = Next SeatsPoint (Answer (Unit {0}))
@@ -39,7 +39,7 @@ abbrev pub act_of : ℕ → SeatsCall → SeatsPoint → Option Hold → Act ℕ
 act_of n call.TryEnter l h = comes_by n (Answers Refused h) l
 act_of n call.Enter l h = comes_by n (Continue First) l
 act_of n call.Count l h = load (λ w. Answers (Count w) h)
-act_of n call.Leave l h = store (λ w. nat_lt 0 w) (subtracts 1) (λ p. releases p reading) (Answers Done None)
+act_of n call.Leave l h = store (λ w. nat_lt 0 w) (op.Subtract 1) (λ p. releases p reading) (Answers Done None)
 
 abbrev pub asks_of : SeatsCall → Option Hold → Asked
 asks_of call.TryEnter h = looks_and_tries to_read

@@ -12,7 +12,9 @@ use Rattle.spin_step.specs.StepKinds.{StepKind, plain, again, look}
 use Rattle.spin_step.specs.Calls.{Asked, LockKind, Said, says_of}
 use Rattle.spin_step.specs.Asks.{is_completion}
 use Rattle.spin_step.specs.Machines.{Machine}
-use Rattle.spin_step.specs.Operations.{Operation, loads, exchanges, sets_lowest_bit, performed}
+use Rattle.spin_step.specs.Operations.{performed}
+use Rattle.spin_step.specs.declared.table.Operation.{Operation}
+use Rattle.spin_step.specs.declared.table.Operation.TheVariants as op
 use Rattle.spin_step.specs.Schedules.{placed}
 
 -- An object's words as a list of numbers (`numbers`). `put i k` replaces the i-th of these numbers by k.
@@ -61,12 +63,12 @@ pub data Act (W L A : Type 0) : Type 0 where
 
 -- the exchange of the number k for the one that the step function gives
 abbrev pub swap : ℕ → (ℕ → Option ℕ) → Operation
-swap k f = exchanges k (unwrap_or (f k) k)
+swap k f = op.Exchange k (unwrap_or (f k) k)
 
 -- the number after an operation that succeeds, or none if it fails
 abbrev pub tried : Operation → ℕ → Option ℕ
-tried (exchanges from to) n = if n == from then Some to else None
-tried sets_lowest_bit n = if n % 2 == 0 then Some (n + 1) else None
+tried (op.Exchange from to) n = if n == from then Some to else None
+tried op.SetLowestBit n = if n % 2 == 0 then Some (n + 1) else None
 tried operation n = Some (performed operation n)
 
 -- the number that the step function gives for k, if the number found is k; otherwise none
@@ -151,7 +153,7 @@ operation_by (weak_exchange k f step won lost) = swap k f
 operation_by (attempt k f step won lost) = swap k f
 operation_by (retry k f step won found missed) = swap k f
 operation_by (store can operation step next) = operation
-operation_by _ = loads
+operation_by _ = op.Load
 
 abbrev pub is_section : {W L A : Type 0} → Act W L A → Bool
 is_section act = elim act [ section can f step won lost ↦ true | _ ↦ false ]
@@ -185,6 +187,10 @@ pub record Table (W V C L A : Type 0) : Type 0 where
 
 abbrev pub begin_of : {W V C L A : Type 0} → Table W V C L A → C → Option Hold → Option L
 begin_of t c h = passing ((t.asks c h).begins h) (t.start c h)
+
+-- how a call goes on from this point, by the number that its step finds
+abbrev pub next_of : {W V C L A : Type 0} → Table W V C L A → C → L → Option Hold → ℕ → Next L A
+next_of t c l h n = (step_at {V = Unit {0}} t.memory 0 n (t.act c l h) t.words).next
 
 -- The machine of a table. `refuse` and `step` are its outcomes of a spurious failure and of a step. `says` tells what
 -- its answers say. `brings` and `gives` tell the values of calls and of answers. The answers may be of another type

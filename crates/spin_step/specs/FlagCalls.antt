@@ -20,7 +20,7 @@ use Rattle.spin_step.specs.FlagKind.{flag}
 use Rattle.spin_step.specs.Machines.{Machine}
 use Rattle.spin_step.specs.Acts.{Memory, Act, load, load_if, exchange, weak_exchange, store, swap, Table, machine_of}
 use Rattle.spin_step.specs.Tables.{usual_table}
-use Rattle.spin_step.specs.Operations.{stores}
+use Rattle.spin_step.specs.declared.table.Operation.TheVariants as op
 
 abbrev pub is_set : ℕ → Bool
 is_set n = n == 1
@@ -43,7 +43,7 @@ act_of Lock Second h = load_if is_set (λ n. Continue Second) (λ n. Continue Fi
 act_of TryLock l h = exchange (swap 0 lock) (λ p. gets p to_write) granted (λ n. Answers Refused h)
 act_of TryLockWeak l h = weak_exchange 0 lock (λ p. gets p to_write) granted (Answers Refused h)
 act_of IsLocked l h = load (λ n. Answers (Is (is_set n)) h)
-act_of Release l h = store is_set (stores 0) (λ p. releases p writing) (Answers Done None)
+act_of Release l h = store is_set (op.Store 0) (λ p. releases p writing) (Answers Done None)
 
 abbrev pub asks_of : FlagCall → Option Hold → Asked
 asks_of Lock h = waits_to_write

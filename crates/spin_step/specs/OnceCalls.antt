@@ -16,7 +16,7 @@ use Rattle.spin_step.specs.OnceKind.{once}
 use Rattle.spin_step.specs.Machines.{Machine}
 use Rattle.spin_step.specs.Acts.{one_number, Act, load, load_if, exchange, store, swap, either, Table, machine_with}
 use Rattle.spin_step.specs.Tables.{usual_table}
-use Rattle.spin_step.specs.Operations.{stores}
+use Rattle.spin_step.specs.declared.table.Operation.TheVariants as op
 use Rattle.spin_step.specs.Asks.{initializes, fails_to_initialize, waits_for_value, polls, looks_for_value, looks_complete}
 
 -- there is a value
@@ -39,8 +39,8 @@ runs end Run h = end
 
 -- the step that ends the call's own closure, which gives a value or fails
 abbrev pub ends : {V : Type 0} → Option V → Option Hold → OnceAct
-ends (Some v) h = store (λ w. w == 1) (stores (completed 1)) (λ p. completes p) (tells h)
-ends None h = store (λ w. w == 1) (stores (failed 1)) (λ p. fails p) (Answers Failed h)
+ends (Some v) h = store (λ w. w == 1) (op.Store (completed 1)) (λ p. completes p) (tells h)
+ends None h = store (λ w. w == 1) (op.Store (failed 1)) (λ p. fails p) (Answers Failed h)
 
 -- the value that the call's closure gives
 abbrev pub brings_of : {V : Type 0} → OnceCall V → Option V

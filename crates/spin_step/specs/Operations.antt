@@ -3,27 +3,21 @@ use Rattle.std.specs.Prelude.{◌≡◌, ℕ, ◌+◌, ◌-◌, ◌%◌, ◌==�
 use Rattle.std.specs.List.{list_all}
 use Rattle.spin_step.specs.declared.place.Hold.{Hold}
 use Rattle.spin_step.specs.declared.stepped.Next.{Next}
+use Rattle.spin_step.specs.declared.table.Operation.{Operation}
+use Rattle.spin_step.specs.declared.table.Operation.TheVariants as op
 use Rattle.spin_step.specs.StepKinds.{is_look}
 use Rattle.spin_step.specs.Plain.{Change}
 use Rattle.spin_step.specs.Calls.{AnyOf, Said, is_step_of, own_steps}
 use Rattle.spin_step.specs.Machines.{Machine}
 
-pub data Operation : Type 0 where
-  loads : Operation
-  exchanges : ℕ → ℕ → Operation  -- it replaces the first number by the second, if it finds the first
-  adds : ℕ → Operation
-  subtracts : ℕ → Operation
-  sets_lowest_bit : Operation
-  stores : ℕ → Operation
-
 -- the number after the operation
 abbrev pub performed : Operation → ℕ → ℕ
-performed loads n = n
-performed (exchanges from to) n = if n == from then to else n
-performed (adds k) n = n + k
-performed (subtracts k) n = n - k
-performed sets_lowest_bit n = if n % 2 == 0 then n + 1 else n
-performed (stores k) n = k
+performed op.Load n = n
+performed (op.Exchange from to) n = if n == from then to else n
+performed (op.Add k) n = n + k
+performed (op.Subtract k) n = n - k
+performed op.SetLowestBit n = if n % 2 == 0 then n + 1 else n
+performed (op.Store k) n = k
 
 -- Whenever the step is possible, it makes this operation on the i-th word, and leaves the other words as they are. Its
 -- outcome depends only on the number that it finds.
@@ -41,7 +35,7 @@ IsOneOperation false m c l h = (i : ℕ) × (operation : Operation) × Performs 
 -- that finds the number that it expects makes a plain step.
 abbrev pub RefusesAsLost : {W V C L A : Type 0} → Machine W V C L A → C → L → Option Hold → Next L A → Type 0
 RefusesAsLost {W} {V} m c l h next =
-    (i from to : ℕ) × Performs m c l h i (exchanges from to) × ((w : W) (v : Option V) → (get_or (m.numbers w) i 0 == from) ≡ false → (m.step w v c l h).next ≡ next)
+    (i from to : ℕ) × Performs m c l h i (op.Exchange from to) × ((w : W) (v : Option V) → (get_or (m.numbers w) i 0 == from) ≡ false → (m.step w v c l h).next ≡ next)
     × ((p : ℕ) (w : W) → (get_or (m.numbers w) i 0 == from) ≡ true → is_some (m.change p w c l h) ≡ true)
 
 -- what holds of an object's calls and steps in every schedule

@@ -19,7 +19,7 @@ use Rattle.spin_step.specs.TicketKind.{ticket}
 use Rattle.spin_step.specs.Machines.{Machine}
 use Rattle.spin_step.specs.Acts.{Memory, two_numbers, Act, load, load_if, load_for, enter, attempt, retry, store, Table, machine_of}
 use Rattle.spin_step.specs.Tables.{usual_table}
-use Rattle.spin_step.specs.Operations.{stores}
+use Rattle.spin_step.specs.declared.table.Operation.TheVariants as op
 
 -- the point at which a call begins; a release begins with the ticket that its party holds
 abbrev pub starts_at : TicketCall → Option Hold → TicketPoint
@@ -64,7 +64,7 @@ act_of (TryLoadServing n) h = load_if (is_free n) (λ k. Continue (TryTake n)) (
 act_of (TryTake n) h = attempt n take (λ p. gets p to_take_and_enter) (granted n) (Answers Refused h)
 act_of LookServing h = load (λ k. Continue (LookNext k))
 act_of (LookNext k) h = load (λ n. Answers (Is (not (n == k))) h)
-act_of (Serve t) h = store (λ k. is_left t) (stores (served t)) (λ p. serves p) (Answers Done None)
+act_of (Serve t) h = store (λ k. is_left t) (op.Store (served t)) (λ p. serves p) (Answers Done None)
 
 abbrev pub asks_of : TicketCall → Option Hold → Asked
 asks_of Lock h = waits_to_enter

@@ -25,6 +25,7 @@ mod once_calls;
 mod place;
 mod schedule;
 mod stepped;
+pub mod table;
 pub mod ticket;
 mod ticket_calls;
 
@@ -34,4 +35,5 @@ pub use once_calls::{OnceCall, OncePoint};
 pub use place::{Hold, Place, Seat};
 pub use schedule::{Event, Move, Outcome};
 pub use stepped::{Next, Stepped};
+pub use table::{Operation, Steps};
 pub use ticket_calls::{TicketCall, TicketPoint, TicketWords};

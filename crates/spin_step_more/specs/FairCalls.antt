@@ -18,7 +18,7 @@ use Rattle.spin_step_more.specs.FairKind.{fair}
 use Rattle.spin_step.specs.Machines.{Machine}
 use Rattle.spin_step.specs.Acts.{one_number, Act, either, load, load_if, load_for, exchange, weak_exchange, retry, store, swap, Table, machine_of}
 use Rattle.spin_step.specs.Tables.{usual_table}
-use Rattle.spin_step.specs.Operations.{subtracts, sets_lowest_bit}
+use Rattle.spin_step.specs.declared.table.Operation.TheVariants as op
 
 -- the point at which a call begins
 abbrev pub starts_at : FairCall → FairPoint
@@ -57,8 +57,8 @@ abbrev pub act_of_first : {V : Type 0} → FairCall → Option Hold → Act ℕ 
 act_of_first TryLock h = exchange (swap 0 lock) (λ p. gets p to_lock_unregistered) granted (λ w. Answers Refused h)
 act_of_first TryLockStarver h = exchange (swap 0 lock) (λ p. gets p to_lock_unregistered) granted (rejects h)
 act_of_first StarverTryLockFair h = exchange (swap starver_weight lock_fair) (λ p. gets p to_lock_starving_alone) (Continue Unregister) (λ w. Answers Refused h)
-act_of_first StarverDrop h = store (λ w. nat_lt 1 w) (subtracts starver_weight) (λ p. stops_starving p) (Answers Done None)
-act_of_first Release h = store is_set (subtracts holder_weight) (λ p. releases p writing) (Answers Done None)
+act_of_first StarverDrop h = store (λ w. nat_lt 1 w) (op.Subtract starver_weight) (λ p. stops_starving p) (Answers Done None)
+act_of_first Release h = store is_set (op.Subtract holder_weight) (λ p. releases p writing) (Answers Done None)
 act_of_first _ h = load (λ w. Answers (Is (is_set w)) h)
 
 abbrev pub act_of : {V : Type 0} → ℕ → ℕ → FairCall → FairPoint → Option Hold → Act ℕ FairPoint (Answer V)
@@ -67,9 +67,9 @@ act_of cap patience c (Attempt n) h = weak_exchange 0 lock (λ p. gets p to_lock
 act_of cap patience c (Look n) h = load_if is_set (λ w. looks_on patience n) (λ w. Continue (Attempt n))
 act_of cap patience c Load h = load_for (starve cap) (λ p. gets p to_starve) (λ w. Continue (Register w)) (finds_no_room patience c h)
 act_of cap patience c (Register n) h = retry n (starve cap) (λ p. gets p to_starve) (registered c) (λ w. Continue (Register w)) (finds_no_room patience c h)
-act_of cap patience c SetFlag h = exchange sets_lowest_bit (λ p. gets p to_lock_starving) (Continue Unregister) (λ w. finds_flag_set c h)
+act_of cap patience c SetFlag h = exchange op.SetLowestBit (λ p. gets p to_lock_starving) (Continue Unregister) (λ w. finds_flag_set c h)
 act_of cap patience c Await h = load_if is_set (λ w. Continue Await) (λ w. Continue SetFlag)
-act_of cap patience c Unregister h = store (λ w. nat_lt 1 w) (subtracts starver_weight) (λ p. stops_starving p) granted
+act_of cap patience c Unregister h = store (λ w. nat_lt 1 w) (op.Subtract starver_weight) (λ p. stops_starving p) granted
 
 abbrev pub asks_of : ℕ → FairCall → Option Hold → Asked
 asks_of patience Lock h = waits_or_starves patience

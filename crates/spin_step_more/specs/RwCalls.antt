@@ -18,7 +18,7 @@ use Rattle.spin_step_more.specs.RwKind.{rw}
 use Rattle.spin_step.specs.Machines.{Machine}
 use Rattle.spin_step.specs.Acts.{one_number, Act, load, load_for, exchange, weak_exchange, retry, store, swap, Table, machine_of}
 use Rattle.spin_step.specs.Tables.{usual_table}
-use Rattle.spin_step.specs.Operations.{adds, subtracts}
+use Rattle.spin_step.specs.declared.table.Operation.TheVariants as op
 
 abbrev pub granted : {V : Type 0} → Hold → Next RwPoint (Answer V)
 granted held = Answers Granted (Some held)
@@ -47,13 +47,13 @@ act_of cap WriterCount l h = load (λ w. Answers (Count (writers_in w)) h)
 act_of cap TryUpgrade l h = exchange (swap (weight upgradable) upgrade) (λ p. gets p to_upgrade) (granted hold.Write) (λ w. Answers Refused h)
 act_of cap TryUpgradeWeak l h = weak_exchange (weight upgradable) upgrade (λ p. gets p to_upgrade) (granted hold.Write) (Answers Refused h)
 act_of cap Upgrade Asking h = weak_exchange (weight asking) upgrade_asked (λ p. gets p to_upgrade_asked) (granted hold.Write) (Continue Asking)
-act_of cap Upgrade l h = store (tells upgradable) (adds (weight asking - weight upgradable)) (λ p. turns p upgradable asking) (Continue Asking)
-act_of cap Downgrade l (Some hold.Write) = store (tells writing) (adds (weight reading - weight writing)) (λ p. turns p writing reading) (Answers Done (Some hold.Read))
-act_of cap Downgrade l h = store (λ w. tells upgradable w && nat_lt (w / weight reading) reader_limit) (adds (weight reading - weight upgradable)) (λ p. turns p upgradable reading) (Answers Done (Some hold.Read))
-act_of cap DowngradeToUpgradeable l h = store (tells writing) (adds (weight upgradable - weight writing)) (λ p. turns p writing upgradable) (Answers Done (Some hold.Upgradable))
-act_of cap Release l (Some hold.Read) = store (tells reading) (subtracts (weight reading)) (λ p. releases p reading) (Answers Done None)
-act_of cap Release l (Some hold.Upgradable) = store (tells upgradable) (subtracts (weight upgradable)) (λ p. releases p upgradable) (Answers Done None)
-act_of cap Release l h = store (tells writing) (subtracts (weight writing)) (λ p. releases p writing) (Answers Done None)
+act_of cap Upgrade l h = store (tells upgradable) (op.Add (weight asking - weight upgradable)) (λ p. turns p upgradable asking) (Continue Asking)
+act_of cap Downgrade l (Some hold.Write) = store (tells writing) (op.Add (weight reading - weight writing)) (λ p. turns p writing reading) (Answers Done (Some hold.Read))
+act_of cap Downgrade l h = store (λ w. tells upgradable w && nat_lt (w / weight reading) reader_limit) (op.Add (weight reading - weight upgradable)) (λ p. turns p upgradable reading) (Answers Done (Some hold.Read))
+act_of cap DowngradeToUpgradeable l h = store (tells writing) (op.Add (weight upgradable - weight writing)) (λ p. turns p writing upgradable) (Answers Done (Some hold.Upgradable))
+act_of cap Release l (Some hold.Read) = store (tells reading) (op.Subtract (weight reading)) (λ p. releases p reading) (Answers Done None)
+act_of cap Release l (Some hold.Upgradable) = store (tells upgradable) (op.Subtract (weight upgradable)) (λ p. releases p upgradable) (Answers Done None)
+act_of cap Release l h = store (tells writing) (op.Subtract (weight writing)) (λ p. releases p writing) (Answers Done None)
 
 abbrev pub asks_of : RwCall → Option Hold → Asked
 asks_of TryRead h = looks_and_tries to_read

@@ -1,6 +1,6 @@
 -- What has to be shown of the fair lock's table.
 use Rattle.spin_world.proofs.FairNames.{◌≡◌, ℕ, ◌<◌, ◌+◌, ◌-◌, ◌%◌, true, nat_lt, Option, Some, None, List, ◌∷◌, refl, arith, eqb-true, Plain, writing, to_lock_unregistered, to_lock_starving, to_lock_starving_alone, to_starve, Change, gets, releases, stops_starving, is_starver, fair_word, apply_some, entries, is_held, empty_is, is_holder-from_entries, is_starver-from_entries, eq-eqb, length-without_holder, length-without_starver, is_set, lock, starve, lock_fair, fair_lock-grants, fair_starve-grants, fair_lock_fair-grants, fair_lock_starved-grants, fair_unstarve-gives, fair_unlock-gives, Hold, Write, Starver, FairCall, Lock, TryLock, TryLockStarver, IsLocked, Starve, StarverTryLockFair, StarverTryLock, StarverLock, StarverDrop, Release, FairPoint, First, Attempt, Look, Load, Register, SetFlag, Await, Unregister, StepKind, plain, again, weak, Mark, granted, fair, mark_of, own_count, changes, RegistersInTime, tried, fair_table, fair_machine, holds, starves, holds_and_starves, entries_at, Row, Point, nowhere, looked, onward, Notes, Means, OwesAll, SoonAll, no_queue, []}
-use Rattle.spin_step.specs.Operations.{sets_lowest_bit}
+use Rattle.spin_step.specs.declared.table.Operation.TheVariants as op
 use Rattle.spin_world_core.proofs.Lists.{eqb_self}
 use Rattle.spin_world_core.proofs.Steps.{Plays}
 use Rattle.spin_world_core.proofs.Filled.{plays_of}
@@ -70,7 +70,7 @@ module _ {V : Type 0} (v : V) (cap patience : ℕ) where
     lock_fair_means : entries p s ≡ entries_at p starves → IsMeant p s (gets p to_lock_starving_alone) (lock_fair w)
     lock_fair_means mine = grind (arith, fair_lock_fair-grants s p w, is_starver-from_entries p, comes cap p s)
 
-    lock_starved_means : entries p s ≡ entries_at p starves → IsMeant p s (gets p to_lock_starving) (tried sets_lowest_bit w)
+    lock_starved_means : entries p s ≡ entries_at p starves → IsMeant p s (gets p to_lock_starving) (tried op.SetLowestBit w)
     lock_starved_means mine = grind (arith, fair_lock_starved-grants s p w, is_starver-from_entries p, comes cap p s)
 
     -- a starver stops starving, with the lock or without

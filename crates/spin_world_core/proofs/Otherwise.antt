@@ -5,7 +5,8 @@ use Rattle.spin_step.specs.StepKinds.{is_weak}
 use Rattle.spin_step.specs.Calls.{LockKind, Asked, Mark}
 use Rattle.spin_world_core.specs.Spans.{own_count}
 use Rattle.spin_world_core.specs.Undisturbed.{is_open_now, Leaves, AllOf, UndisturbedTakes}
-use Rattle.spin_step.specs.Operations.{Operation, performed}
+use Rattle.spin_step.specs.Operations.{performed}
+use Rattle.spin_step.specs.declared.table.Operation.{Operation}
 
 -- what is left of a claim if its first part is false
 pub otherwise : {X : Type 0} → (true ≡ false) ⊎ X → X

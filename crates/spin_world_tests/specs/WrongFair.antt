@@ -17,7 +17,7 @@ use Rattle.spin_step.specs.declared.schedule.Move.{Move}
 use Rattle.spin_step.specs.declared.schedule.Move.TheVariants.{Begin, Step, Weak}
 use Rattle.spin_step.specs.Machines.{Machine}
 use Rattle.spin_step.specs.Acts.{Act, either, load, load_if, exchange, weak_exchange, attempt, retry, section, swap, machine_of}
-use Rattle.spin_step.specs.Operations.{sets_lowest_bit}
+use Rattle.spin_step.specs.declared.table.Operation.TheVariants as op
 use Rattle.spin_step_more.specs.Starvers.{is_set, lock, lock_fair, starve}
 use Rattle.spin_step_more.specs.FairCalls.{granted, act_of, fair_table, fair_machine}
 use Rattle.spin_step.specs.Asks.{tries_in}
@@ -49,7 +49,7 @@ looks_by n late clear = load_if is_set (λ w. either (nat_lt n 1) (Continue (Loo
 
 -- a starver sets the flag
 abbrev sets_flag : {V : Type 0} → Next FairPoint (Answer V) → Next FairPoint (Answer V) → FairAct V
-sets_flag won lost = exchange sets_lowest_bit (λ p. gets p to_lock_starving) won (λ w. lost)
+sets_flag won lost = exchange op.SetLowestBit (λ p. gets p to_lock_starving) won (λ w. lost)
 
 abbrev Entries : Type 0 → Type 0
 Entries V = List (ℕ × Move FairCall V)
@@ -57,7 +57,7 @@ Entries V = List (ℕ × Move FairCall V)
 -- `try_lock` sets the flag whenever the flag is clear
 abbrev pub tries_greedily : {V : Type 0} → V → FairMachine V
 tries_greedily v =
-    with_steps v 2 (λ c l h act. elim c [ TryLock ↦ exchange sets_lowest_bit (λ p. gets p to_lock_unregistered) granted (λ w. Answers Refused h) | _ ↦ act ])
+    with_steps v 2 (λ c l h act. elim c [ TryLock ↦ exchange op.SetLowestBit (λ p. gets p to_lock_unregistered) granted (λ w. Answers Refused h) | _ ↦ act ])
 
 abbrev pub try_beside_a_starver : {V : Type 0} → Entries V
 try_beside_a_starver = (0, Begin Starve) ∷ (0, Step) ∷ (0, Step) ∷ (1, Begin TryLock) ∷ (1, Step) ∷ []

@@ -16,7 +16,7 @@ use Rattle.spin_step.specs.declared.ticket_calls.TicketPoint.{TicketPoint}
 use Rattle.spin_step.specs.declared.ticket_calls.TicketWords.{TicketWords}
 use Rattle.spin_step.specs.declared.answer.Answer.TheVariants.{Done}
 use Rattle.spin_step.specs.declared.stepped.Next.TheVariants.{Continue, Answers}
-use Rattle.spin_step.specs.Operations.{stores, subtracts}
+use Rattle.spin_step.specs.declared.table.Operation.TheVariants as op
 use Rattle.spin_world_progress.specs.Ticket.{TicketMachine}
 use Rattle.spin_step.specs.declared.flag_calls.FlagCall.TheVariants as flag
 use Rattle.spin_step.specs.declared.flag_calls.FlagPoint.TheVariants as flag_point
@@ -46,7 +46,7 @@ four_looks = ((0, Step) ∷ (1, Begin flag.Release) ∷ []) ∷ ((0, Step) ∷ (
 -- A ticket lock whose holder serves its own number again at its release
 
 abbrev serves_twice_act : {V : Type 0} → TicketPoint → Option Hold → Act TicketWords TicketPoint (Answer V)
-serves_twice_act (ticket_point.Serve t) h = store (λ k. true) (stores t) (λ p. serves p) (Answers Done None)
+serves_twice_act (ticket_point.Serve t) h = store (λ k. true) (op.Store t) (λ p. serves p) (Answers Done None)
 serves_twice_act l h = tickets.act_of l h
 
 abbrev pub serves_twice : {V : Type 0} → V → TicketMachine V
@@ -61,7 +61,7 @@ four_turns = ((0, Step) ∷ (1, Step) ∷ []) ∷ ((0, Step) ∷ (1, Begin ticke
 -- A read-write lock whose upgrade takes back its request by the next step, and then asks again
 
 abbrev gives_up_act : {V : Type 0} → ℕ → RwCall → RwPoint → Option Hold → Act ℕ RwPoint (Answer V)
-gives_up_act cap rw.Upgrade rw_point.Asking h = store (λ w. true) (subtracts (weight asking - weight upgradable)) (λ p. turns p asking upgradable) (Continue rw_point.First)
+gives_up_act cap rw.Upgrade rw_point.Asking h = store (λ w. true) (op.Subtract (weight asking - weight upgradable)) (λ p. turns p asking upgradable) (Continue rw_point.First)
 gives_up_act cap c l h = rws.act_of cap c l h
 
 abbrev pub gives_up : {V : Type 0} → V → Machine ℕ V RwCall RwPoint (Answer V)

@@ -17,7 +17,7 @@ use Rattle.spin_step.specs.declared.schedule.Move.TheVariants.{Begin, Step, Weak
 use Rattle.spin_step.specs.Machines.{Machine}
 use Rattle.spin_step.specs.declared.stepped.Next.{Next}
 use Rattle.spin_step.specs.Acts.{Act, load, load_for, exchange, weak_exchange, retry, store, section, swap, Table, machine_of}
-use Rattle.spin_step.specs.Operations.{exchanges, adds, subtracts, stores}
+use Rattle.spin_step.specs.declared.table.Operation.TheVariants as op
 use Rattle.spin_step_more.specs.Readers.{tells, read, write, upgrade, upgrade_asked, read_upgradable, writers_in}
 use Rattle.spin_step_more.specs.RwCalls.{granted, goes_for, act_of, asks_of, rw_table, rw_machine, comes_by}
 use Rattle.spin_step.specs.Asks.{waits}
@@ -48,11 +48,11 @@ upgrade_by v steps = with_steps v (λ c l h act. elim c [ Upgrade ↦ steps l ac
 
 -- a step that stores the writer's word, whatever word it finds
 abbrev writes_over : {V : Type 0} → Ask → Next RwPoint (Answer V) → RwAct V
-writes_over ask lost = exchange (stores (weight writing)) (λ p. gets p ask) (granted hold.Write) (λ w. lost)
+writes_over ask lost = exchange (op.Store (weight writing)) (λ p. gets p ask) (granted hold.Write) (λ w. lost)
 
 -- a step of `downgrade`: the writer adds this much to the word and becomes a reader
 abbrev turns_to_reading : {V : Type 0} → ℕ → RwAct V
-turns_to_reading more = store (tells writing) (adds more) (λ p. turns p writing reading) (Answers Done (Some hold.Read))
+turns_to_reading more = store (tells writing) (op.Add more) (λ p. turns p writing reading) (Answers Done (Some hold.Read))
 
 -- `try_upgrade` succeeds while there are readers
 abbrev pub upgrades_at_once : {V : Type 0} → V → RwMachine V
@@ -78,7 +78,7 @@ upgrades_plainly v = upgrade_by v (λ l act. weak_exchange (weight upgradable) u
 -- `upgrade` asks twice
 abbrev pub asks_twice : {V : Type 0} → V → RwMachine V
 asks_twice {V} v =
-    let asks : Next RwPoint (Answer V) → RwAct V = store (λ w. true) (adds (weight asking - weight upgradable)) (λ p. turns p upgradable asking) in
+    let asks : Next RwPoint (Answer V) → RwAct V = store (λ w. true) (op.Add (weight asking - weight upgradable)) (λ p. turns p upgradable asking) in
     upgrade_by v (λ l act. elim l [ First ↦ asks (Continue (Exchange 0)) | Exchange n ↦ asks (Continue Asking) | _ ↦ act ])
 
 -- `downgrade` leaves the word of a reader with the bit by which an upgradable reader asks
@@ -89,8 +89,8 @@ downgrades_asking {V} v =
 
 -- `downgrade` releases the writer, and then adds a reader
 abbrev downgrade_in_two : {V : Type 0} → RwPoint → RwAct V
-downgrade_in_two (Exchange n) = store (λ w. true) (adds (weight reading)) (λ p. gets p to_read) (Answers Done (Some hold.Read))
-downgrade_in_two _ = store (tells writing) (subtracts (weight writing)) (λ p. releases p writing) (Continue (Exchange 0))
+downgrade_in_two (Exchange n) = store (λ w. true) (op.Add (weight reading)) (λ p. gets p to_read) (Answers Done (Some hold.Read))
+downgrade_in_two _ = store (tells writing) (op.Subtract (weight writing)) (λ p. releases p writing) (Continue (Exchange 0))
 
 abbrev pub downgrades_in_two : {V : Type 0} → V → RwMachine V
 downgrades_in_two v = with_steps v (λ c l h act. elim c [ Downgrade ↦ downgrade_in_two l | _ ↦ act ])
@@ -100,8 +100,8 @@ downgrade_alone = (0, Begin TryWrite) ∷ (0, Step) ∷ (0, Begin Downgrade) ∷
 
 -- `try_read` adds a reader to the word, and removes this reader if there was no room
 abbrev read_and_regret : {V : Type 0} → RwPoint → RwAct V
-read_and_regret (Exchange n) = store (λ w. true) (subtracts (weight reading)) (λ p. releases p reading) (Answers Refused None)
-read_and_regret _ = store (λ w. true) (adds (weight reading)) (λ p. gets p to_read) (Continue (Exchange 0))
+read_and_regret (Exchange n) = store (λ w. true) (op.Subtract (weight reading)) (λ p. releases p reading) (Answers Refused None)
+read_and_regret _ = store (λ w. true) (op.Add (weight reading)) (λ p. gets p to_read) (Continue (Exchange 0))
 
 abbrev pub reads_and_regrets : {V : Type 0} → V → RwMachine V
 reads_and_regrets v = with_steps v (λ c l h act. elim c [ TryRead ↦ read_and_regret l | _ ↦ act ])
@@ -133,7 +133,7 @@ write_alone = (0, Begin TryWrite) ∷ (0, Step) ∷ []
 -- `upgrade` releases, and then begins to write like a new party
 abbrev upgrade_anew : {V : Type 0} → RwPoint → RwAct V
 upgrade_anew (Exchange n) = weak_exchange 0 write (λ p. gets p to_write) (granted hold.Write) (Continue (Exchange 0))
-upgrade_anew _ = store (tells upgradable) (subtracts (weight upgradable)) (λ p. releases p upgradable) (Continue (Exchange 0))
+upgrade_anew _ = store (tells upgradable) (op.Subtract (weight upgradable)) (λ p. releases p upgradable) (Continue (Exchange 0))
 
 abbrev pub upgrades_anew : {V : Type 0} → V → RwMachine V
 upgrades_anew v = upgrade_by v (λ l act. upgrade_anew l)
@@ -202,7 +202,7 @@ reads_in_one v = reads_by v (read 9)
 -- `read` guesses that nobody holds; a wrong guess does not count as a failed exchange
 abbrev pub reads_by_a_guess : {V : Type 0} → V → RwMachine V
 reads_by_a_guess v =
-    read_by v (λ l act. elim l [ First ↦ exchange (exchanges 0 (weight reading)) (λ p. gets p to_read) (granted hold.Read) goes_for | _ ↦ act ])
+    read_by v (λ l act. elim l [ First ↦ exchange (op.Exchange 0 (weight reading)) (λ p. gets p to_read) (granted hold.Read) goes_for | _ ↦ act ])
 
 abbrev pub guess_beside_a_reader : {V : Type 0} → Entries V
 guess_beside_a_reader = read_alone ++ (1, Begin Read) ∷ (1, Step) ∷ []

@@ -15,7 +15,7 @@ use Rattle.spin_step.specs.declared.schedule.Move.{Move}
 use Rattle.spin_step.specs.declared.schedule.Move.TheVariants.{Begin, Step, Weak}
 use Rattle.spin_step.specs.Calls.{Asked}
 use Rattle.spin_step.specs.Acts.{Act, load, exchange, retry, store, section, machine_of}
-use Rattle.spin_step.specs.Operations.{exchanges, subtracts}
+use Rattle.spin_step.specs.declared.table.Operation.TheVariants as op
 use Rattle.spin_seats.specs.Table.{granted, goes_for, comes_by, act_of, asks_of, SeatsTable, seats_table, SeatsMachine, seats_machine}
 use Rattle.spin_step.specs.Asks.{waits, gives_back}
 
@@ -43,7 +43,7 @@ two_on_one_seat = takes_a_seat 0 ++ takes_a_seat 1
 -- a party that leaves frees two seats
 abbrev pub leaves_for_two : SeatsMachine
 leaves_for_two =
-    with_steps 2 (λ c l h act. elim c [ call.Leave ↦ store (λ w. nat_lt 0 w) (subtracts 2) (λ p. releases p reading) (Answers Done None) | _ ↦ act ])
+    with_steps 2 (λ c l h act. elim c [ call.Leave ↦ store (λ w. nat_lt 0 w) (op.Subtract 2) (λ p. releases p reading) (Answers Done None) | _ ↦ act ])
 
 abbrev pub one_of_two_leaves : Entries
 one_of_two_leaves = takes_a_seat 0 ++ (takes_a_seat 1 ++ (0, Begin call.Leave) ∷ (0, Step) ∷ [])
@@ -74,7 +74,7 @@ enters_in_one =
 -- `enter` guesses that nobody has a seat; a wrong guess does not count as a failed exchange
 abbrev pub enters_by_a_guess : SeatsMachine
 enters_by_a_guess =
-    let guess : SeatsAct = exchange (exchanges 0 1) (λ p. gets p to_read) granted goes_for in
+    let guess : SeatsAct = exchange (op.Exchange 0 1) (λ p. gets p to_read) granted goes_for in
     with_steps 2 (λ c l h act. elim c [ call.Enter ↦ elim l [ First ↦ guess | _ ↦ act ] | _ ↦ act ])
 
 abbrev pub guess_beside_one : Entries
