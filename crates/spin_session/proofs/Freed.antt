@@ -1,0 +1,60 @@
+-- What the release of a holder tells its party.
+use Rattle.std.proofs.Common.{◌≡◌, ℕ, true, false, Option, Some, None, List, ◌++◌, length, refl, sym, ap, ◌∙◌, subst}
+use Rattle.spin_core.specs.Cell.{Moved, off, use_of}
+use Rattle.spin_core.specs.Own.{Numbered, what}
+use Rattle.spin_core.specs.Passes.{IsOut, IsCall, WritesSome, mark_of}
+use Rattle.spin_core.specs.Spots.{Releases}
+use Rattle.spin_core.specs.Traced.{Watches}
+use Rattle.spin_core.specs.Values.{IsLast}
+use Rattle.spin_core.proofs.Passes as passes
+use Rattle.spin_core.proofs.Spots as spots
+use Rattle.spin_core.proofs.Values.{write_leaves, wrote}
+use Rattle.spin_step.specs.Acts.{Table}
+use Rattle.spin_step.specs.declared.answer.Answer.{Answer}
+use Rattle.spin_step.specs.declared.answer.Answer.TheVariants.{Done}
+use Rattle.spin_step.specs.declared.place.Hold.{Hold}
+use Rattle.spin_step.specs.declared.place.Seat.{Seat}
+use Rattle.spin_step.specs.declared.place.Seat.TheVariants.{Idle, Holding}
+use Rattle.spin_step.specs.declared.schedule.Outcome.TheVariants.{Answered}
+use Rattle.spin_session.specs.Meaning.{Meaning, use_at, model_at, words_of}
+use Rattle.spin_session.specs.Turns.{Says, Told, Frees, Spot, gives_up, turn_by}
+
+-- a party that is out does not use the value
+pub off_out : {C L : Type 0} (s : Meaning C L) (view : Option (Seat C L)) → IsOut Idle view → use_of (use_at s) view ≡ off
+off_out s None out = refl
+off_out s (Some x) out = ap (use_at s) out
+
+module _ {W V C L : Type 0} (t : V → Table W V C L (Answer V)) (bounds : ℕ → Type 0) (c : C) (h : Hold) (p q : Spot V C L) (is : what p.1 ≡ Some (Holding h)) (frees : Frees t c h p.0) (named : Type 0) (n : ℕ) where
+  abbrev Step : (V → Type 0) → Option (Numbered (Seat C L)) → Type 0
+  Step Q w = Moved (Watches named p.2 q.2 (Told (t p.0.value) bounds (gives_up (t p.0.value) bounds Q c (Some (Holding h))) p.1) n) w
+
+  abbrev Moves : Option (Numbered (Seat C L)) → Type 0
+  Moves w = Moved (Watches named p.2 q.2 (Told (t p.0.value) bounds (turn_by (t p.0.value) bounds true (Some c) (what p.1)) p.1) n) w
+
+  as_step : (w : Option (Numbered (Seat C L))) → Moves w → Step (λ y. Unit {0}) w
+  as_step w moved = subst (λ o. Moved (Watches named p.2 q.2 (Told (t p.0.value) bounds (turn_by (t p.0.value) bounds true (Some c) o) p.1) n) w) is moved
+
+  pub ends_out : (w : Option (Numbered (Seat C L))) → Moves w → IsOut Idle (what w)
+  ends_out None moved = absurd moved
+  ends_out (Some w) moved = let (same, (log, es, known, grew, (own, outs, mine, mark, none, alike, (stays, so)))) = as_step (Some w) moved in rw (frees n) at stays
+
+  pub knows : (w : Option (Numbered (Seat C L))) → Moves w → mark_of w ≡ length q.2.entries
+  knows None moved = absurd moved
+  knows (Some w) moved = let (same, (log, es, known, grew, (own, outs, mine, mark, none, alike, so))) = as_step (Some w) moved in mark ∙ ap length (sym grew)
+
+  -- y is the value x, if the trace tells the value
+  abbrev IsIt : V → V → Type 0
+  IsIt x y = p.0.told ≡ true → y ≡ x
+
+  pub releases : named → q.0 ≡ p.0 → mark_of p.1 ≡ length p.2.entries → (x : V) → IsLast p.0 q.2.entries x → Moves q.1 → Releases (model_at t) (λ o. o) c Done x p q
+  releases is_named same knew x last moved =
+      let says : Says (t p.0.value) bounds = gives_up (t p.0.value) bounds (IsIt x) c (Some (Holding h)) in
+      let all = spots.took (model_at t) (λ z. z) (words_of (t p.0.value)) p q same knew is_named n says (λ k. Idle) (λ k. WritesSome (IsIt x) (IsCall c Done))
+      (λ own outs k u (stays, (y, so, (rest, comes, is, are, s))). (rw (frees k) at stays, (y, so, (rest, comes, is, are, passes.whole c Done rest comes (rw (frees k) at s)))))
+      (exactly q.1 (as_step q.1 moved)) in (all.0, last)
+    where
+      exactly : (w : Option (Numbered (Seat C L))) → Step (λ y. Unit {0}) w → Step (IsIt x) w
+      exactly None made = absurd made
+      exactly (Some w) (named, (log, es, known, grew, (own, outs, mine, mark, none, alike, (stays, (y, any, by))))) =
+          let so = wrote p.0 log es q.2.entries w.1 own x y grew mine (write_leaves y false c _ own outs by) last in
+          (named, (log, es, known, grew, (own, outs, mine, mark, none, alike, (stays, (y, so, by)))))

@@ -1,0 +1,81 @@
+use Rattle.std.proofs.Common.{◌≡◌, true, None, Some, sym, ap, ◌∙◌, subst, refl}
+use Rattle.spin_core.specs.Own.{what}
+use Rattle.spin_core.specs.Cell.{Moved, off, writes, use_of}
+use Rattle.spin_core.specs.Values.{IsLast}
+use Rattle.std.specs.Option.{IfSome}
+use Rattle.spin_core.specs.Passes.{mark_of}
+use Rattle.spin_core.specs.Spots.{Releases}
+use Rattle.spin_core.specs.Traced.{Watches, Named, MayKnow}
+use Rattle.spin_step.specs.Acts.{operation_by}
+use Rattle.spin_step.specs.declared.answer.Answer.TheVariants.{Done}
+use Rattle.spin_step.specs.declared.place.Seat.TheVariants.{Idle, Holding}
+use Rattle.spin_session.specs.Meaning.{Finds, use_at, model_at}
+use Rattle.spin_session.specs.Operating.{Operates}
+use Rattle.spin_session.specs.Turns.{TurnTold, Spot, Frees, SeesLast}
+use Rattle.spin_session.proofs.Course.{starts_at, begins_so}
+use Rattle.spin_session.proofs.Freed.{ends_out, off_out, knows, releases}
+use Rattle.spin_session.proofs.calls.free.Goals as goal
+
+pub operate-permit-requires-clause-knows : goal.operate-permit-requires-clause-knows
+operate-permit-requires-clause-knows g c = rw c.into_permit-permit.ensures.key c.requires.knows
+
+pub operate-permit-requires-clause-keeps : goal.operate-permit-requires-clause-keeps
+operate-permit-requires-clause-keeps g c =
+    let a = c.args in let it = c.into_permit-permit in let p = it.result in let t = g.P.Table.Steps.table g.P.Runs.its in let b = (Finds g.P.Runs.meaning) in let call = a.call in let o = c.operation-operation in
+    let begins : ((t p.key.value).asks call (Some a.holds)).begins (Some a.holds) ≡ true = rw it.ensures.key c.requires.begins in
+    let start : c.in-Some.point ≡ (t p.key.value).start call (Some a.holds) = starts_at (t p.key.value) call (Some a.holds) c.in-Some.point begins (sym c.in-Some.is ∙ rw c.table-table.ensures at (c.start.ensures p.key.value)) in
+    let same : o.result ≡ operation_by ((t p.key.value).act call ((t p.key.value).start call (Some a.holds)) (Some a.holds)) = rw (start, c.table-table.ensures) at (o.ensures p.key.value) in
+    let seat = c.requires.alone a.writer.view.0 (sym (c.laws.ensures.uses a.writer.key (Some a.writer.view)) ∙ it.ensures.use_of_view) in
+    let is : what p.view ≡ Some (Holding a.holds) = ap what it.ensures.same.0 ∙ ap Some seat in
+    let may : ((t p.key.value).asks call (Some a.holds)).begins (Some a.holds) ≡ true = rw it.ensures.key c.requires.begins in
+    let all = c.laws.ensures.gives p.key p.view a.writer.value call a.holds o.result same is may c.requires.held.0 c.requires.held.1 in
+    subst (λ x. Operates (g.P.Rule.holds p.key) (g.P.Rule.ways p.key) p.view x o.result (TurnTold t b true (Some call) p.key p.view)) (sym it.ensures.same.1) all
+
+pub returns-clause-out : goal.returns-clause-out
+returns-clause-out g c =
+    let a = c.args in let it = c.into_permit-permit in let p = it.result in let f = c.operate-permit in let t = g.P.Table.Steps.table g.P.Runs.its in let b = (Finds g.P.Runs.meaning) in let call = a.call in
+    let seat = c.requires.alone a.writer.view.0 (sym (c.laws.ensures.uses a.writer.key (Some a.writer.view)) ∙ it.ensures.use_of_view) in
+    let is : what p.view ≡ Some (Holding a.holds) = ap what it.ensures.same.0 ∙ ap Some seat in
+    let from : Spot g.row.T.Denot g.row.P-Call.Denot g.row.P-Point.Denot = (p.key, p.view, a.seen) in
+    let now : Spot g.row.T.Denot g.row.P-Call.Denot g.row.P-Point.Denot = (f.result.1.key, f.result.1.view, f.result.2) in
+    let its = Named (g.P.Rule.holds p.key) (g.P.Rule.ways p.key) a.seen.name in
+    let moved = f.ensures.moved in
+    let frees : Frees t call a.holds p.key = rw it.ensures.key c.requires.frees in
+    ends_out t b call a.holds from now is frees its f.result.0 f.result.1.view moved
+
+pub returns-clause-knows : goal.returns-clause-knows
+returns-clause-knows g c =
+    let a = c.args in let it = c.into_permit-permit in let p = it.result in let f = c.operate-permit in let t = g.P.Table.Steps.table g.P.Runs.its in let b = (Finds g.P.Runs.meaning) in let call = a.call in
+    let seat = c.requires.alone a.writer.view.0 (sym (c.laws.ensures.uses a.writer.key (Some a.writer.view)) ∙ it.ensures.use_of_view) in
+    let is : what p.view ≡ Some (Holding a.holds) = ap what it.ensures.same.0 ∙ ap Some seat in
+    let from : Spot g.row.T.Denot g.row.P-Call.Denot g.row.P-Point.Denot = (p.key, p.view, a.seen) in
+    let now : Spot g.row.T.Denot g.row.P-Call.Denot g.row.P-Point.Denot = (f.result.1.key, f.result.1.view, f.result.2) in
+    let its = Named (g.P.Rule.holds p.key) (g.P.Rule.ways p.key) a.seen.name in
+    let moved = f.ensures.moved in
+    let frees : Frees t call a.holds p.key = rw it.ensures.key c.requires.frees in
+    knows t b call a.holds from now is frees its f.result.0 f.result.1.view moved
+
+pub returns-clause-releases : goal.returns-clause-releases
+returns-clause-releases g c named knew =
+    let a = c.args in let w = a.writer in let it = c.into_permit-permit in let p = it.result in let f = c.operate-permit in let t = g.P.Table.Steps.table g.P.Runs.its in let b = (Finds g.P.Runs.meaning) in let call = a.call in
+    let seat = c.requires.alone a.writer.view.0 (sym (c.laws.ensures.uses a.writer.key (Some a.writer.view)) ∙ it.ensures.use_of_view) in
+    let is : what p.view ≡ Some (Holding a.holds) = ap what it.ensures.same.0 ∙ ap Some seat in
+    let from : Spot g.row.T.Denot g.row.P-Call.Denot g.row.P-Point.Denot = (p.key, p.view, a.seen) in
+    let now : Spot g.row.T.Denot g.row.P-Call.Denot g.row.P-Point.Denot = (f.result.1.key, f.result.1.view, f.result.2) in
+    let its = Named (g.P.Rule.holds p.key) (g.P.Rule.ways p.key) a.seen.name in
+    let moved = f.ensures.moved in
+    let frees : Frees t call a.holds p.key = rw it.ensures.key c.requires.frees in
+    let out = ends_out t b call a.holds from now is frees its f.result.0 f.result.1.view moved in
+    let held : use_of (use_at g.P.Runs.meaning) (what p.view) ≡ writes = ap (use_of (use_at g.P.Runs.meaning)) is ∙ c.requires.held.1 in
+    let all_last = c.laws.ensures.lasts p.key p.view f.result.1.view p.value f.result.1.value f.result.2 f.ensures.kept f.ensures.found
+    (λ e e'. absurd (let no : off ≡ writes = sym (off_out g.P.Runs.meaning (what f.result.1.view) out) ∙ e' in cc (no))) in
+    let last : IsLast p.key f.result.2.entries w.value = subst (λ o. IfSome o (IsLast p.key f.result.2.entries)) it.ensures.same.1 (all_last.1 (λ e. absurd (let no : off ≡ writes = sym e ∙ held in cc (no)))) in
+    let all = releases t b call a.holds from now is frees its f.result.0 (c.laws.ensures.named p.key a.seen.name (ap (λ k. k.name) it.ensures.key ∙ named)) f.ensures.key
+    (ap mark_of it.ensures.same.0 ∙ knew) w.value last moved in
+    subst (λ (z : Spot g.row.T.Denot g.row.P-Call.Denot g.row.P-Point.Denot). Releases (model_at t) (λ o. o) call Done w.value z now) (λ i. (it.ensures.key i, it.ensures.same.0 i, a.seen)) all
+
+pub unreachable-requires : goal.unreachable-requires
+unreachable-requires g c =
+    let a = c.args in let p = c.into_permit-permit.result in let t = g.P.Table.Steps.table g.P.Runs.its in
+    let begins : ((t p.key.value).asks a.call (Some a.holds)).begins (Some a.holds) ≡ true = rw c.into_permit-permit.ensures.key c.requires.begins in
+    begins_so (t p.key.value) a.call (Some a.holds) begins (sym c.in-None.is ∙ rw c.table-table.ensures at (c.start.ensures p.key.value))

@@ -1,0 +1,187 @@
+-- What one step of a table tells, and what the steps of a call tell.
+use Rattle.std.specs.Prelude.{◌≡◌, ◌⊎◌, ℕ, Bool, true, false, Option, Some, None, List, [], length}
+use Rattle.std.specs.Option.{IfSome}
+use Rattle.spin_step.specs.Acts.{Table, machine_of, next_of, with_value, filled}
+use Rattle.spin_step.specs.declared.answer.Answer.{Answer}
+use Rattle.spin_step.specs.declared.answer.Answer.TheVariants.{Granted, Refused, Done}
+use Rattle.spin_step.specs.declared.place.Hold.{Hold}
+use Rattle.spin_step.specs.declared.place.Seat.{Seat}
+use Rattle.spin_step.specs.declared.place.Seat.TheVariants.{Idle, Calling, Holding}
+use Rattle.spin_step.specs.declared.schedule.Outcome.TheVariants.{Answered, GoingOn}
+use Rattle.spin_step.specs.declared.stepped.Next.{Next}
+use Rattle.spin_step.specs.declared.stepped.Next.TheVariants.{Continue, Answers}
+use Rattle.spin_step.specs.Schedules.{Entry, resting}
+use Rattle.spin_core.specs.Cell.{Use, writes, use_of}
+use Rattle.spin_core.specs.Own as own
+use Rattle.spin_core.specs.Own.{Numbered, what}
+use Rattle.spin_core.specs.Passes as passes
+use Rattle.spin_core.specs.Passes.{Ending, mark_of, step_by, IsStep, WritesSome}
+use Rattle.spin_core.specs.Spots as spots
+use Rattle.spin_core.specs.Spots.{Stepped, HasCalled, IsIn}
+use Rattle.spin_core.specs.Values.{IsLast}
+use Rattle.spin_core.specs.declared.tie.Opening.{Opening}
+use Rattle.spin_core.specs.declared.trace.Watch.{Watch}
+use Rattle.spin_session.specs.Meaning.{Meaning, Finds, use_at, rests_at, seat_now, seat_after, words_of, model_at}
+use Rattle.spin_session.specs.declared.session.Session.{Session}
+
+abbrev pub outcome_of : {L V : Type 0} → Next L (Answer V) → Ending V
+outcome_of next = elim next [ Continue l ↦ GoingOn | Answers a after ↦ Answered a None ]
+
+-- the call is answered, and its party then holds this
+abbrev pub AnswersWith : {L A : Type 0} → Option Hold → Next L A → Type 0
+AnswersWith h next = elim next [ Continue l ↦ ⊥ | Answers a after ↦ after ≡ h ]
+
+abbrev pub is_granted : {V : Type 0} → Answer V → Bool
+is_granted answer = elim answer [ Granted ↦ true | _ ↦ false ]
+
+-- what the party holds between two calls
+abbrev pub held_now : {C L : Type 0} → Seat C L → Option Hold
+held_now seat = elim seat [ Holding h ↦ Some h | _ ↦ None ]
+
+abbrev pub has_begun : {C L : Type 0} → Option (Seat C L) → Bool
+has_begun (Some (Calling c l h)) = true
+has_begun _ = false
+
+module _ {W V C L : Type 0} (t : Table W V C L (Answer V)) (bounds : ℕ → Type 0) where
+  abbrev pub Says : Type 1
+  Says = passes.Says V C (Answer V) (Seat C L)
+
+  -- the step of the call c at this point; it is the call's first if `goes_on` is false
+  abbrev pub turn : Bool → C → L → Option Hold → Says
+  turn goes_on c l h mine outs n v = step_by goes_on c (λ k. outcome_of (next_of t c l h k)) (λ k. seat_after c h (next_of t c l h k)) mine outs n v × bounds n
+
+  -- the next step of a party in a call; a party in no call begins the call c
+  abbrev pub turn_from : C → Seat C L → Says
+  turn_from c (Calling d l h) = turn true d l h
+  turn_from c seat = turn false c (t.start c (held_now seat)) (held_now seat)
+
+  -- the first step of the call c by a holder that writes, and then does not; it first writes the value
+  abbrev pub gives_up : (V → Type 0) → C → Option (Seat C L) → Says
+  gives_up Q c view mine outs n v =
+      let h = held_now (seat_now view) in let next = next_of t c (t.start c h) h n in
+      (v ≡ seat_after c h next) × WritesSome Q (IsStep false c (outcome_of next)) mine outs
+
+  -- the step of the call that is named; `gives` says whether the party first writes its value
+  abbrev pub turn_by : Bool → Option C → Option (Seat C L) → Says
+  turn_by gives None view = λ mine outs n v. ⊥
+  turn_by true (Some c) view = gives_up (λ x. Unit {0}) c view
+  turn_by false (Some c) view = turn_from c (seat_now view)
+
+  abbrev pub Told : Says → Option (Numbered (Seat C L)) → List (Entry C V) → List (Entry C V) → ℕ → Numbered (Seat C L) → Type 0
+  Told = own.Tells (machine_of t) (λ x. x) (words_of t)
+
+-- the party is at this point of its call, or may begin the call here
+abbrev pub IsAtPoint : {W V C L : Type 0} → Table W V C L (Answer V) → C → L → Option Hold → Option (Seat C L) → Type 0
+IsAtPoint t c l h view = (view ≡ Some (Calling c l h)) ⊎ ((l ≡ t.start c h) × (seat_now view ≡ resting h) × ((t.asks c h).begins h ≡ true))
+
+-- For a lock whose key is an opening:
+
+abbrev pub Spot : (V C L : Type 0) → Type 0
+Spot V C L = spots.Spot (Opening V) (Seat C L) (Entry C V)
+
+abbrev pub spot : {V P C L S : Type 0} → Session V (Numbered (Seat C L)) (Entry C V) P (Opening V) S → Spot V C L
+spot it = (it.permit.key, it.permit.view, it.seen)
+
+module _ {W V C L : Type 0} (t : V → Table W V C L (Answer V)) where
+  abbrev pub TurnTold : (ℕ → Type 0) → Bool → Option C → Opening V → Option (Numbered (Seat C L)) → List (Entry C V) → List (Entry C V) → ℕ → Numbered (Seat C L) → Type 0
+  TurnTold bounds gives c key before = Told (t key.value) bounds (turn_by (t key.value) bounds gives c (what before)) before
+
+  abbrev pub IsAt : C → L → Option Hold → Opening V → Option (Seat C L) → Type 0
+  IsAt c l h key = IsAtPoint (t key.value) c l h
+
+-- the watch is of the party's lock and knows its trace up to the party's last step; the party may rest in its seat
+abbrev pub Knows : {V C L : Type 0} → Meaning C L → Spot V C L → Type 0
+Knows s p = (p.0.name ≡ p.2.name) × (mark_of p.1 ≡ length p.2.entries) × (rests_at s (seat_now (what p.1)) ≡ true)
+
+-- if the party sees a value, it is the one written last
+abbrev pub SeesLast : {V P C L S : Type 0} → Session V (Numbered (Seat C L)) (Entry C V) P (Opening V) S → Type 0
+SeesLast it = IfSome it.permit.value (IsLast it.permit.key it.seen.entries)
+
+-- the party does not write the value
+abbrev pub Quiet : {C L : Type 0} → Meaning C L → Option (Seat C L) → Type 0
+Quiet s view = use_of (use_at s) view ≡ writes → ⊥
+
+-- a party with this hold, and one that rests in this call, does not write the value
+abbrev pub StaysQuiet : {C L : Type 0} → Meaning C L → C → Option Hold → Type 0
+StaysQuiet {L = L} s c h = (use_at s (resting h) ≡ writes → ⊥) × ((l : L) → use_at s (Calling c l h) ≡ writes → ⊥)
+
+-- the name of the lock's trace, and all moves of the lock that the party knows
+abbrev pub lock_of : {V C L : Type 0} → Spot V C L → ℕ
+lock_of p = p.2.name
+
+abbrev pub history : {V C L : Type 0} → Spot V C L → List (Entry C V)
+history p = p.2.entries
+
+-- the party of this lock has made no call
+abbrev pub IsNew : {V C L : Type 0} → Opening V → Spot V C L → Type 0
+IsNew lock p = (p.0 ≡ lock) × (p.1 ≡ None) × (p.2.entries ≡ []) × (p.2.name ≡ lock.name)
+
+-- the party is in no call, holds this, and knows its lock's trace up to its last step
+abbrev pub StandsAt : {V C L : Type 0} → Option Hold → Spot V C L → Type 0
+StandsAt h p = (p.0.name ≡ p.2.name) × (mark_of p.1 ≡ length p.2.entries) × (seat_now (what p.1) ≡ resting h)
+
+abbrev pub Stands : {V P C L S : Type 0} → Option Hold → Session V (Numbered (Seat C L)) (Entry C V) P (Opening V) S → Type 0
+Stands h it = StandsAt h (spot it)
+
+-- from `before` to `now` the party has made exactly this call, which had this answer
+abbrev pub Calls : {W V C L : Type 0} → (V → Table W V C L (Answer V)) → C → Answer (Unit {0}) → Spot V C L → Spot V C L → Type 0
+Calls t c a before now = HasCalled (model_at t) c (with_value a None) before now
+
+module _ {W V C L : Type 0} (t : V → Table W V C L (Answer V)) (s : Meaning C L) where
+  -- the party may begin this call, and writes no value in it
+  abbrev pub MayBegin : C → Option Hold → Opening V → Type 0
+  MayBegin c h key = (((t key.value).asks c h).begins h ≡ true) × StaysQuiet s c h
+
+  -- so the party has been answered, by a step that found this number, and holds `after`
+  abbrev pub Ended : C → Option Hold → Answer (Unit {0}) → Option Hold → Spot V C L → Spot V C L → Type 0
+  Ended c h a after p q = Calls t c a p q × (seat_now (what q.1) ≡ resting after) × ((l : L) × (n : ℕ) × (next_of (t p.0.value) c l h n ≡ Answers (with_value a None) after) × Finds s n)
+
+  -- the step of this call at this point found this number, which is in bounds, and so the call goes on so
+  abbrev pub GoesBy : C → L → Option Hold → ℕ → Next L (Answer (Unit {0})) → Opening V → Type 0
+  GoesBy c l h n next key = (filled None next ≡ next_of (t key.value) c l h n) × Finds s n
+
+  -- from p to q the party has begun this call, and made steps of it, after which the call goes on so
+  abbrev pub Comes : C → Option Hold → Next L (Answer (Unit {0})) → Spot V C L → Spot V C L → Type 0
+  Comes c h next p q = elim next [ Continue l ↦ IsIn (model_at t) c p q × (what q.1 ≡ Some (Calling c l h)) | Answers a after ↦ Ended c h a after p q ]
+
+  -- at q the party is in this call, which it began at p, or has not begun it
+  abbrev pub Under : C → Spot V C L → Spot V C L → Type 0
+  Under c p q = (IsIn (model_at t) c p q × (has_begun (what q.1) ≡ true)) ⊎ ((q ≡ p) × (has_begun (what q.1) ≡ false))
+
+  -- the first step of this call has this answer, for some word that is in bounds; the party holds the same
+  abbrev pub Tells : C → Option Hold → Answer (Unit {0}) → Opening V → Type 0
+  Tells c h a key = (n : ℕ) × (next_of (t key.value) c ((t key.value).start c h) h n ≡ Answers (with_value a None) h) × Finds s n
+
+module _ {W V C L : Type 0} (t : V → Table W V C L (Answer V)) where
+  -- the party's call goes on, after a step at this point that found this number
+  abbrev pub GoesOn : C → L → Option Hold → ℕ → Opening V → Option (Seat C L) → Type 0
+  GoesOn c l h n key view = (k : L) × (next_of (t key.value) c l h n ≡ Continue k) × (view ≡ Some (Calling c k h))
+
+  -- each answer of the call is this one, after which its party holds `after`
+  abbrev pub IsAnsweredBy : C → Option Hold → Answer (Unit {0}) → Option Hold → Opening V → Type 0
+  IsAnsweredBy c h a after key = (l : L) (n : ℕ) (b : Answer V) (k : Option Hold) → next_of (t key.value) c l h n ≡ Answers b k → (b ≡ with_value a None) × (k ≡ after)
+
+  -- each answer of the call either gets this hold, or is a refusal
+  abbrev pub IsTry : C → Option Hold → Option Hold → Opening V → Type 0
+  IsTry c h after key = (l : L) (n : ℕ) (b : Answer V) (k : Option Hold) → next_of (t key.value) c l h n ≡ Answers b k
+      → (is_granted b ≡ true → (b ≡ Granted) × (k ≡ after)) × (is_granted b ≡ false → (b ≡ Refused) × (k ≡ h))
+
+  -- the first step of the call answers it so
+  abbrev pub IsAnsweredAtOnce : C → Option Hold → Answer (Unit {0}) → Option Hold → Opening V → Type 0
+  IsAnsweredAtOnce c h a after key = (n : ℕ) → next_of (t key.value) c ((t key.value).start c h) h n ≡ Answers (with_value a None) after
+
+  -- the first step of the call answers it
+  abbrev pub IsAnswered : C → Option Hold → Opening V → Type 0
+  IsAnswered c h key = (n : ℕ) (l : L) → next_of (t key.value) c ((t key.value).start c h) h n ≡ Continue l → ⊥
+
+  -- the first step of the call answers it, and its party holds the same as before
+  abbrev pub IsLook : C → Option Hold → Opening V → Type 0
+  IsLook c h key = (n : ℕ) → AnswersWith h (next_of (t key.value) c ((t key.value).start c h) h n)
+
+  -- the first step of the call answers it with `Done`, and its party then holds nothing
+  abbrev pub Frees : C → Hold → Opening V → Type 0
+  Frees c h key = (n : ℕ) → next_of (t key.value) c ((t key.value).start c (Some h)) (Some h) n ≡ Answers Done None
+
+-- From p to q the party has begun this call and made steps of it. The last of them, at this point, found this number, and the call goes on.
+abbrev pub Waits : {W V C L : Type 0} → (V → Table W V C L (Answer V)) → Meaning C L → C → L → Option Hold → ℕ → Spot V C L → Spot V C L → Type 0
+Waits t s c l h n p q = Knows s q × GoesOn t c l h n q.0 (what q.1) × Under t s c p q

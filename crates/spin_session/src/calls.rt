@@ -1,0 +1,488 @@
+//! The calls of a session: each is made by the steps of the lock's table. Begin with [`wait_for`].
+ghost use Rattle.std.specs.Prelude.{◌≡◌, true, None, Some, Option, IfOk, IfErr, length};
+ghost use Rattle.spin_core.specs.Cell.{writes, Moved, Keeps};
+ghost use Rattle.spin_core.specs.Own.{what};
+ghost use Rattle.spin_core.specs.Passes.{IsOut, mark_of};
+ghost use Rattle.spin_core.specs.Spots.{Releases};
+ghost use Rattle.spin_core.specs.Traced.{Found, MayKnow, Named, Watches};
+ghost use Rattle.spin_step.specs.Schedules.{may_write};
+ghost use Rattle.spin_step.specs.declared.place.Seat.{Seat};
+ghost use Rattle.spin_step.specs.declared.place.Seat.TheVariants.{Idle, Holding};
+ghost use Rattle.spin_step.specs.declared.answer.Answer.{Answer as AnAnswer};
+ghost use Rattle.spin_step.specs.declared.answer.Answer.TheVariants.{Granted, Refused, Done};
+ghost use Rattle.spin_step.specs.declared.place.Hold.{Hold as AHold};
+ghost use Rattle.spin_session.specs.Meaning.{Finds, seat_after, use_at, model_at};
+ghost use Rattle.spin_session.specs.Operating.{Operates};
+ghost use Rattle.spin_session.specs.Turns.{TurnTold, SeesLast, Frees, IsAt, Knows, Quiet, StaysQuiet, Stands, MayBegin, Ended, Comes, GoesBy, GoesOn, Waits, Under, IsAnsweredBy, IsAnswered, IsAnsweredAtOnce, IsTry, IsLook, Tells, Calls, Spot, spot, is_granted};
+
+use crate::session::Session;
+use crate::table::{CallOf, Entry, Party, Runs, Turn};
+use spin_core::cell::{Permit, WritePermit};
+use spin_core::relax::{MAX_HINTS, RelaxStrategy, Strategy};
+use spin_core::trace::Watch;
+use spin_step::{Answer, Hold, Next, Operation, Steps};
+use std::marker::Brand;
+use std::sync::Wait;
+
+/// A session of a lock whose cell runs the table of `P`.
+pub type SessionOf<'a, T, P> = Session<
+    'a,
+    T,
+    Party<<P as Runs<T>>::Call, <P as Runs<T>>::Point>,
+    Entry<<P as Runs<T>>::Call, T>,
+    P,
+>;
+
+/// Makes a call that waits, and is always answered so. It pauses before each round but the first. A round is one step,
+/// and after a load also the step that the load found possible.
+///
+/// # Contract
+/// The party has made exactly this call, with this answer, and holds `after`. Whether and when the call returns is not
+/// promised.
+pub fn wait_for<'a, T, P: Runs<T>, R: RelaxStrategy, W: Wait>(
+    session: SessionOf<'a, T, P>,
+    call: P::Call,
+    holds: Option<Hold>,
+    answer: Answer<()>,
+    after: Option<Hold>,
+    strategy: Strategy<R>,
+    rt: &W,
+) -> SessionOf<'a, T, P>
+    requires stands { Stands holds session }
+    requires may { MayBegin (P.Table.table P.its) P.meaning call holds session.permit.key }
+    requires answers { IsAnsweredBy (P.Table.table P.its) call holds answer after session.permit.key }
+    ensures stands { Stands after result }
+    ensures calls { Calls (P.Table.table P.its) call answer (spot session.entry) (spot result) }
+    ensures last { SeesLast result }
+{
+    let _ = (answer, after, strategy);
+    let point = point_of(&session, call, holds);
+    let (next, point, found, session) = round(session, call, point, holds);
+    match next {
+        Next::Answers(_, _) => session,
+        Next::Continue(_) => wait::<T, P, R, W>(session, call, point, holds, found, rt),
+    }
+}
+
+/// Makes the first round of a call that waits, and is always answered so. This function does not wait: a caller whose
+/// path for a free lock has to be short calls it, and [`go_on`] if it returns `Err`.
+///
+/// # Contract
+/// With `Ok` the party has made exactly this call, with this answer, and holds `after`. With `Err` it waits in the call.
+#[inline(always)]
+pub fn begin<'a, T, P: Runs<T>>(
+    session: SessionOf<'a, T, P>,
+    call: P::Call,
+    holds: Option<Hold>,
+    answer: Answer<()>,
+    after: Option<Hold>,
+) -> Result<SessionOf<'a, T, P>, (P::Point, u64, SessionOf<'a, T, P>)>
+    requires stands { Stands holds session }
+    requires may { MayBegin (P.Table.table P.its) P.meaning call holds session.permit.key }
+    requires answers { IsAnsweredBy (P.Table.table P.its) call holds answer after session.permit.key }
+    ensures ended { IfOk result (λ now. Stands after now × SeesLast now × Calls (P.Table.table P.its) call answer (spot session.entry) (spot now)) }
+    ensures waits { IfErr result (λ on. Waits (P.Table.table P.its) P.meaning call on.0 holds on.1 (spot session.entry) (spot on.2)) }
+{
+    let _ = (answer, after);
+    let point = point_of(&session, call, holds);
+    let (next, point, found, session) = round(session, call, point, holds);
+    match next {
+        Next::Answers(_, _) => Ok(session),
+        Next::Continue(_) => Err((point, found, session)),
+    }
+}
+
+/// Goes on with a call that waits, and is always answered so, from where [`begin`] left it.
+///
+/// # Contract
+/// The party has made exactly this call, with this answer, and holds `after`. Whether and when the call returns is not
+/// promised.
+#[inline(always)]
+pub fn go_on<'a, T, P: Runs<T>, R: RelaxStrategy, W: Wait>(
+    on: (P::Point, u64, SessionOf<'a, T, P>),
+    call: P::Call,
+    holds: Option<Hold>,
+    answer: Answer<()>,
+    after: Option<Hold>,
+    strategy: Strategy<R>,
+    rt: &W,
+) -> SessionOf<'a, T, P>
+    requires knows { Knows P.meaning (spot on.2) }
+    requires goes { GoesOn (P.Table.table P.its) call on.0 holds on.1 on.2.permit.key (what on.2.permit.view) }
+    requires quiet { StaysQuiet P.meaning call holds }
+    ensures calls { (p : Spot T P.Call P.Point) → Waits (P.Table.table P.its) P.meaning call on.entry.0 holds on.entry.1 p (spot on.entry.2) → IsAnsweredBy (P.Table.table P.its) call holds answer after p.0 → Stands after result × Calls (P.Table.table P.its) call answer p (spot result) }
+    ensures last { SeesLast result }
+{
+    let _ = (answer, after, strategy);
+    let (point, found, session) = on;
+    wait::<T, P, R, W>(session, call, point, holds, found, rt)
+}
+
+/// Makes a call that either gets a hold or is refused, in as many steps as it needs.
+///
+/// # Contract
+/// The party has made exactly this call. If the call was granted it holds `after`, else it holds what it held before.
+/// Whether and when the call returns is not promised.
+pub fn try_for<'a, T, P: Runs<T>, W: Wait>(
+    session: SessionOf<'a, T, P>,
+    call: P::Call,
+    holds: Option<Hold>,
+    after: Option<Hold>,
+    rt: &W,
+) -> Result<SessionOf<'a, T, P>, SessionOf<'a, T, P>>
+    requires stands { Stands holds session }
+    requires may { MayBegin (P.Table.table P.its) P.meaning call holds session.permit.key }
+    requires tries { IsTry (P.Table.table P.its) call holds after session.permit.key }
+    ensures granted { IfOk result (λ now. Stands after now × SeesLast now × Calls (P.Table.table P.its) call Granted (spot session.entry) (spot now)) }
+    ensures refused { IfErr result (λ now. Stands holds now × Calls (P.Table.table P.its) call Refused (spot session.entry) (spot now)) }
+{
+    let _ = after;
+    let mut at = point_of(&session, call, holds);
+    let mut party = session;
+    for _ in rt.forever() {
+        let (next, _, further) = step(party, call, at, holds);
+        match next {
+            Next::Answers(answer, _) => {
+                if is_granted(answer) {
+                    return Ok(further);
+                }
+                return Err(further);
+            }
+            Next::Continue(point) => {
+                at = point;
+                party = further;
+            }
+        }
+    }
+    unreachable!()
+}
+
+/// Makes a call that either gets a hold or is refused, in one step.
+///
+/// # Contract
+/// The party has made exactly this call. If the call was granted it holds `after`, else it holds what it held before.
+pub fn attempt<'a, T, P: Runs<T>>(
+    session: SessionOf<'a, T, P>,
+    call: P::Call,
+    holds: Option<Hold>,
+    after: Option<Hold>,
+) -> Result<SessionOf<'a, T, P>, SessionOf<'a, T, P>>
+    requires stands { Stands holds session }
+    requires may { MayBegin (P.Table.table P.its) P.meaning call holds session.permit.key }
+    requires tries { IsTry (P.Table.table P.its) call holds after session.permit.key }
+    requires once { IsAnswered (P.Table.table P.its) call holds session.permit.key }
+    ensures granted { IfOk result (λ now. Stands after now × SeesLast now × Calls (P.Table.table P.its) call Granted (spot session.entry) (spot now)) }
+    ensures refused { IfErr result (λ now. Stands holds now × Calls (P.Table.table P.its) call Refused (spot session.entry) (spot now)) }
+{
+    let _ = after;
+    let point = point_of(&session, call, holds);
+    let (next, _, further) = step(session, call, point, holds);
+    match next {
+        Next::Answers(answer, _) => {
+            if is_granted(answer) {
+                Ok(further)
+            } else {
+                Err(further)
+            }
+        }
+        Next::Continue(_) => unreachable!(),
+    }
+}
+
+/// Makes a call of one step, which is always answered so.
+///
+/// # Contract
+/// The party has made exactly this call, with this answer, and holds `after`.
+pub fn make<'a, T, P: Runs<T>>(
+    session: SessionOf<'a, T, P>,
+    call: P::Call,
+    holds: Option<Hold>,
+    answer: Answer<()>,
+    after: Option<Hold>,
+) -> SessionOf<'a, T, P>
+    requires stands { Stands holds session }
+    requires may { MayBegin (P.Table.table P.its) P.meaning call holds session.permit.key }
+    requires answers { IsAnsweredAtOnce (P.Table.table P.its) call holds answer after session.permit.key }
+    ensures stands { Stands after result }
+    ensures calls { Calls (P.Table.table P.its) call answer (spot session.entry) (spot result) }
+    ensures last { SeesLast result }
+{
+    let _ = (answer, after);
+    let point = point_of(&session, call, holds);
+    let (_, _, session) = step(session, call, point, holds);
+    session
+}
+
+/// Makes a call of one step, which leaves to the party what it holds.
+///
+/// # Contract
+/// The party has made exactly this call, with the returned answer. It is the table's answer for some number that the
+/// word may be (`found`).
+pub fn ask<'a, T, P: Runs<T>>(
+    session: SessionOf<'a, T, P>,
+    call: P::Call,
+    holds: Option<Hold>,
+) -> (Answer<()>, SessionOf<'a, T, P>)
+    requires stands { Stands holds session }
+    requires may { MayBegin (P.Table.table P.its) P.meaning call holds session.permit.key }
+    requires looks { IsLook (P.Table.table P.its) call holds session.permit.key }
+    ensures stands { Stands holds result.1 }
+    ensures calls { Calls (P.Table.table P.its) call result.0 (spot session.entry) (spot result.1) }
+    ensures found { Tells (P.Table.table P.its) P.meaning call holds result.0 session.entry.permit.key }
+{
+    let point = point_of(&session, call, holds);
+    let (next, _, session) = step(session, call, point, holds);
+    match next {
+        Next::Answers(answer, _) => (answer, session),
+        Next::Continue(_) => unreachable!(),
+    }
+}
+
+/// Returns the permit of a party that writes the value, and what the party knows.
+pub fn writer<'a, T, P: Runs<T>>(
+    session: SessionOf<'a, T, P>,
+    holds: Hold,
+) -> (
+    WritePermit<'a, T, Party<P::Call, P::Point>, P>,
+    Watch<Entry<P::Call, T>>,
+)
+    requires stands { Stands (Some holds) session }
+    requires writes { use_at P.meaning (Holding holds) ≡ writes }
+    ensures stands { what (Some result.0.view) ≡ Some (Holding holds) }
+    ensures same { (Some result.0.view ≡ session.entry.permit.view) × (Some result.0.value ≡ session.entry.permit.value) }
+    ensures key { result.0.key ≡ session.entry.permit.key }
+    ensures seen { result.1 ≡ session.entry.seen }
+{
+    let _ = holds;
+    P::laws();
+    let Session { permit, seen } = session;
+    (permit.into_writer(), seen)
+}
+
+/// Makes a call of one step of a holder that writes, which then holds nothing. The holder first writes its value.
+///
+/// # Contract
+/// The party is out (`out`). If it knew the whole history, it has written the value and made exactly this call
+/// (`releases`).
+pub fn free<'a, T, P: Runs<T>>(
+    writer: WritePermit<'a, T, Party<P::Call, P::Point>, P>,
+    seen: Watch<Entry<P::Call, T>>,
+    call: P::Call,
+    holds: Hold,
+) -> SessionOf<'a, T, P>
+    requires knows { MayKnow (P.holds writer.key) (P.ways writer.key) seen }
+    requires alone { (seat : Seat P.Call P.Point) → use_at P.meaning seat ≡ writes → seat ≡ Holding holds }
+    requires begins { (((P.Table.table P.its) writer.key.value).asks call (Some holds)).begins (Some holds) ≡ true }
+    requires held { (may_write holds ≡ true) × (use_at P.meaning (Holding holds) ≡ writes) }
+    requires frees { Frees (P.Table.table P.its) call holds writer.key }
+    ensures out { IsOut Idle (what result.permit.view) }
+    ensures knows { mark_of result.permit.view ≡ length result.seen.entries }
+    ensures key { result.permit.key ≡ writer.entry.key }
+    ensures releases { writer.entry.key.name ≡ seen.name → writer.entry.view.2 ≡ length seen.entries → Releases (model_at (P.Table.table P.its)) (λ o. o) call Done writer.entry.value (writer.entry.key, Some writer.entry.view, seen) (spot result) }
+{
+    P::laws();
+    let permit = writer.into_permit();
+    let table = P::table();
+    let hold = Some(holds);
+    let point = match table.start(call, hold) {
+        Some(point) => point,
+        None => unreachable!(),
+    };
+    let operation = table.operation(call, point, hold);
+    let (_, permit, seen) = operate::<T, P, Brand>(permit, operation, seen, call);
+    Session { permit, seen }
+}
+
+/// Ends the session of a party that is in no call, and holds nothing.
+pub fn finish<T, P: Runs<T>>(session: SessionOf<'_, T, P>)
+    requires { IsOut Idle (what session.permit.view) }
+{
+    P::laws();
+    let Session { permit, seen: _ } = session;
+    permit.leave();
+}
+
+// Returns the point at which the party begins the call.
+fn point_of<'a, T, P: Runs<T>>(
+    session: &SessionOf<'a, T, P>,
+    call: P::Call,
+    holds: Option<Hold>,
+) -> P::Point
+    requires stands { Stands holds session.now }
+    requires may { MayBegin (P.Table.table P.its) P.meaning call holds session.now.permit.key }
+    ensures start { result ≡ ((P.Table.table P.its) session.now.permit.key.value).start call holds }
+    ensures knows { Knows P.meaning (spot session.now) }
+    ensures at { IsAt (P.Table.table P.its) call result holds session.now.permit.key (what session.now.permit.view) }
+    ensures under { Under (P.Table.table P.its) P.meaning call (spot session.now) (spot session.now) }
+{
+    let _ = session;
+    match P::table().start(call, holds) {
+        Some(point) => point,
+        None => unreachable!(),
+    }
+}
+
+// Takes rounds of a call that waits, with pauses that grow, until it is answered. The call's last step was at `point`,
+// and found this number: so a caller whose call is answered at once does not compute how it would go on.
+#[cold]
+#[inline(never)]
+fn wait<'a, T, P: Runs<T>, R: RelaxStrategy, W: Wait>(
+    session: SessionOf<'a, T, P>,
+    call: P::Call,
+    point: P::Point,
+    holds: Option<Hold>,
+    found: u64,
+    rt: &W,
+) -> SessionOf<'a, T, P>
+    requires knows { Knows P.meaning (spot session) }
+    requires goes { GoesOn (P.Table.table P.its) call point holds found session.permit.key (what session.permit.view) }
+    requires quiet { StaysQuiet P.meaning call holds }
+    ensures knows { Knows P.meaning (spot result) }
+    ensures ended { (p : Spot T P.Call P.Point) → Under (P.Table.table P.its) P.meaning call p (spot session.entry) → (a : AnAnswer (Unit {0})) × (after : Option AHold) × Ended (P.Table.table P.its) P.meaning call holds a after p (spot result) }
+    ensures last { SeesLast result }
+{
+    let mut hints = 1;
+    let mut at = point_after::<T, P>(&session, call, point, holds, found);
+    let mut party = session;
+    for _ in rt.forever() {
+        R::pause(rt, hints);
+        let (next, _, _, further) = round(party, call, at, holds);
+        match next {
+            Next::Answers(_, _) => return further,
+            Next::Continue(point) => {
+                at = point;
+                party = further;
+            }
+        }
+        hints = hints.saturating_mul(2).min(MAX_HINTS);
+    }
+    unreachable!()
+}
+
+// Returns the point at which the call goes on, after a step at `point` that found this number.
+fn point_after<T, P: Runs<T>>(
+    session: &SessionOf<'_, T, P>,
+    call: P::Call,
+    point: P::Point,
+    holds: Option<Hold>,
+    found: u64,
+) -> P::Point
+    requires { GoesOn (P.Table.table P.its) call point holds found session.now.permit.key (what session.now.permit.view) }
+    ensures { IsAt (P.Table.table P.its) call result holds session.now.permit.key (what session.now.permit.view) }
+{
+    let _ = session;
+    match P::table().next(call, point, holds, found) {
+        Next::Continue(point) => point,
+        Next::Answers(_, _) => unreachable!(),
+    }
+}
+
+// Makes a step, and after a load also the step that the load found possible. Returns the point of the last step, and
+// the number that it found.
+fn round<'a, T, P: Runs<T>>(
+    session: SessionOf<'a, T, P>,
+    call: P::Call,
+    point: P::Point,
+    holds: Option<Hold>,
+) -> (
+    Next<P::Point, Answer<()>>,
+    P::Point,
+    u64,
+    SessionOf<'a, T, P>,
+)
+    requires knows { Knows P.meaning (spot session) }
+    requires at { IsAt (P.Table.table P.its) call point holds session.permit.key (what session.permit.view) }
+    requires quiet { StaysQuiet P.meaning call holds }
+    ensures knows { Knows P.meaning (spot result.3) }
+    ensures key { result.3.permit.key ≡ session.entry.permit.key }
+    ensures seat { what result.3.permit.view ≡ Some (seat_after call holds result.0) }
+    ensures comes { (p : Spot T P.Call P.Point) → Under (P.Table.table P.its) P.meaning call p (spot session.entry) → Comes (P.Table.table P.its) P.meaning call holds result.0 p (spot result.3) }
+    ensures goes { GoesBy (P.Table.table P.its) P.meaning call result.1 holds result.2 result.0 session.entry.permit.key }
+    ensures last { SeesLast result.3 }
+{
+    let (next, found, session) = step(session, call, point, holds);
+    match next {
+        Next::Answers(answer, after) => (Next::Answers(answer, after), point, found, session),
+        Next::Continue(to) => {
+            let looked = is_load(P::table().operation(call, point, holds));
+            let looks = is_load(P::table().operation(call, to, holds));
+            if looked && !looks {
+                let (next, found, session) = step(session, call, to, holds);
+                (next, to, found, session)
+            } else {
+                (Next::Continue(to), point, found, session)
+            }
+        }
+    }
+}
+
+fn is_granted(answer: Answer<()>) -> bool
+    ensures { result ≡ is_granted answer }
+{
+    matches!(answer, Answer::Granted)
+}
+
+fn is_load(operation: Operation) -> bool {
+    matches!(operation, Operation::Load)
+}
+
+// Makes the step of the call at `point`, or begins the call there. Returns the number found, too.
+fn step<'a, T, P: Runs<T>>(
+    session: SessionOf<'a, T, P>,
+    call: P::Call,
+    point: P::Point,
+    holds: Option<Hold>,
+) -> (Next<P::Point, Answer<()>>, u64, SessionOf<'a, T, P>)
+    requires knows { Knows P.meaning (spot session) }
+    requires at { IsAt (P.Table.table P.its) call point holds session.permit.key (what session.permit.view) }
+    requires quiet { StaysQuiet P.meaning call holds }
+    ensures knows { Knows P.meaning (spot result.2) }
+    ensures key { result.2.permit.key ≡ session.entry.permit.key }
+    ensures seat { what result.2.permit.view ≡ Some (seat_after call holds result.0) }
+    ensures comes { (p : Spot T P.Call P.Point) → Under (P.Table.table P.its) P.meaning call p (spot session.entry) → Comes (P.Table.table P.its) P.meaning call holds result.0 p (spot result.2) }
+    ensures goes { GoesBy (P.Table.table P.its) P.meaning call point holds result.1 result.0 session.entry.permit.key }
+    ensures last { SeesLast result.2 }
+{
+    P::laws();
+    let table = P::table();
+    let operation = table.operation(call, point, holds);
+    let Session { permit, seen } = session;
+    let (found, permit, seen) = operate::<T, P, Brand>(permit, operation, seen, call);
+    (
+        table.next(call, point, holds, found),
+        found,
+        Session { permit, seen },
+    )
+}
+
+// Makes one operation of the call. Returns the number found; a store finds 0.
+fn operate<'a, T, P: Runs<T>, K: CallOf<P::Call>>(
+    permit: Permit<'a, T, Party<P::Call, P::Point>, P>,
+    operation: Operation,
+    seen: Watch<Entry<P::Call, T>>,
+    call: P::Call,
+) -> (
+    u64,
+    Permit<'a, T, Party<P::Call, P::Point>, P>,
+    Watch<Entry<P::Call, T>>,
+)
+    requires knows { MayKnow (P.holds permit.key) (P.ways permit.key) seen }
+    requires keeps { Operates (P.holds permit.key) (P.ways permit.key) permit.view permit.value operation (TurnTold (P.Table.table P.its) (Finds P.meaning) K.gives K.call permit.key permit.view) }
+    ensures moved { Moved (Watches (Named (P.holds permit.entry.key) (P.ways permit.entry.key) seen.name) seen result.2 (TurnTold (P.Table.table P.its) (Finds P.meaning) K.gives K.call permit.entry.key permit.entry.view) result.0) result.1.view }
+    ensures kept { Keeps (P.ways permit.entry.key) permit.entry.view result.1.view permit.entry.value result.1.value }
+    ensures found { Found (P.ways permit.entry.key) permit.entry.view result.1.view permit.entry.value result.1.value result.2 }
+    ensures key { result.1.key ≡ permit.entry.key }
+{
+    let _ = call;
+    match operation {
+        Operation::Load => permit.load::<Turn<P, K>>(seen),
+        Operation::Exchange(old, new) => permit.exchange::<Turn<P, K>>(old, new, seen),
+        Operation::Store(to) => {
+            let (permit, seen) = permit.store::<Turn<P, K>>(to, seen);
+            (0, permit, seen)
+        }
+        Operation::Add(by) => permit.add::<Turn<P, K>>(by, seen),
+        Operation::Subtract(by) => permit.subtract::<Turn<P, K>>(by, seen),
+        Operation::SetLowestBit => permit.set_bits::<Turn<P, K>>(1, seen),
+    }
+}

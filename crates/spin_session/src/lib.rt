@@ -1,0 +1,6 @@
+//! Sessions: parties of a lock that run the lock's table.
+#![tactic(auto)]
+
+pub mod calls;
+pub mod session;
+pub mod table;

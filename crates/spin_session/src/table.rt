@@ -1,0 +1,71 @@
+//! The rule of a cell that runs a lock's table. Begin with [`Runs`].
+ghost use Rattle.std.specs.Prelude.{◌≡◌, Bool, false, None, Option};
+ghost use Rattle.spin_session.specs.Meaning.{Finds, Meaning};
+ghost use Rattle.spin_session.specs.Operating.{Executes};
+ghost use Rattle.spin_session.specs.Turns.{TurnTold};
+
+use spin_core::cell::{Play, Rule};
+use spin_core::tie::{self, Opening};
+use spin_core::trace::Trace;
+use spin_step::{Seat, Steps};
+use std::marker::{Brand, PhantomData};
+
+/// A party: its seat in the model, with its number and its mark.
+pub type Party<C, L> = tie::Numbered<Seat<C, L>>;
+
+/// An entry of the trace.
+pub type Entry<C, T> = tie::Entry<C, T>;
+
+/// The rule of a cell that runs a table.
+pub trait Runs<T>: Rule<
+    T,
+    Party<Self::Call, Self::Point>,
+    Key = Opening<T>,
+    Second = Trace<Entry<Self::Call, T>>,
+> {
+    type Call: Copy;
+
+    type Point: Copy;
+
+    type Table: Steps<T, Self::Call, Self::Point>;
+
+    ghost its: { Self.Table };
+
+    // What the word and the points of the table are in the plain lock.
+    ghost meaning: { Meaning Self.Call Self.Point };
+
+    /// Returns the table.
+    fn table() -> Self::Table
+        ensures { result ≡ its };
+
+    /// States that the cell runs the table.
+    fn laws()
+        ensures { Executes (Self.Table.table its) meaning Self.holds Self.ways };
+}
+
+/// A call of type `C`. The proof of a step picks it.
+pub trait CallOf<C> {
+    ghost call: { Option C };
+
+    // Whether the party first writes its value, which it then no longer writes.
+    ghost gives: { Bool };
+}
+
+impl<C> CallOf<C> for Brand {
+    ghost call = { None };
+
+    ghost gives = { false };
+}
+
+/// The next step of the party's call. A party in no call begins the call `K`.
+pub struct Turn<P, K> {
+    marker: PhantomData<(P, K)>,
+}
+
+impl<T, P: Runs<T>, K: CallOf<P::Call>> Play<
+    Opening<T>,
+    Party<P::Call, P::Point>,
+    Entry<P::Call, T>,
+> for Turn<P, K> {
+    ghost told = { λ key old new before. TurnTold (P.Table.table P.its) (Finds P.meaning) K.gives K.call key before };
+}
