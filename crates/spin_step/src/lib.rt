@@ -30,7 +30,7 @@ pub mod ticket;
 mod ticket_calls;
 
 pub use answer::Answer;
-pub use flag_calls::{FlagCall, FlagPoint};
+pub use flag_calls::{FlagCall, FlagPoint, FlagTable};
 pub use once_calls::{OnceCall, OncePoint};
 pub use place::{Hold, Place, Seat};
 pub use schedule::{Event, Move, Outcome};
