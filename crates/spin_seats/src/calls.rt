@@ -1,6 +1,10 @@
-//! The calls of a lock of seats in the model, and the points between their steps. Begin with [`SeatsCall`].
+//! The calls of a lock of seats, the points between their steps, and the lock's table. Begin with [`SeatsCall`] and
+//! [`SeatsTable`].
 ghost use Rattle.std.specs.Prelude.{◌≡◌, ⊤};
+ghost use Rattle.spin_seats.specs.Table.{seats_table};
 
+use crate::steps;
+use spin_step::{Answer, Hold, Next, Operation, Steps};
 use std::alloc::AllocError;
 
 /// A call of the lock in the model.
@@ -42,5 +46,65 @@ impl Clone for SeatsPoint {
 
     fn clone(&self) -> Result<SeatsPoint, AllocError> {
         Ok(*self)
+    }
+}
+
+/// The table of a lock of `seats` seats.
+///
+/// # Contract
+/// It is `seats_table`.
+#[derive(Clone, Copy)]
+pub struct SeatsTable {
+    pub seats: usize,
+}
+
+impl Steps<(), SeatsCall, SeatsPoint> for SeatsTable {
+    type Words = usize;
+
+    ghost table = { λ it value. seats_table it.seats };
+
+    fn start(&self, call: SeatsCall, holds: Option<Hold>) -> Option<SeatsPoint> {
+        match (call, holds) {
+            (SeatsCall::TryEnter | SeatsCall::Enter | SeatsCall::Count, None)
+            | (SeatsCall::Leave, Some(Hold::Read)) => Some(SeatsPoint::First),
+            _ => None,
+        }
+    }
+
+    fn operation(&self, call: SeatsCall, point: SeatsPoint, holds: Option<Hold>) -> Operation {
+        let _ = holds;
+        match (call, point) {
+            (SeatsCall::TryEnter | SeatsCall::Enter, SeatsPoint::Exchange(word)) => {
+                let next = steps::enter(word, self.seats).unwrap_or(word);
+                Operation::Exchange(word as u64, next as u64)
+            }
+            (SeatsCall::Leave, _) => Operation::Subtract(1),
+            _ => Operation::Load,
+        }
+    }
+
+    fn is_weak(&self, call: SeatsCall, point: SeatsPoint, holds: Option<Hold>) -> bool {
+        let _ = (call, point, holds);
+        false
+    }
+
+    fn next(
+        &self,
+        call: SeatsCall,
+        point: SeatsPoint,
+        holds: Option<Hold>,
+        found: u64,
+    ) -> Next<SeatsPoint, Answer<()>> {
+        let word = found as usize;
+        let is_free = steps::enter(word, self.seats).is_some();
+        let is_found = matches!(point, SeatsPoint::Exchange(known) if known == word);
+        match call {
+            SeatsCall::Count => Next::Answers(Answer::Count(word), holds),
+            SeatsCall::Leave => Next::Answers(Answer::Done, None),
+            _ if is_found && is_free => Next::Answers(Answer::Granted, Some(Hold::Read)),
+            _ if is_free => Next::Continue(SeatsPoint::Exchange(word)),
+            SeatsCall::TryEnter => Next::Answers(Answer::Refused, holds),
+            SeatsCall::Enter => Next::Continue(SeatsPoint::First),
+        }
     }
 }
