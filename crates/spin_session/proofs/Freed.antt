@@ -1,5 +1,5 @@
 -- What the release of a holder tells its party.
-use Rattle.std.proofs.Common.{◌≡◌, ℕ, true, false, Option, Some, None, List, ◌++◌, length, refl, sym, ap, ◌∙◌, subst}
+use Rattle.std.proofs.Common.{◌≡◌, ℕ, true, false, Option, Some, None, length, refl, sym, ap, ◌∙◌, subst}
 use Rattle.spin_core.specs.Cell.{Moved, off, use_of}
 use Rattle.spin_core.specs.Own.{Numbered, what}
 use Rattle.spin_core.specs.Passes.{IsOut, IsCall, WritesSome, mark_of}
@@ -15,7 +15,6 @@ use Rattle.spin_step.specs.declared.answer.Answer.TheVariants.{Done}
 use Rattle.spin_step.specs.declared.place.Hold.{Hold}
 use Rattle.spin_step.specs.declared.place.Seat.{Seat}
 use Rattle.spin_step.specs.declared.place.Seat.TheVariants.{Idle, Holding}
-use Rattle.spin_step.specs.declared.schedule.Outcome.TheVariants.{Answered}
 use Rattle.spin_session.specs.Meaning.{Meaning, use_at, model_at, words_of}
 use Rattle.spin_session.specs.Turns.{Says, Told, Frees, Spot, gives_up, turn_by}
 

@@ -1,17 +1,16 @@
 -- A step of a table keeps the rule of its cell, and is the step of the model.
-use Rattle.std.proofs.Common.{◌≡◌, ℕ, [], ◌∷◌, Bool, true, false, List, Option, Some, None, is_some, unwrap_or, if◌then◌else◌, refl, sym, ap, ◌∙◌, subst, arith, length, inl, inr}
+use Rattle.std.proofs.Common.{◌≡◌, ℕ, [], ◌∷◌, Bool, true, false, List, Option, Some, None, is_some, unwrap_or, refl, sym, ap, ◌∙◌, subst, arith, inl, inr}
 use Rattle.std.specs.List.{list_all}
-use Rattle.spin_step.specs.Plain.{Plain, fresh}
-use Rattle.spin_step.specs.Acts.{Table, Act, step_at, step_by, change_at, operation_by, next_of, number_at, is_section, place_of, machine_of, begin_of}
+use Rattle.spin_step.specs.Plain.{fresh}
+use Rattle.spin_step.specs.Acts.{Table, Act, step_at, step_by, change_at, operation_by, next_of, number_at, is_section, machine_of, begin_of}
 use Rattle.spin_step.specs.Operations.{performed}
-use Rattle.spin_step.specs.Machines.{Machine}
 use Rattle.spin_step.specs.Schedules.{State, Entry, after, resting, goes_on, placed, begun, happens, may_write, written_by}
 use Rattle.spin_step.specs.declared.answer.Answer.{Answer}
 use Rattle.spin_step.specs.declared.place.Hold.{Hold}
 use Rattle.spin_step.specs.declared.place.Seat.{Seat}
 use Rattle.spin_step.specs.declared.place.Seat.TheVariants.{Idle, Calling, Holding}
 use Rattle.spin_step.specs.declared.schedule.Move.TheVariants.{Begin, Step, Write}
-use Rattle.spin_step.specs.declared.schedule.Outcome.TheVariants.{Begun, Answered, GoingOn, Written}
+use Rattle.spin_step.specs.declared.schedule.Outcome.TheVariants.{Begun, Written}
 use Rattle.spin_step.specs.declared.stepped.Next.{Next}
 use Rattle.spin_step.specs.declared.stepped.Next.TheVariants.{Continue, Answers}
 use Rattle.spin_step.specs.declared.stepped.Stepped.{Stepped}
@@ -34,8 +33,8 @@ use Rattle.spin_step.proofs.InOrder.{in_order-kept, in_order-fresh, cap-kept}
 use Rattle.spin_step.specs.Parties.{apply_some}
 use Rattle.spin_core.specs.Values.{left, last, Leaves}
 use Rattle.spin_step.specs.declared.schedule.Move.{Move}
-use Rattle.spin_session.specs.Meaning.{Meaning, way_of, part_of, seat_now, rests_at, seat_after, use_at, words_of, worked, IsWord, Finds, Sound, ComesFrom, Refines}
-use Rattle.spin_session.specs.Turns.{outcome_of, held_now, Says, turn, Quiet, Told, turn_by, turn_from, gives_up, has_begun, IsAtPoint}
+use Rattle.spin_session.specs.Meaning.{Meaning, way_of, part_of, seat_now, rests_at, seat_after, use_at, words_of, worked, IsWord, Finds, ComesFrom, Refines}
+use Rattle.spin_session.specs.Turns.{outcome_of, Says, turn, Quiet, Told, turn_by, gives_up, has_begun, IsAtPoint}
 use Rattle.spin_session.specs.Operating.{Operates}
 use Rattle.spin_step.specs.declared.table.Operation.{Operation}
 use Rattle.spin_step.specs.declared.table.Operation.TheVariants as op

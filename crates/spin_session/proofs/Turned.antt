@@ -1,8 +1,8 @@
 -- What a step of a table tells its party.
-use Rattle.std.proofs.Common.{◌≡◌, ℕ, Bool, true, false, Option, Some, None, List, length, refl, ap, ◌∙◌, subst}
+use Rattle.std.proofs.Common.{◌≡◌, ℕ, false, Option, Some, None, length}
 use Rattle.spin_core.specs.Cell.{Moved}
 use Rattle.spin_core.specs.Own.{Numbered, what}
-use Rattle.spin_core.specs.Passes.{IsStep, mark_of, step_by}
+use Rattle.spin_core.specs.Passes.{IsStep, mark_of}
 use Rattle.spin_core.specs.Traced.{Watches}
 use Rattle.spin_core.specs.declared.trace.Watch.{Watch}
 use Rattle.spin_core.proofs.Passes.{Learnt, learnt}

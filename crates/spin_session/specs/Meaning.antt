@@ -1,5 +1,5 @@
 -- What a lock's table means in the plain lock, and what has to be shown of a table that a cell runs.
-use Rattle.std.specs.Prelude.{◌≡◌, ℕ, ◌+◌, ◌-◌, ◌%◌, ◌^◌, ◌==◌, ◌⊎◌, Bool, true, false, Option, Some, None, is_some, if◌then◌else◌, bit_or, List}
+use Rattle.std.specs.Prelude.{◌≡◌, ℕ, ◌+◌, ◌-◌, ◌%◌, ◌^◌, ◌==◌, ◌⊎◌, Bool, true, false, Option, Some, is_some, if◌then◌else◌, bit_or, List}
 use Rattle.std.specs.Option.{unwrap_or}
 use Rattle.spin_step.specs.Plain.{Plain, fresh}
 use Rattle.spin_step.specs.Parties.{IsOpenStep, apply_some, entries_after}

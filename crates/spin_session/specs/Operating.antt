@@ -1,5 +1,5 @@
 -- What a lock has to show of its cell's rule, so that sessions can run its table.
-use Rattle.std.specs.Prelude.{◌≡◌, ◌≢◌, true, false, Some, None, ℕ, ◌%◌, ◌+◌, ◌-◌, ◌^◌, ◌==◌, List, Option, bit_or}
+use Rattle.std.specs.Prelude.{◌≡◌, ◌≢◌, true, false, Some, ℕ, ◌%◌, ◌+◌, ◌-◌, ◌^◌, ◌==◌, List, Option, bit_or}
 use prog.Atomic.{either}
 use Rattle.std.specs.Option.{IfSome}
 use Rattle.spin_core.specs.Cell.{Ways, off, writes, use_of, Rests, Keeps}

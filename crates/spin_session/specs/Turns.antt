@@ -6,12 +6,12 @@ use Rattle.spin_step.specs.declared.answer.Answer.{Answer}
 use Rattle.spin_step.specs.declared.answer.Answer.TheVariants.{Granted, Refused, Done}
 use Rattle.spin_step.specs.declared.place.Hold.{Hold}
 use Rattle.spin_step.specs.declared.place.Seat.{Seat}
-use Rattle.spin_step.specs.declared.place.Seat.TheVariants.{Idle, Calling, Holding}
+use Rattle.spin_step.specs.declared.place.Seat.TheVariants.{Calling, Holding}
 use Rattle.spin_step.specs.declared.schedule.Outcome.TheVariants.{Answered, GoingOn}
 use Rattle.spin_step.specs.declared.stepped.Next.{Next}
 use Rattle.spin_step.specs.declared.stepped.Next.TheVariants.{Continue, Answers}
 use Rattle.spin_step.specs.Schedules.{Entry, resting}
-use Rattle.spin_core.specs.Cell.{Use, writes, use_of}
+use Rattle.spin_core.specs.Cell.{writes, use_of}
 use Rattle.spin_core.specs.Own as own
 use Rattle.spin_core.specs.Own.{Numbered, what}
 use Rattle.spin_core.specs.Passes as passes
@@ -20,7 +20,6 @@ use Rattle.spin_core.specs.Spots as spots
 use Rattle.spin_core.specs.Spots.{Stepped, HasCalled, IsIn}
 use Rattle.spin_core.specs.Values.{IsLast}
 use Rattle.spin_core.specs.declared.tie.Opening.{Opening}
-use Rattle.spin_core.specs.declared.trace.Watch.{Watch}
 use Rattle.spin_session.specs.Meaning.{Meaning, Finds, use_at, rests_at, seat_now, seat_after, words_of, model_at}
 use Rattle.spin_session.specs.declared.session.Session.{Session}
 

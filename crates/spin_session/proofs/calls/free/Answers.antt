@@ -1,17 +1,17 @@
-use Rattle.std.proofs.Common.{◌≡◌, true, None, Some, sym, ap, ◌∙◌, subst, refl}
+use Rattle.std.proofs.Common.{◌≡◌, true, Some, sym, ap, ◌∙◌, subst}
 use Rattle.spin_core.specs.Own.{what}
-use Rattle.spin_core.specs.Cell.{Moved, off, writes, use_of}
+use Rattle.spin_core.specs.Cell.{off, writes, use_of}
 use Rattle.spin_core.specs.Values.{IsLast}
 use Rattle.std.specs.Option.{IfSome}
 use Rattle.spin_core.specs.Passes.{mark_of}
 use Rattle.spin_core.specs.Spots.{Releases}
-use Rattle.spin_core.specs.Traced.{Watches, Named, MayKnow}
+use Rattle.spin_core.specs.Traced.{Named}
 use Rattle.spin_step.specs.Acts.{operation_by}
 use Rattle.spin_step.specs.declared.answer.Answer.TheVariants.{Done}
-use Rattle.spin_step.specs.declared.place.Seat.TheVariants.{Idle, Holding}
+use Rattle.spin_step.specs.declared.place.Seat.TheVariants.{Holding}
 use Rattle.spin_session.specs.Meaning.{Finds, use_at, model_at}
 use Rattle.spin_session.specs.Operating.{Operates}
-use Rattle.spin_session.specs.Turns.{TurnTold, Spot, Frees, SeesLast}
+use Rattle.spin_session.specs.Turns.{TurnTold, Spot, Frees}
 use Rattle.spin_session.proofs.Course.{starts_at, begins_so}
 use Rattle.spin_session.proofs.Freed.{ends_out, off_out, knows, releases}
 use Rattle.spin_session.proofs.calls.free.Goals as goal

@@ -4,7 +4,7 @@ use Rattle.std.proofs.Common.{◌≡◌, true, None, Some, ap, ◌∙◌, sym, s
 use Rattle.spin_core.specs.Own.{what}
 use Rattle.spin_core.specs.Spots.{Stepped}
 use Rattle.spin_core.specs.Traced.{Named}
-use Rattle.spin_step.specs.Acts.{filled, operation_by}
+use Rattle.spin_step.specs.Acts.{filled, operation_by, next_of}
 use Rattle.spin_session.specs.Meaning.{Finds, rests_at, seat_now, seat_after, model_at}
 use Rattle.spin_session.specs.Turns.{outcome_of, has_begun, Spot, spot}
 use Rattle.spin_session.proofs.Turned.{turned, in_bounds}
