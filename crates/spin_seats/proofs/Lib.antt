@@ -1,3 +1,2 @@
 pub mod Taken
-pub mod Sitting
-pub mod Accounts
+pub mod Seating

@@ -1,5 +1,5 @@
 -- The step functions of seats decide as the plain lock does.
-use Rattle.std.proofs.Common.{◌≡◌, ℕ, ◌-◌, ◌≤◌, Some, arith, nat_lt, length-append}
+use Rattle.std.proofs.Common.{◌≡◌, ℕ, ◌-◌, arith, nat_lt, length-append}
 use Rattle.spin_step.specs.Plain.{Plain, reading, gets, releases, to_read, may_come}
 use Rattle.spin_step.specs.Steps.{Decides, Gives}
 use Rattle.spin_step.proofs.Holders.{length-without_holder}
@@ -15,7 +15,3 @@ enter-grants s p n w all room is = grind (arith, open_is s n w all room is, leng
 
 pub leave-gives : (s : Plain) (p w : ℕ) → seats_word s ≡ w → Gives s (releases p reading) seats_word (w - 1)
 leave-gives s p w is = λ found. omega (arith, is, length-without_holder p reading s.holders found)
-
--- after a party has taken a seat, no more are taken than there are
-pub entered-fits : (n w next : ℕ) → Some next ≡ entered n w → next ≤ seats n
-entered-fits n w next is = grind arith

@@ -1,6 +1,6 @@
 pub mod Seats
 pub mod Kind
 pub mod Table
+pub mod Meaning
 pub mod Rule
-pub mod Accounts
 pub mod Passes

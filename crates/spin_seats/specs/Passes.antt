@@ -1,33 +1,47 @@
--- What a pass knows: the lock's history so far, and which moves of it are the pass's own.
-use Rattle.std.specs.Prelude.{ℕ, List}
+-- What a pass or a guard of a lock of seats knows, and what it has done.
+use Rattle.std.specs.Prelude.{ℕ, Option}
+use Rattle.spin_core.specs.Own.{Numbered}
+use Rattle.spin_core.specs.declared.tie.Opening.{Opening}
+use Rattle.spin_step.specs.declared.answer.Answer.{Answer}
 use Rattle.spin_step.specs.declared.answer.Answer.TheVariants as answer
-use Rattle.spin_seats.specs.Accounts.{Called}
-use Rattle.spin_seats.specs.Rule.{Done}
+use Rattle.spin_session.specs.Turns as session
+use Rattle.spin_session.specs.Turns.{IsNew, Spot}
+pub use Rattle.spin_session.specs.Turns.{history, lock_of}
+use Rattle.spin_seats.specs.Rule.{View, table_of}
+use Rattle.spin_seats.specs.declared.calls.SeatsCall.{SeatsCall}
 use Rattle.spin_seats.specs.declared.calls.SeatsCall.TheVariants as call
+use Rattle.spin_seats.specs.declared.calls.SeatsPoint.{SeatsPoint}
 use Rattle.spin_seats.specs.declared.seats.Seats.{Seats}
-use Rattle.spin_seats.specs.declared.seats.pass.Pass.{Pass}
-use Rattle.spin_seats.specs.declared.seats.rule.Account.{Account}
 
-module _ {n : ℕ} where
-  -- all moves in the lock up to the pass's last step
-  abbrev pub history : Pass n → List Done
-  history pass = pass.account.seen.entries
+-- the lock, its party, and what the party knows of the lock's trace
+abbrev pub SeatsSpot : Type 0
+SeatsSpot = Spot (Unit {0}) SeatsCall SeatsPoint
 
-  -- The name of a lock's history. `name_of` takes it from the lock, and `lock_of` from a pass of the lock.
-  abbrev pub name_of : Seats n → ℕ
-  name_of lock = lock.cell.name
+-- the view of the pass's party, with its number and its mark; a party that has taken no step has none
+abbrev pub party_of : SeatsSpot → Option (Numbered View)
+party_of spot = spot.1
 
-  abbrev pub lock_of : Pass n → ℕ
-  lock_of pass = pass.account.seen.name
+-- The name of a lock's history. `name_of` takes it from the lock, and `lock_of` from a pass of the lock.
+abbrev pub name_of : {n : ℕ} → Seats n → ℕ
+name_of lock = lock.cell.name
+
+module _ (n : ℕ) where
+  -- from `before` to `now` the party has made exactly this call of a lock of n seats, with this answer
+  abbrev pub Calls : SeatsCall → Answer (Unit {0}) → SeatsSpot → SeatsSpot → Type 0
+  Calls = session.Calls (table_of n)
+
+  -- the party of this lock has made exactly this call, its first
+  abbrev pub FirstCall : SeatsCall → Answer (Unit {0}) → Opening (Unit {0}) → SeatsSpot → Type 0
+  FirstCall call answer lock now = (new : SeatsSpot) × IsNew lock new × Calls call answer new now
 
   -- from `before` to `now` the pass has taken a seat and left it, once
-  abbrev pub SatOnce : Pass n → Pass n → Type 0
-  SatOnce before now = (seated : Account n) × Called n call.Enter answer.Granted before.account seated × Called n call.Leave answer.Done seated now.account
+  abbrev pub SatOnce : SeatsSpot → SeatsSpot → Type 0
+  SatOnce before now = (seated : SeatsSpot) × Calls call.Enter answer.Granted before seated × Calls call.Leave answer.Done seated now
 
   -- from `before` to `now` the pass has tried once to take a seat, and failed
-  abbrev pub WasRefused : Pass n → Pass n → Type 0
-  WasRefused before now = Called n call.TryEnter answer.Refused before.account now.account
+  abbrev pub WasRefused : SeatsSpot → SeatsSpot → Type 0
+  WasRefused = Calls call.TryEnter answer.Refused
 
   -- from `before` to `now` the pass has counted the taken seats once, with this answer
-  abbrev pub Counted : ℕ → Pass n → Pass n → Type 0
-  Counted count before now = Called n call.Count (answer.Count count) before.account now.account
+  abbrev pub Counted : ℕ → SeatsSpot → SeatsSpot → Type 0
+  Counted count = Calls call.Count (answer.Count count)

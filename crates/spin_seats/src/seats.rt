@@ -1,20 +1,25 @@
 //! A spinning lock of `N` seats: a counting semaphore. Begin with [`Seats::new`] and [`Seats::enter`].
-ghost use Rattle.std.specs.Prelude.{◌≡◌, ◌≤◌, Some};
-ghost use Rattle.spin_core.specs.Own.{what};
+ghost use Rattle.std.specs.Prelude.{◌≡◌, ◌≤◌, ◌⊎◌, Some, None, IfSome, IfOk, IfErr};
+ghost use mathlib.Core.List.{IsPrefix};
+ghost use Rattle.spin_step.specs.declared.answer.Answer.TheVariants.{Granted, Refused, Count as Counted, Done as Left};
+ghost use Rattle.spin_step.specs.declared.place.Hold.TheVariants.{Read};
+ghost use Rattle.spin_session.specs.Turns.{IsNew, Stands, history, lock_of, spot};
+ghost use Rattle.spin_seats.specs.Passes.{Calls, FirstCall, SeatsSpot};
 ghost use Rattle.spin_seats.specs.Seats.{seats};
-ghost use Rattle.spin_seats.specs.declared.seats.rule.View.TheVariants.{Seated};
+ghost use Rattle.spin_seats.specs.declared.calls.SeatsCall.TheVariants.{TryEnter, Enter, Count, Leave};
 
-use self::rule::{Account, Party, SeatsRule};
+use crate::calls::SeatsCall;
+pub use crate::rule::Entry;
+use crate::rule::{Party, SeatsRule};
 use spin_core::cell::Cell;
+use spin_core::relax::{Spin, Strategy};
+use spin_core::tie::Opening;
 use spin_core::trace::Trace;
+use spin_session::calls::{SessionOf, ask, finish, make, try_for, wait_for};
+use spin_session::session::Session;
+use spin_step::{Answer, Hold};
+use std::marker::Model;
 use std::sync::Wait;
-
-mod account;
-mod pass;
-mod rule;
-
-pub use self::pass::Pass;
-pub use self::rule::{Entry, View};
 
 /// A lock of `N` seats, or of [`MAX_SEATS`](crate::steps::MAX_SEATS) if `N` exceeds that. Each guard takes one seat,
 /// so no more threads have a guard at the same time than there are seats.
@@ -41,18 +46,76 @@ pub struct Seats<const N: usize> {
 /// The guard of a seat of a [`Seats`]. Dropping it frees the seat.
 #[must_use = "dropping the guard at once gives the seat back: bind it, or write `drop(..)`"]
 pub struct SeatGuard<'a, const N: usize> {
-    account: Account<'a, N>,
-    ghost sits: { what account.permit.view ≡ Some Seated },
+    session: SessionOf<'a, (), SeatsRule<N>>,
+}
+
+impl<'a, const N: usize> Model for SeatGuard<'a, N> {
+    ghost Value = { SeatsSpot };
+
+    ghost view = { λ guard. spot guard.session };
+
+    ghost invariant = { λ guard. Stands (Some Read) guard.session };
+}
+
+/// A thread's account of its calls of a [`Seats`].
+///
+/// The lock's cell keeps the list of all moves that threads have made in it: its history. A pass knows the
+/// history up to its own last move, and which moves are its own. A pass is as large as a reference to the
+/// lock, and is `Send`. A lock can have any number of passes.
+///
+/// # Contract
+/// Each call takes the pass, and ensures `Calls`: the history has grown, and among the new moves those of
+/// this pass are exactly one call with the returned answer. The lock's model plays the moves of all threads in the
+/// order of the history. It skips no move, and gives this call the same answer.
+///
+/// # Examples
+/// ```
+/// use spin_seats::seats::Seats;
+///
+/// let seats: Seats<1> = Seats::new();
+/// let guard = seats.pass().enter(&rt);
+/// let other = seats.pass().try_enter(&rt).err().expect(&rt, "it is taken");
+/// let (count, pass) = guard.leave().count();
+/// assert_eq!(rt; count, 0);
+/// assert!(rt; other.try_enter(&rt).is_ok());
+/// drop(pass);
+/// ```
+#[must_use = "a pass that is dropped ends: bind it, or write `drop(..)`"]
+pub struct Pass<'a, const N: usize> {
+    session: SessionOf<'a, (), SeatsRule<N>>,
+}
+
+impl<'a, const N: usize> Model for Pass<'a, N> {
+    ghost Value = { SeatsSpot };
+
+    ghost view = { λ pass. spot pass.session };
+
+    ghost invariant = { λ pass. Stands None pass.session };
 }
 
 impl<const N: usize> Seats<N> {
     /// Creates a lock whose seats are all free.
     pub const fn new() -> Self {
         let trace = Trace::new(());
-        let start = trace.watch();
-        let cell = Cell::new((), 0, trace, &start);
-        start.end();
+        let opening = Opening::of(&trace, &());
+        let cell = Cell::new((), 0, trace, &opening);
+        opening.end();
         Seats { cell }
+    }
+
+    /// Returns a pass that has made no call. It does not touch the lock's word.
+    ///
+    /// # Contract
+    /// The pass is of this lock, and knows nothing of the lock's history yet (`new`).
+    pub fn pass(&self) -> Pass<'_, N>
+        ensures new { IsNew self.now.cell result }
+    {
+        Pass {
+            session: Session {
+                permit: self.cell.enter(),
+                seen: self.cell.watch(),
+            },
+        }
     }
 
     /// Returns how many seats were taken at some moment during this call. By the time the caller reads the answer it
@@ -71,11 +134,13 @@ impl<const N: usize> Seats<N> {
     /// It retries as long as other threads change the word and a seat is free.
     ///
     /// # Contract
-    /// Whether and when the call returns is not promised.
+    /// The guard's party has made one call `TryEnter`, its first, with the answer `Granted`. Whether and when the call
+    /// returns is not promised.
     #[must_use = "dropping the guard at once gives the seat back: bind the answer, or write `drop(..)`"]
-    pub fn try_enter<W: Wait>(&self, rt: &W) -> Option<SeatGuard<'_, N>> {
-        // It does not call `Pass::try_enter`: one more call that may wait costs time.
-        match self.pass().try_come().take(rt) {
+    pub fn try_enter<W: Wait>(&self, rt: &W) -> Option<SeatGuard<'_, N>>
+        ensures { IfSome result (FirstCall N TryEnter Granted self.now.cell) }
+    {
+        match self.pass().try_enter(rt) {
             Ok(guard) => Some(guard),
             Err(_pass) => None,
         }
@@ -85,12 +150,98 @@ impl<const N: usize> Seats<N> {
     /// each time longer, up to a limit.
     ///
     /// # Contract
+    /// The guard's party has made one call `Enter`, its first, with the answer `Granted`. Whether and when the call
+    /// returns is not promised.
+    pub fn enter<W: Wait>(&self, rt: &W) -> SeatGuard<'_, N>
+        ensures { FirstCall N Enter Granted self.now.cell result }
+    {
+        self.pass().enter(rt)
+    }
+}
+
+impl<'a, const N: usize> Pass<'a, N> {
+    /// Takes a seat as [`Seats::enter`] does.
+    ///
+    /// # Contract
+    /// The pass has made one call `Enter` with the answer `Granted`, however often it looked and tried.
     /// Whether and when the call returns is not promised.
-    pub fn enter<W: Wait>(&self, rt: &W) -> SeatGuard<'_, N> {
-        // It does not call `Pass::enter`: one more call that may wait costs time.
-        match self.pass().come() {
-            Ok(guard) => guard,
-            Err(entering) => entering.wait(rt),
+    #[tactic(auto, using(crate::proofs::Seating::enter_answers))]
+    pub fn enter<W: Wait>(self, rt: &W) -> SeatGuard<'a, N>
+        ensures { Calls N Enter Granted self.entry result }
+    {
+        let Self { session } = self;
+        let by = Strategy::<Spin>::named();
+        let read = Some(Hold::Read);
+        SeatGuard {
+            session: wait_for(
+                session,
+                SeatsCall::Enter,
+                None,
+                Answer::Granted,
+                read,
+                by,
+                rt,
+            ),
+        }
+    }
+
+    /// Tries to take a seat as [`Seats::try_enter`] does. Returns the pass if all seats are taken.
+    ///
+    /// # Contract
+    /// The pass has made one call `TryEnter`. With a guard its answer is `Granted` (`granted`), otherwise
+    /// `Refused` (`refused`). Whether and when the call returns is not promised.
+    #[tactic(auto, using(crate::proofs::Seating::try_answers))]
+    pub fn try_enter<W: Wait>(self, rt: &W) -> Result<SeatGuard<'a, N>, Pass<'a, N>>
+        ensures granted { IfOk result (λ guard. Calls N TryEnter Granted self.entry guard) }
+        ensures refused { IfErr result (λ pass. Calls N TryEnter Refused self.entry pass) }
+    {
+        let Self { session } = self;
+        match try_for(session, SeatsCall::TryEnter, None, Some(Hold::Read), rt) {
+            Ok(session) => Ok(SeatGuard { session }),
+            Err(session) => Err(Pass { session }),
+        }
+    }
+
+    /// Returns how many seats were taken at some moment during this call, as [`Seats::count`] does.
+    ///
+    /// # Contract
+    /// The pass has made one call `Count`, with the returned answer (`made`).
+    pub fn count(self) -> (usize, Pass<'a, N>)
+        ensures made { Calls N Count (Counted result.0) self.entry result.1 }
+        ensures few { result.0 ≤ seats N }
+    {
+        let Self { session } = self;
+        match ask(session, SeatsCall::Count, None) {
+            (Answer::Count(taken), session) => (taken, Pass { session }),
+            _ => unreachable!(),
+        }
+    }
+
+    /// Compares what two passes of one lock know. It does nothing at run time.
+    ///
+    /// # Contract
+    /// The history that one of the passes knows is a prefix of the history that the other knows.
+    pub fn compare(&self, other: &Pass<'_, N>)
+        requires { lock_of self.now ≡ lock_of other.now }
+        ensures { IsPrefix (history self.now) (history other.now) ⊎ IsPrefix (history other.now) (history self.now) }
+    {
+        self.session.seen.compare(&other.session.seen);
+    }
+}
+
+impl<'a, const N: usize> SeatGuard<'a, N> {
+    /// Frees the seat, and returns the pass that took it. Dropping the guard frees the seat too, but ends the
+    /// pass.
+    ///
+    /// # Contract
+    /// The pass has made one call `Leave`.
+    pub fn leave(self) -> Pass<'a, N>
+        ensures { Calls N Leave Left self.entry result }
+    {
+        let Self { session } = self;
+        let read = Some(Hold::Read);
+        Pass {
+            session: make(session, SeatsCall::Leave, read, Answer::Done, None),
         }
     }
 }
@@ -105,5 +256,12 @@ impl<const N: usize> Default for Seats<N> {
 impl<const N: usize> Drop for SeatGuard<'_, N> {
     fn drop(self) {
         drop(self.leave());
+    }
+}
+
+impl<const N: usize> Drop for Pass<'_, N> {
+    fn drop(self) {
+        let Self { session } = self;
+        finish(session);
     }
 }

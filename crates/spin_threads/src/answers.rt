@@ -18,11 +18,10 @@ ghost use Rattle.spin_step.specs.declared.once_calls.OnceCall.TheVariants as onc
 ghost use Rattle.spin_step.specs.declared.ticket_calls.TicketCall.TheVariants as ticket;
 ghost use Rattle.spin_rwlock.specs.Rw as rwlock;
 ghost use Rattle.spin_rwlock.specs.declared.rwlock.rule.View.{View as RwLockView};
-ghost use Rattle.spin_seats.specs.Passes.{history, Counted, WasRefused};
+ghost use Rattle.spin_seats.specs.Passes.{history, party_of, Counted, SeatsSpot, WasRefused};
 ghost use Rattle.spin_seats.specs.Rule as seats;
 ghost use Rattle.spin_seats.specs.Seats.{seats as as_many_as_seats};
 ghost use Rattle.spin_seats.specs.declared.calls.SeatsCall.TheVariants as call;
-ghost use Rattle.spin_seats.specs.declared.seats.pass.Pass.{Pass as SeatsPass};
 ghost use Rattle.spin_step.specs.Parties.{is_held};
 ghost use Rattle.spin_step.specs.Plain.{asking, count_kind, is_nothing, upgraders};
 ghost use Rattle.spin_step_more.specs.Readers.{reader_limit};
@@ -178,8 +177,8 @@ pub fn a_count_of_a_rwlock_was_so_at_a_moment<T>()
 /// `AtAMoment`: at a moment of the call the plain lock had as many readers as the answer says. A party with a seat
 /// reads.
 pub fn a_count_of_seats_was_so_at_a_moment()
-    ensures { (n count : ℕ) (before now : SeatsPass n) → Counted count before now →
-        AtAMoment (seats.model n) call.Count now.account.permit.view (history before) (history now)
+    ensures { (n count : ℕ) (before now : SeatsSpot) → Counted n count before now →
+        AtAMoment (seats.model n) call.Count (party_of now) (history before) (history now)
         (Was readers count) }
 {}
 
@@ -188,8 +187,8 @@ pub fn a_count_of_seats_was_so_at_a_moment()
 /// # Contract
 /// `AtAMoment`: at a moment of the call the plain lock had as many holders as there are seats.
 pub fn a_refused_try_found_all_seats_taken()
-    ensures { (n : ℕ) (before now : SeatsPass n) → WasRefused before now →
-        AtAMoment (seats.model n) call.TryEnter now.account.permit.view (history before) (history now) (λ s.
+    ensures { (n : ℕ) (before now : SeatsSpot) → WasRefused n before now →
+        AtAMoment (seats.model n) call.TryEnter (party_of now) (history before) (history now) (λ s.
         length s.holders ≡ as_many_as_seats n) }
 {}
 

@@ -19,7 +19,6 @@ ghost use Rattle.spin_once.specs.declared.once_core.rule.View.{View as OnceView}
 ghost use Rattle.spin_rwlock.specs.Rw as rwlock;
 ghost use Rattle.spin_rwlock.specs.declared.rwlock.rule.View.{View as RwLockView};
 ghost use Rattle.spin_seats.specs.Rule as seats;
-ghost use Rattle.spin_seats.specs.declared.seats.rule.View.{View as SeatsView};
 ghost use Rattle.spin_ticket.specs.Queue as ticket_mutex;
 ghost use Rattle.spin_ticket.specs.declared.ticket.rule.View.{View as TicketMutexView};
 ghost use Rattle.spin_threads.specs.Between.{Between};
@@ -54,12 +53,12 @@ pub fn between_any_two_steps_of_a_fair_mutex<T>()
 {}
 
 /// Between any two steps of the threads that use a `Seats`, the lock's word is the number of parties that have a seat.
-/// Each party holds or waits in the plain lock as its view says.
+/// Each party holds or waits in the plain lock as its seat in the model says.
 ///
 /// # Contract
 /// `Between` says this of the word and the parties of the lock's cell, after the moves in the cell's trace.
 pub fn between_any_two_steps_of_seats()
-    ensures { (n name word : ℕ) (trace : Trace seats.Done (Unit {0})) (parties : List (Numbered SeatsView)) → seats.IsSeats n name word trace parties → Between (seats.model n) seats.seat_of seats.words_of trace.entries (word, trace.word) parties }
+    ensures { (n word : ℕ) (opening : Opening (Unit {0})) (trace : Trace seats.Done (Unit {0})) (parties : List (Numbered seats.View)) → seats.IsSeats n opening word trace parties → Between (seats.model n) (λ seat. seat) seats.words_of trace.entries (word, trace.word) parties }
 {}
 
 /// Between any two steps of the threads that use an `RwLock`, the lock's word encodes exactly its holders. A writer

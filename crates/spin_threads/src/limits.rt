@@ -18,7 +18,6 @@ ghost use Rattle.spin_step_more.specs.declared.rw_calls.RwCall.TheVariants.{Upgr
 ghost use Rattle.spin_rwlock.specs.Rw as rwlock;
 ghost use Rattle.spin_rwlock.specs.declared.rwlock.rule.View.{View as RwLockView};
 ghost use Rattle.spin_seats.specs.Rule as seats;
-ghost use Rattle.spin_seats.specs.declared.seats.rule.View.{View as SeatsView};
 ghost use Rattle.spin_ticket.specs.Queue as ticket_mutex;
 ghost use Rattle.spin_ticket.specs.declared.ticket.rule.View.{View as TicketMutexView};
 ghost use Rattle.spin_threads.specs.Counts.{KeepsLimits, StepsOfCall, TakesTicketWithin, HasChanged};
@@ -65,7 +64,7 @@ pub fn a_call_of_a_rwlock_keeps_its_limit<T>()
 /// # Contract
 /// `KeepsLimits` says that each call of a pass keeps its limit.
 pub fn a_call_of_seats_keeps_its_limit()
-    ensures { (n : ℕ) → KeepsLimits (seats.model n) SeatsView }
+    ensures { (n : ℕ) → KeepsLimits (seats.model n) seats.View }
 {}
 
 /// A `lock` of a pass of a `TicketMutex` has its ticket after at most two steps, and one more for each change of the

@@ -10,7 +10,7 @@ use std::thread::{Threads, join};
 
 // Takes a seat and leaves it, once.
 fn visit<'a, W: Wait>(rt: &W, pass: Pass<'a, 2>) -> Pass<'a, 2>
-    ensures sat { SatOnce pass.entry result }
+    ensures sat { SatOnce 2 pass.entry result }
     ensures lock { lock_of result ≡ lock_of pass.entry }
 {
     let seat = pass.enter(rt);
@@ -19,7 +19,7 @@ fn visit<'a, W: Wait>(rt: &W, pass: Pass<'a, 2>) -> Pass<'a, 2>
 
 // Tries once to take a seat, which it leaves at once.
 fn try_once<'a, W: Wait>(rt: &W, pass: Pass<'a, 2>) -> Result<Pass<'a, 2>, Pass<'a, 2>>
-    ensures { IfErr result (WasRefused pass.entry) }
+    ensures { IfErr result (WasRefused 2 pass.entry) }
 {
     match pass.try_enter(rt) {
         Ok(seat) => Ok(seat.leave()),
@@ -29,7 +29,7 @@ fn try_once<'a, W: Wait>(rt: &W, pass: Pass<'a, 2>) -> Result<Pass<'a, 2>, Pass<
 
 // Counts once.
 fn look(pass: Pass<'_, 2>) -> (usize, Pass<'_, 2>)
-    ensures counted { Counted result.0 pass.entry result.1 }
+    ensures counted { Counted 2 result.0 pass.entry result.1 }
     ensures few { result.0 ≤ 2 }
     ensures lock { lock_of result.1 ≡ lock_of pass.entry }
 {

@@ -1,4 +1,4 @@
-use Rattle.spin_seats.proofs.Sitting.{gets_up_as_step}
+use Rattle.spin_seats.proofs.Seating.{gets_up_as_step}
 use Rattle.spin_seats.proofs.laws.a_subtraction_is_its_step_function.Goals as goal
 
 pub returns : goal.returns

@@ -1,4 +1,4 @@
 use Rattle.spin_seats.proofs.laws.every_run_of_seats_is_a_schedule.Goals as goal
 
 pub returns : goal.returns
-returns g = λ n name word trace parties is. is.2
+returns g = λ n word opening trace parties is. is.2

@@ -7,5 +7,4 @@ use Rattle.spin_threads.proofs.answers.a_count_of_seats_was_so_at_a_moment.Goals
 
 pub returns : goal.returns
 returns g n count before now made =
-    let b = before.account in let e = now.account in
-    found (seats_facts n) (λ p s. readers s == count) (λ h. refl) (λ p l h seen call is. eqb-true (readers seen.plain) count is) b.permit.view e.permit.view b.seen.entries e.seen.entries made.0
+    found (seats_facts n) (λ p s. readers s == count) (λ h. refl) (λ p l h seen call is. eqb-true (readers seen.plain) count is) before.1 now.1 before.2.entries now.2.entries made.0

@@ -11,5 +11,4 @@ all_taken n p s shape closed = grind (arith, open_is s n (length s.holders) shap
 
 pub returns : goal.returns
 returns g n before now made =
-    let b = before.account in let e = now.account in
-    found (seats_facts n) (λ p s. not (is_open_to s p to_read)) (λ h. refl) (λ p l h seen call closed. all_taken n p seen.plain call.shape closed) b.permit.view e.permit.view b.seen.entries e.seen.entries made.0
+    found (seats_facts n) (λ p s. not (is_open_to s p to_read)) (λ h. refl) (λ p l h seen call closed. all_taken n p seen.plain call.shape closed) before.1 now.1 before.2.entries now.2.entries made.0

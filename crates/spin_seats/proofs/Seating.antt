@@ -1,0 +1,99 @@
+-- The table of a lock of seats refines the plain lock, all of whose holders read.
+use Rattle.std.proofs.Common.{◌≡◌, ℕ, ◌+◌, ◌-◌, ◌≤◌, ◌%◌, ◌^◌, true, false, Option, Some, None, List, [], ◌∷◌, refl, ap, ◌∙◌, arith}
+use Rattle.std.proofs.lemmas.List.Sums.{sum_by-cons}
+use Rattle.spin_step.specs.Plain.{Plain, reading, gets, to_read, is_holder}
+use Rattle.spin_step.specs.Steps.{Decides}
+use Rattle.spin_step.specs.Orders.{IsInOrder}
+use Rattle.spin_step.specs.declared.place.Hold.{Hold}
+use Rattle.spin_step.specs.declared.place.Hold.TheVariants as hold
+use Rattle.spin_step.specs.declared.place.Seat.TheVariants.{Holding}
+use Rattle.spin_step.specs.declared.answer.Answer.TheVariants.{Granted}
+use Rattle.spin_step.proofs.Holders.{is_holder-from_entries, length-held, length-without_holder}
+use Rattle.spin_core.specs.Cell.{reading as reads_of, readers_of}
+use Rattle.spin_core.specs.Views.{Part, holds, entries_of, part_at, HasPart, IsLockOf}
+use Rattle.spin_core.specs.declared.tie.Opening.{Opening}
+use Rattle.spin_core.proofs.Leaving.{flag_word-up}
+use Rattle.spin_core.proofs.Views.{release-own}
+use Rattle.spin_session.specs.Meaning.{IsWord, Sound, ComesFrom, Refines, part_of, use_at}
+use Rattle.spin_session.specs.Turns.{IsAnsweredBy, IsTry}
+use Rattle.spin_step.specs.Acts.{is_section}
+use Rattle.spin_session.proofs.Word.{word_is}
+use Rattle.spin_session.proofs.Readers.{OnlyReads, all_read, as_many_hold, readers_fit}
+use Rattle.spin_seats.specs.Meaning.{seats_meaning}
+use Rattle.spin_seats.specs.Rule.{View, seated, table_of}
+use Rattle.spin_seats.specs.Seats.{seats, seats_word, entered}
+use Rattle.spin_seats.specs.Table.{seats_table, act_of}
+use Rattle.spin_seats.specs.declared.calls.SeatsCall.{SeatsCall}
+use Rattle.spin_seats.specs.declared.calls.SeatsCall.TheVariants.{TryEnter, Enter, Count, Leave}
+use Rattle.spin_seats.specs.declared.calls.SeatsPoint.{SeatsPoint}
+use Rattle.spin_seats.specs.declared.calls.SeatsPoint.TheVariants.{First, Exchange}
+use Rattle.spin_seats.proofs.Taken.{enter-grants, leave-gives}
+
+module _ (n : ℕ) where
+  kind : (v : View) → OnlyReads (part_of (seats_meaning n) v)
+  kind (Holding hold.Read) = λ p. (refl, refl, refl)
+  kind v = λ p. grind arith
+
+  abbrev Is : SeatsCall → SeatsPoint → Option Hold → ℕ → Plain → Part → Type 0
+  Is = Sound (seats_table n) (seats_meaning n)
+
+  module _ (p : ℕ) (s : Plain) (vs : List View) (room : s.cap ≡ seats n) (is : IsLockOf (part_of (seats_meaning n)) vs s) (few : seats_word s ≤ seats n) where
+    -- the step function of `enter` decides as the plain lock
+    grants : Decides s (gets p to_read) seats_word (entered n (seats_word s))
+    grants = enter-grants s p n (seats_word s) (all_read (part_of (seats_meaning n)) kind vs s is) room refl
+
+    -- the subtraction of a party with a seat does not wrap
+    down : is_holder p reading s.holders ≡ true → (seats_word s + (2 ^ 64 - 1)) % 2 ^ 64 ≡ seats_word s - 1
+    down found = omega (arith, length-without_holder p reading s.holders found, few)
+
+  sound : (c : SeatsCall) (l : SeatsPoint) (h : Option Hold) (p : ℕ) (s : Plain) (vs : List View) (from : Part) → ComesFrom (seats_table n) (seats_meaning n) c l h from → s.cap ≡ seats n → IsInOrder s
+      → IsLockOf (part_of (seats_meaning n)) vs s → seats_word s ≤ seats n → HasPart s p from → Sound (seats_table n) (seats_meaning n) c l h p s from
+  sound TryEnter l None p s vs from comes room order is few has = grind (arith, comes, grants p s vs room is few, few)
+  sound Enter l None p s vs from comes room order is few has = grind (arith, comes, grants p s vs room is few, few)
+  sound Count l None p s vs from comes room order is few has = grind (arith, comes, few)
+  sound Leave l (Some hold.Read) p s vs from comes room order is few has =
+      let e : from ≡ holds reading = grind (arith, comes) in let found = is_holder-from_entries p reading s.holders (ap (λ e. e.holders) (rw e at has).0) in let less = down p s vs room is few found in
+      rw e (record { opens = (refl, found); entries = release-own s p reading; knows = tt; counts = less ∙ leave-gives s p (seats_word s) refl found; same = less; bounded = omega (arith, less, few) })
+  sound c l h p s vs from comes room order is few has = absurd (grind (arith, comes))
+
+  operates : (c : SeatsCall) (l : SeatsPoint) (h : Option Hold) → is_section (act_of n c l h) ≡ false
+  operates = grind arith
+
+  pub seats_refine : Refines (seats_table n) (seats_meaning n)
+  seats_refine = record {
+    one_word = λ l. refl;
+    operates = operates;
+    writes_word = λ c l h w. word_is (Unit {0}) (act_of n c l h) w (operates c l h);
+    opens_at = (refl, refl);
+    bounds_opening = omega arith;
+    nobody = flag_word-up;
+    fits = readers_fit (part_of (seats_meaning n)) kind (seats n) (omega arith);
+    goes = grind arith;
+    sound = sound;
+  }
+
+  -- how the calls that take a seat are answered
+  pub enter_answers : (key : Opening (Unit {0})) → IsAnsweredBy (table_of n) Enter None Granted (Some hold.Read) key
+  enter_answers key First w b k is = grind (arith, is)
+  enter_answers key (Exchange j) w b k is = grind (arith, is)
+
+  pub try_answers : (key : Opening (Unit {0})) → IsTry (table_of n) TryEnter None (Some hold.Read) key
+  try_answers key First w b k is = grind (arith, is)
+  try_answers key (Exchange j) w b k is = grind (arith, is)
+
+  -- the word is the number of parties that have a seat
+  one_sits : (v : View) → reads_of (use_at (seats_meaning n) v) ≡ seated (v ∷ [])
+  one_sits (Holding hold.Read) = refl
+  one_sits v = grind arith
+
+  readers_sit : (vs : List View) → readers_of (use_at (seats_meaning n)) vs ≡ seated vs
+  readers_sit [] = refl
+  readers_sit (v ∷ vs) = grind (arith, one_sits v, readers_sit vs, sum_by-cons (λ v. reads_of (use_at (seats_meaning n) v)) v vs)
+
+  pub as_many_sit : (word : ℕ) (vs : List View) → IsWord (seats_meaning n) word tt vs → (word ≡ seated vs) × (word ≤ n)
+  as_many_sit word vs (is, few) = (omega (arith, is.4, as_many_hold (part_of (seats_meaning n)) kind vs is.0 is.3, readers_sit vs), omega (arith, few))
+
+  -- the subtraction of a party that sits is the step function of `leave`
+  pub gets_up_as_step : (word : ℕ) (vs : List View) (p : ℕ) → IsWord (seats_meaning n) word tt vs → part_at (part_of (seats_meaning n)) vs p ≡ holds reading → (1 ≤ word) × ((word + (2 ^ 64 - 1)) % 2 ^ 64 ≡ word - 1)
+  gets_up_as_step word vs p (is, few) at =
+      let some = length-held p reading is.0.holders (ap (λ e. e.holders) ((is.3 p).0 ∙ ap (entries_of p) at)) in (omega (arith, is.4, some), omega (arith, is.4, some, few))

@@ -1,0 +1,51 @@
+//! The rule of a lock of seats: its cell runs the table. Begin with [`SeatsRule`].
+ghost use Rattle.spin_core.specs.Values.{untold};
+ghost use Rattle.spin_session.specs.Meaning.{ways_of};
+ghost use Rattle.spin_seats.specs.Meaning.{seats_meaning};
+ghost use Rattle.spin_seats.specs.Rule.{IsSeats};
+
+use crate::calls::{SeatsCall, SeatsPoint, SeatsTable};
+use spin_core::cell::Rule;
+use spin_core::tie::Opening;
+use spin_core::trace::Trace;
+use spin_session::table::{self, Runs};
+
+/// A party: its seat in the model, its number, and how long the trace was after the party's last step.
+pub type Party = table::Party<SeatsCall, SeatsPoint>;
+
+/// An entry of the lock's trace.
+pub type Entry = table::Entry<SeatsCall, ()>;
+
+/// The rule of a lock of `N` seats: the word is the number of parties that sit, at most `N`. The trace is a schedule of
+/// the lock's model that leads to this word and to each party's seat in the model.
+pub struct SeatsRule<const N: usize>;
+
+impl<const N: usize> Rule<(), Party> for SeatsRule<N> {
+    type Key = Opening<()>;
+
+    type Second = Trace<Entry>;
+
+    ghost holds = { IsSeats N };
+
+    ghost ways = { ways_of (seats_meaning N) };
+
+    ghost lent = { untold };
+}
+
+impl<const N: usize> Runs<()> for SeatsRule<N> {
+    type Call = SeatsCall;
+
+    type Point = SeatsPoint;
+
+    type Table = SeatsTable;
+
+    ghost its = { record { seats = N } };
+
+    ghost meaning = { seats_meaning N };
+
+    fn table() -> SeatsTable {
+        SeatsTable { seats: N }
+    }
+
+    fn laws() {}
+}
