@@ -14,13 +14,13 @@ use Rattle.spin_core.specs.Views.{Part, holds, entries_of, part_at, HasPart, IsL
 use Rattle.spin_core.specs.declared.tie.Opening.{Opening}
 use Rattle.spin_core.proofs.Leaving.{flag_word-up}
 use Rattle.spin_core.proofs.Views.{release-own}
-use Rattle.spin_session.specs.Meaning.{IsWord, Sound, ComesFrom, Refines, part_of, use_at}
+use Rattle.spin_session.specs.Meaning.{Sound, ComesFrom, Refines, use_at}
 use Rattle.spin_session.specs.Turns.{IsAnsweredBy, IsTry}
 use Rattle.spin_step.specs.Acts.{is_section}
 use Rattle.spin_session.proofs.Word.{word_is}
 use Rattle.spin_session.proofs.Readers.{OnlyReads, all_read, as_many_hold, readers_fit}
 use Rattle.spin_seats.specs.Meaning.{seats_meaning}
-use Rattle.spin_seats.specs.Rule.{View, seated, table_of}
+use Rattle.spin_seats.specs.Rule.{IsWord, View, part, seated, table_of}
 use Rattle.spin_seats.specs.Seats.{seats, seats_word, entered}
 use Rattle.spin_seats.specs.Table.{seats_table, act_of}
 use Rattle.spin_seats.specs.declared.calls.SeatsCall.{SeatsCall}
@@ -30,30 +30,38 @@ use Rattle.spin_seats.specs.declared.calls.SeatsPoint.TheVariants.{First, Exchan
 use Rattle.spin_seats.proofs.Taken.{enter-grants, leave-gives}
 
 module _ (n : ℕ) where
-  kind : (v : View) → OnlyReads (part_of (seats_meaning n) v)
+  kind : (v : View) → OnlyReads (part n v)
   kind (Holding hold.Read) = λ p. (refl, refl, refl)
   kind v = λ p. grind arith
 
-  abbrev Is : SeatsCall → SeatsPoint → Option Hold → ℕ → Plain → Part → Type 0
-  Is = Sound (seats_table n) (seats_meaning n)
-
-  module _ (p : ℕ) (s : Plain) (vs : List View) (room : s.cap ≡ seats n) (is : IsLockOf (part_of (seats_meaning n)) vs s) (few : seats_word s ≤ seats n) where
+  module _ (p : ℕ) (s : Plain) (vs : List View) (room : s.cap ≡ seats n) (is : IsLockOf (part n) vs s)
+      (few : seats_word s ≤ seats n) where
     -- the step function of `enter` decides as the plain lock
     grants : Decides s (gets p to_read) seats_word (entered n (seats_word s))
-    grants = enter-grants s p n (seats_word s) (all_read (part_of (seats_meaning n)) kind vs s is) room refl
+    grants = enter-grants s p n (seats_word s) (all_read (part n) kind vs s is) room refl
 
     -- the subtraction of a party with a seat does not wrap
     down : is_holder p reading s.holders ≡ true → (seats_word s + (2 ^ 64 - 1)) % 2 ^ 64 ≡ seats_word s - 1
     down found = omega (arith, length-without_holder p reading s.holders found, few)
 
-  sound : (c : SeatsCall) (l : SeatsPoint) (h : Option Hold) (p : ℕ) (s : Plain) (vs : List View) (from : Part) → ComesFrom (seats_table n) (seats_meaning n) c l h from → s.cap ≡ seats n → IsInOrder s
-      → IsLockOf (part_of (seats_meaning n)) vs s → seats_word s ≤ seats n → HasPart s p from → Sound (seats_table n) (seats_meaning n) c l h p s from
+  sound : (c : SeatsCall) (l : SeatsPoint) (h : Option Hold) (p : ℕ) (s : Plain) (vs : List View) (from : Part)
+      → ComesFrom (seats_table n) (seats_meaning n) c l h from → s.cap ≡ seats n → IsInOrder s → IsLockOf (part n) vs s
+      → seats_word s ≤ seats n → HasPart s p from → Sound (seats_table n) (seats_meaning n) c l h p s from
   sound TryEnter l None p s vs from comes room order is few has = grind (arith, comes, grants p s vs room is few, few)
   sound Enter l None p s vs from comes room order is few has = grind (arith, comes, grants p s vs room is few, few)
   sound Count l None p s vs from comes room order is few has = grind (arith, comes, few)
   sound Leave l (Some hold.Read) p s vs from comes room order is few has =
-      let e : from ≡ holds reading = grind (arith, comes) in let found = is_holder-from_entries p reading s.holders (ap (λ e. e.holders) (rw e at has).0) in let less = down p s vs room is few found in
-      rw e (record { opens = (refl, found); entries = release-own s p reading; knows = tt; counts = less ∙ leave-gives s p (seats_word s) refl found; same = less; bounded = omega (arith, less, few) })
+      let e : from ≡ holds reading = grind (arith, comes) in
+      let found = is_holder-from_entries p reading s.holders (ap (λ e. e.holders) (rw e at has).0) in
+      let less = down p s vs room is few found in
+      rw e (record {
+        opens = (refl, found);
+        entries = release-own s p reading;
+        knows = tt;
+        counts = less ∙ leave-gives s p (seats_word s) refl found;
+        same = less;
+        bounded = omega (arith, less, few);
+      })
   sound c l h p s vs from comes room order is few has = absurd (grind (arith, comes))
 
   operates : (c : SeatsCall) (l : SeatsPoint) (h : Option Hold) → is_section (act_of n c l h) ≡ false
@@ -67,7 +75,7 @@ module _ (n : ℕ) where
     opens_at = (refl, refl);
     bounds_opening = omega arith;
     nobody = flag_word-up;
-    fits = readers_fit (part_of (seats_meaning n)) kind (seats n) (omega arith);
+    fits = readers_fit (part n) kind (seats n) (omega arith);
     goes = grind arith;
     sound = sound;
   }
@@ -88,12 +96,16 @@ module _ (n : ℕ) where
 
   readers_sit : (vs : List View) → readers_of (use_at (seats_meaning n)) vs ≡ seated vs
   readers_sit [] = refl
-  readers_sit (v ∷ vs) = grind (arith, one_sits v, readers_sit vs, sum_by-cons (λ v. reads_of (use_at (seats_meaning n) v)) v vs)
+  readers_sit (v ∷ vs) =
+      grind (arith, one_sits v, readers_sit vs, sum_by-cons (λ v. reads_of (use_at (seats_meaning n) v)) v vs)
 
-  pub as_many_sit : (word : ℕ) (vs : List View) → IsWord (seats_meaning n) word tt vs → (word ≡ seated vs) × (word ≤ n)
-  as_many_sit word vs (is, few) = (omega (arith, is.4, as_many_hold (part_of (seats_meaning n)) kind vs is.0 is.3, readers_sit vs), omega (arith, few))
+  pub as_many_sit : (word : ℕ) (vs : List View) → IsWord n word tt vs → (word ≡ seated vs) × (word ≤ n)
+  as_many_sit word vs (is, few) =
+      let counted = as_many_hold (part n) kind vs is.0 is.3 in (omega (arith, is.4, counted, readers_sit vs), omega (arith, few))
 
   -- the subtraction of a party that sits is the step function of `leave`
-  pub gets_up_as_step : (word : ℕ) (vs : List View) (p : ℕ) → IsWord (seats_meaning n) word tt vs → part_at (part_of (seats_meaning n)) vs p ≡ holds reading → (1 ≤ word) × ((word + (2 ^ 64 - 1)) % 2 ^ 64 ≡ word - 1)
+  pub gets_up_as_step : (word : ℕ) (vs : List View) (p : ℕ) → IsWord n word tt vs → part_at (part n) vs p ≡ holds reading
+      → (1 ≤ word) × ((word + (2 ^ 64 - 1)) % 2 ^ 64 ≡ word - 1)
   gets_up_as_step word vs p (is, few) at =
-      let some = length-held p reading is.0.holders (ap (λ e. e.holders) ((is.3 p).0 ∙ ap (entries_of p) at)) in (omega (arith, is.4, some), omega (arith, is.4, some, few))
+      let some = length-held p reading is.0.holders (ap (λ e. e.holders) ((is.3 p).0 ∙ ap (entries_of p) at)) in
+      (omega (arith, is.4, some), omega (arith, is.4, some, few))

@@ -36,7 +36,8 @@ module _ (n : ℕ) where
 
   -- from `before` to `now` the pass has taken a seat and left it, once
   abbrev pub SatOnce : SeatsSpot → SeatsSpot → Type 0
-  SatOnce before now = (seated : SeatsSpot) × Calls call.Enter answer.Granted before seated × Calls call.Leave answer.Done seated now
+  SatOnce before now =
+      (seated : SeatsSpot) × Calls call.Enter answer.Granted before seated × Calls call.Leave answer.Done seated now
 
   -- from `before` to `now` the pass has tried once to take a seat, and failed
   abbrev pub WasRefused : SeatsSpot → SeatsSpot → Type 0

@@ -1,12 +1,11 @@
 -- The rule of a lock of seats: its cell runs the table, as the meaning says.
-use Rattle.std.specs.Prelude.{ℕ, Bool, true, false, List, count_by}
+use Rattle.std.specs.Prelude.{ℕ, false, List, count_by}
 use Rattle.spin_core.specs.Own.{Numbered}
 use Rattle.spin_core.specs.Views.{Part}
 use Rattle.spin_core.specs.declared.tie.Opening.{Opening}
 use Rattle.spin_core.specs.declared.trace.Trace.{Trace}
+use Rattle.spin_step.specs.Asks.{is_read}
 use Rattle.spin_step.specs.Schedules.{Entry}
-use Rattle.spin_step.specs.declared.place.Hold.{Hold}
-use Rattle.spin_step.specs.declared.place.Hold.TheVariants.{Read}
 use Rattle.spin_step.specs.declared.place.Seat.{Seat}
 use Rattle.spin_step.specs.declared.place.Seat.TheVariants.{Holding}
 use Rattle.spin_session.specs.Meaning as session
@@ -41,9 +40,6 @@ IsWord n = session.IsWord (seats_meaning n)
 
 abbrev pub IsSeats : ℕ → Opening (Unit {0}) → ℕ → Trace Done (Unit {0}) → List (Numbered View) → Type 0
 IsSeats n = session.RunsTable (table_of n) (seats_meaning n)
-
-abbrev pub is_read : Hold → Bool
-is_read h = elim h [ Read ↦ true | _ ↦ false ]
 
 -- how many of the parties have a seat
 abbrev pub seated : List View → ℕ
