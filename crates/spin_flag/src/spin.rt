@@ -148,20 +148,13 @@ impl<T, R: RelaxStrategy> SpinMutex<T, R> {
     {
         // This repeats `Pass::lock` by `begin` and `go_on`. Each call of a function that waits makes the path for a
         // free lock two instructions longer.
+        let call = FlagCall::Lock;
         let write = Some(Hold::Write);
-        let session = match begin(self.session(), FlagCall::Lock, None, Answer::Granted, write) {
+        let session = match begin(self.session(), call, None, Answer::Granted, write) {
             Ok(session) => session,
             Err(on) => {
-                let strategy = Strategy::<R>::named();
-                go_on(
-                    on,
-                    FlagCall::Lock,
-                    None,
-                    Answer::Granted,
-                    write,
-                    strategy,
-                    rt,
-                )
+                let by = Strategy::<R>::named();
+                go_on(on, call, None, Answer::Granted, write, by, rt)
             }
         };
         let (permit, _) = writer(session, Hold::Write);

@@ -103,7 +103,7 @@ impl<'a, T, R: RelaxStrategy> Pass<'a, T, R> {
             session,
             strategy: _,
         } = self;
-        let strategy = Strategy::<R>::named();
+        let by = Strategy::<R>::named();
         let write = Some(Hold::Write);
         let session = wait_for(
             session,
@@ -111,7 +111,7 @@ impl<'a, T, R: RelaxStrategy> Pass<'a, T, R> {
             None,
             Answer::Granted,
             write,
-            strategy,
+            by,
             rt,
         );
         let (permit, seen) = writer(session, Hold::Write);
