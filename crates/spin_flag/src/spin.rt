@@ -1,12 +1,12 @@
 //! A spinning mutex of one flag: the thread that finds the flag clear sets it. Begin at [`SpinMutex::lock`].
-ghost use Rattle.std.specs.Prelude.{◌≡◌, true, Option, Some, None, [], IfSome};
+ghost use Rattle.std.specs.Prelude.{Option, IfSome};
 ghost use Rattle.std.specs.Fmt.{DisplaysOnOk};
 ghost use Rattle.spin_core.specs.Guard.{IsHolder};
 ghost use Rattle.spin_core.specs.Texts.{lock_text};
+ghost use Rattle.spin_session.specs.Turns.{IsNew, spot};
 ghost use Rattle.spin_flag.specs.Flag.{use_of_party};
+ghost use Rattle.spin_flag.specs.Passes.{OpensWith, opening};
 
-use self::account::Account;
-use self::rule::{Waits, word};
 use spin_core::cell::Cell;
 use spin_core::guard::{self, Guard};
 use spin_core::lock::{Lock, with_guard};
@@ -14,16 +14,18 @@ use spin_core::relax::{RelaxStrategy, Spin, Strategy};
 use spin_core::texts::write_lock;
 use spin_core::tie::Opening;
 use spin_core::trace::Trace;
+use spin_session::calls::{SessionOf, begin, go_on, writer};
+use spin_session::session::Session;
+use spin_step::{Answer, FlagCall, Hold};
 use std::fmt;
 use std::fmt::{Debug, Formatter};
 use std::sync::Wait;
 
-mod account;
 mod pass;
 mod rule;
 
 pub use self::pass::Pass;
-pub use self::rule::{Entry, FlagRule, Party, View};
+pub use self::rule::{Entry, FlagRule, Party};
 pub use spin_core::laws::{a_guard_reads_the_last_value_written, two_guards_read_one_value};
 
 /// A mutual exclusion lock with one flag as its state, on which a waiting thread spins.
@@ -97,11 +99,11 @@ impl<T, R> SpinMutex<T, R> {
     /// # Contract
     /// The lock's history begins with this value (`opens`). The call returns.
     pub const fn new(value: T) -> Self
-        ensures opens { (result.cell.value ≡ value) × (result.cell.told ≡ true) }
+        ensures opens { OpensWith value result }
     {
         let trace = Trace::new(());
         let opening = Opening::of(&trace, &value);
-        let cell = Cell::new(value, word(false), trace, &opening);
+        let cell = Cell::new(value, 0, trace, &opening);
         opening.end();
         SpinMutex {
             cell,
@@ -109,12 +111,11 @@ impl<T, R> SpinMutex<T, R> {
         }
     }
 
-    // Returns the account of a party that has made no call.
-    fn account(&self) -> Account<'_, T>
-        ensures new { (result.seen.name ≡ self.now.cell.name) × (result.seen.entries ≡ []) × (result.permit.view ≡ None) }
-        ensures lock { result.permit.key ≡ self.now.cell }
+    // Returns a party that has made no call.
+    fn session(&self) -> SessionOf<'_, T, FlagRule>
+        ensures { IsNew (opening self.now) (spot result) }
     {
-        Account {
+        Session {
             permit: self.cell.enter(),
             seen: self.cell.watch(),
         }
@@ -141,16 +142,23 @@ impl<T, R: RelaxStrategy> SpinMutex<T, R> {
     ///
     /// # Contract
     /// The guard belongs to a holder of the lock (`IsHolder`). Whether and when the call returns is not promised.
+    #[tactic(auto, using(crate::proofs::FlagRefines::lock_answers))]
     pub fn lock<W: Wait>(&self, rt: &W) -> SpinMutexGuard<'_, T, R>
         ensures { IsHolder use_of_party result }
     {
-        // This repeats `Pass::lock`. A call of `Pass::lock` would make the path for a free lock two instructions
-        // longer.
-        let (guard, _) = match self.account().attempt::<Waits, R>() {
-            Ok(held) => held,
-            Err(waiting) => waiting.wait(rt),
+        // This repeats `Pass::lock` by `begin` and `go_on`. Each call of a function that waits makes the path for a
+        // free lock two instructions longer.
+        let call = FlagCall::Lock;
+        let write = Some(Hold::Write);
+        let session = match begin(self.session(), call, None, Answer::Granted, write) {
+            Ok(session) => session,
+            Err(on) => {
+                let by = Strategy::<R>::named();
+                go_on(on, call, None, Answer::Granted, write, by, rt)
+            }
         };
-        guard
+        let (permit, _) = writer(session, Hold::Write);
+        Guard::new(permit)
     }
 }
 

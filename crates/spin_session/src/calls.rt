@@ -345,7 +345,7 @@ fn wait<'a, T, P: Runs<T>, R: RelaxStrategy, W: Wait>(
     let mut at = point_after::<T, P>(&session, call, point, holds, found);
     let mut party = session;
     for _ in rt.forever() {
-        R::pause(rt, hints);
+        R::bounded_pause(rt, hints);
         let (next, _, _, further) = round(party, call, at, holds);
         match next {
             Next::Answers(_, _) => return further,

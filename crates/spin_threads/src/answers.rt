@@ -9,10 +9,10 @@ ghost use Rattle.std.specs.Prelude.{◌≡◌, ◌⊎◌, ◌<◌, ◌≤◌, �
 ghost use Rattle.spin_fair.specs.Fair as fair_mutex;
 ghost use Rattle.spin_fair.specs.declared.fair.rule.View.{View as FairMutexView};
 ghost use Rattle.spin_flag.specs.Flag as spin_mutex;
-ghost use Rattle.spin_flag.specs.declared.spin.rule.View.{View as SpinMutexView};
 ghost use Rattle.spin_step.specs.Calls.{is_starved, readers, writers};
 ghost use Rattle.spin_step.specs.TicketCalls.{is_left};
 ghost use Rattle.spin_step.specs.declared.answer.Answer.TheVariants.{Refused, Locked, Starved, Is, Count, NoValue};
+ghost use Rattle.spin_step.specs.FlagCalls.{flag_machine};
 ghost use Rattle.spin_step.specs.declared.flag_calls.FlagCall.TheVariants as flag;
 ghost use Rattle.spin_step.specs.declared.once_calls.OnceCall.TheVariants as once;
 ghost use Rattle.spin_step.specs.declared.ticket_calls.TicketCall.TheVariants as ticket;
@@ -38,7 +38,7 @@ ghost use Rattle.spin_threads.specs.Onces.{FoundOnce, GaveOnce, has_value};
 /// # Contract
 /// `Found`: at a moment of the call the plain lock passed the test `is_held`.
 pub fn a_refused_try_found_the_spin_mutex_held<T>()
-    ensures { (opening : T) → Found (spin_mutex.model opening) SpinMutexView flag.TryLock Refused (Was is_held true) }
+    ensures { (opening : T) → Found (flag_machine opening) spin_mutex.View flag.TryLock Refused (Was is_held true) }
 {}
 
 /// If a pass called `is_locked` of a `SpinMutex` once, then at some moment of the call the lock was as the answer says.
@@ -46,7 +46,7 @@ pub fn a_refused_try_found_the_spin_mutex_held<T>()
 /// # Contract
 /// `Found`: at a moment of the call the test `is_held` of the plain lock gave the same answer as the call.
 pub fn a_look_at_a_spin_mutex_was_so_at_a_moment<T>()
-    ensures { (opening : T) (held : Bool) → Found (spin_mutex.model opening) SpinMutexView flag.IsLocked (Is held) (Was is_held held) }
+    ensures { (opening : T) (held : Bool) → Found (flag_machine opening) spin_mutex.View flag.IsLocked (Is held) (Was is_held held) }
 {}
 
 /// If a pass tried once to acquire a `TicketMutex` and failed, the failure was right at a moment of the call. A party

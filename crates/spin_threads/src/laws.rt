@@ -9,7 +9,7 @@ ghost use Rattle.spin_core.specs.declared.trace.Trace.{Trace};
 ghost use Rattle.spin_fair.specs.Fair as fair_mutex;
 ghost use Rattle.spin_fair.specs.declared.fair.rule.View.{View as FairMutexView};
 ghost use Rattle.spin_flag.specs.Flag as spin_mutex;
-ghost use Rattle.spin_flag.specs.declared.spin.rule.View.{View as SpinMutexView};
+ghost use Rattle.spin_step.specs.FlagCalls.{flag_machine};
 ghost use Rattle.spin_step.specs.OnceCalls.{once_machine};
 ghost use Rattle.spin_once.specs.Foretold.{foretold, place_of};
 ghost use Rattle.spin_once.specs.Once as once;
@@ -30,7 +30,7 @@ ghost use Rattle.spin_world.specs.Fairness.{ComesAfterStarvers};
 /// # Contract
 /// `Between` says this of the word and the parties of the lock's cell, after the moves in the cell's trace.
 pub fn between_any_two_steps_of_a_spin_mutex<T>()
-    ensures { (opening : Opening T) (word : ℕ) (trace : Trace (spin_mutex.Done T) (Unit {0})) (parties : List (Numbered SpinMutexView)) → spin_mutex.IsFlag opening word trace parties → Between (spin_mutex.model opening.value) spin_mutex.seat_of spin_mutex.words_of trace.entries (word, trace.word) parties }
+    ensures { (opening : Opening T) (word : ℕ) (trace : Trace (spin_mutex.Done T) (Unit {0})) (parties : List (Numbered spin_mutex.View)) → spin_mutex.IsFlag opening word trace parties → Between (flag_machine opening.value) (λ view. view) spin_mutex.words_of trace.entries (word, trace.word) parties }
 {}
 
 /// Between any two steps of the threads that use a `TicketMutex`, the lock's words are the next number and the served

@@ -11,7 +11,7 @@ ghost use Rattle.spin_core.specs.Passes.{IsCall, Made};
 ghost use Rattle.spin_fair.specs.Fair as fair_mutex;
 ghost use Rattle.spin_fair.specs.declared.fair.rule.View.{View as FairMutexView};
 ghost use Rattle.spin_flag.specs.Flag as spin_mutex;
-ghost use Rattle.spin_flag.specs.declared.spin.rule.View.{View as SpinMutexView};
+ghost use Rattle.spin_step.specs.FlagCalls.{flag_machine};
 ghost use Rattle.spin_step.specs.declared.answer.Answer.TheVariants.{Granted};
 ghost use Rattle.spin_step.specs.declared.ticket_calls.TicketCall.TheVariants.{Lock};
 ghost use Rattle.spin_step_more.specs.declared.rw_calls.RwCall.TheVariants.{Upgrade};
@@ -28,7 +28,7 @@ ghost use Rattle.spin_threads.specs.Turns.{EntersInTurn};
 /// # Contract
 /// `KeepsLimits` says that each call of a pass keeps its limit.
 pub fn a_call_of_a_spin_mutex_keeps_its_limit<T>()
-    ensures { (opening : T) → KeepsLimits (spin_mutex.model opening) SpinMutexView }
+    ensures { (opening : T) → KeepsLimits (flag_machine opening) spin_mutex.View }
 {}
 
 /// An `is_locked` of a pass of a `TicketMutex` takes at most two steps, a try three, and a release one. The exchange by

@@ -10,7 +10,7 @@ ghost use Rattle.spin_core.specs.Own.{Numbered};
 ghost use Rattle.spin_core.specs.declared.tie.Opening.{Opening};
 ghost use Rattle.spin_core.specs.declared.trace.Trace.{Trace};
 ghost use Rattle.spin_flag.specs.Flag as spin_mutex;
-ghost use Rattle.spin_flag.specs.declared.spin.rule.View.{View as SpinMutexView};
+ghost use Rattle.spin_step.specs.FlagCalls.{flag_machine};
 ghost use Rattle.spin_rwlock.specs.Rw as rwlock;
 ghost use Rattle.spin_rwlock.specs.declared.rwlock.rule.View.{View as RwLockView};
 ghost use Rattle.spin_threads.specs.Progress.{InHistory, GrantsInFour, GrantsBeside, GrantsTheUpgrade};
@@ -20,7 +20,7 @@ ghost use Rattle.spin_threads.specs.Progress.{InHistory, GrantsInFour, GrantsBes
 /// # Contract
 /// `GrantsInFour` says this of each four rounds of the moves in the cell's trace.
 pub fn some_thread_acquires_a_spin_mutex_in_four_rounds<T>()
-    ensures { (opening : Opening T) (word : ℕ) (trace : Trace (spin_mutex.Done T) (Unit {0})) (parties : List (Numbered SpinMutexView)) → spin_mutex.IsFlag opening word trace parties → InHistory (spin_mutex.model opening.value) trace.entries (GrantsInFour (spin_mutex.model opening.value)) }
+    ensures { (opening : Opening T) (word : ℕ) (trace : Trace (spin_mutex.Done T) (Unit {0})) (parties : List (Numbered spin_mutex.View)) → spin_mutex.IsFlag opening word trace parties → InHistory (flag_machine opening.value) trace.entries (GrantsInFour (flag_machine opening.value)) }
 {}
 
 /// While a thread that holds nothing waits for an `RwLock`, some thread is granted what it asks in at most six rounds.

@@ -3,10 +3,10 @@
 ghost use Rattle.std.specs.Prelude.{◌≡◌, ◌⊎◌, true, false, IfErr};
 ghost use Rattle.spin_fair.specs.Fair as fair_mutex;
 ghost use Rattle.spin_fair.specs.FairPasses as fair_passes;
-ghost use Rattle.spin_flag.specs.Flag as spin_mutex;
 ghost use Rattle.spin_flag.specs.Passes as spin_passes;
 ghost use Rattle.spin_step.specs.Calls.{readers};
 ghost use Rattle.spin_step.specs.TicketCalls.{is_left};
+ghost use Rattle.spin_step.specs.FlagCalls.{flag_machine};
 ghost use Rattle.spin_step.specs.declared.flag_calls.FlagCall.TheVariants as flag;
 ghost use Rattle.spin_step.specs.declared.ticket_calls.TicketCall.TheVariants as ticket;
 ghost use Rattle.spin_step.specs.OnceCalls.{once_machine};
@@ -37,7 +37,7 @@ use spin_ticket::ticket::{Entry, Pass as TicketPass, TicketMutexGuard};
 
 /// Asks once whether a `SpinMutex` is held.
 pub fn look_at_a_spin_mutex<T, R>(pass: SpinPass<'_, T, R>) -> (bool, SpinPass<'_, T, R>)
-    ensures { AtAMoment (spin_mutex.model (spin_passes.opening_of pass.entry).value) flag.IsLocked (spin_passes.party result.1)
+    ensures { AtAMoment (flag_machine (spin_passes.opening_of pass.entry).value) flag.IsLocked (spin_passes.party result.1)
         (spin_passes.history pass.entry) (spin_passes.history result.1) (Was is_held result.0) }
 {
     a_look_at_a_spin_mutex_was_so_at_a_moment::<T>();

@@ -1,27 +1,13 @@
-use Rattle.std.proofs.Common.{None, refl, subst}
-use Rattle.spin_core.specs.Own.{what}
-use Rattle.spin_core.specs.Passes.{IsStep}
-use Rattle.spin_core.specs.Spots.{Since}
-use Rattle.spin_core.proofs.Mutexes.{as_new}
-use Rattle.spin_core.proofs.Spots.{in_one, comes_in}
-use Rattle.spin_step.specs.declared.answer.Answer.TheVariants.{Granted}
+use Rattle.std.proofs.Common.{Some, ap, ◌∙◌, subst}
+use Rattle.spin_session.specs.Turns.{spot}
 use Rattle.spin_step.specs.declared.flag_calls.FlagCall.TheVariants.{Lock}
-use Rattle.spin_step.specs.declared.schedule.Outcome.TheVariants.{Answered, GoingOn}
-use Rattle.spin_flag.specs.Flag.{model_at, has_begun}
-use Rattle.spin_flag.specs.Waits.{here, held_at}
-use Rattle.spin_flag.specs.declared.spin.rule.View.TheVariants.{Idle}
-use Rattle.spin_flag.proofs.Flags.{got}
+use Rattle.spin_flag.specs.Passes.{Grants}
+use Rattle.spin_flag.proofs.Granted.{granted}
 use Rattle.spin_flag.proofs.spin.pass.Pass.lock.Goals as goal
 
-pub returns-in-Ok : goal.returns-in-Ok
-returns-in-Ok g c =
-    let me = c.args.self in let p = here me.account in let held = c.in-Ok.held in let e = c.in-Ok.ensures in
-    let begun = subst (λ b. Since model_at (IsStep b Lock (Answered Granted None)) p (held_at held)) (as_new Idle has_begun refl (what p.1) me.rests) e.1 in
-    let so = got Lock p held e.0 (in_one model_at Lock p (held_at held) Granted begun) in record { holder = so.0.0; holds = so.0.1; same = so.1; found = so.2; made = so.3 }
-
-pub returns-in-Err : goal.returns-in-Err
-returns-in-Err g c =
-    let me = c.args.self in let p = here me.account in let q = here c.in-Err.waiting in
-    let begun = subst (λ b. Since model_at (IsStep b Lock GoingOn) p q) (as_new Idle has_begun refl (what p.1) me.rests) c.in-Err.ensures.0 in
-    let gets = c.wait.ensures p (comes_in model_at Lock p q begun) in
-    let so = got Lock p c.wait.result gets.0 gets.1 in record { holder = so.0.0; holds = so.0.1; same = so.1; found = so.2; made = so.3 }
+pub returns : goal.returns
+returns g c =
+    let w = c.wait_for-session in let p = c.writer-permit in let n = c.new in
+    subst (λ b. Grants Lock b n.result p.result.1) c.self.view_is
+    (granted Lock (spot c.self.inside.session) (spot w.result) w.result.permit.value n.result p.result.1 (ap (λ x. x.key) n.ensures ∙ p.ensures.key) (ap (λ x. Some x.view) n.ensures ∙ p.ensures.same.0)
+    (ap (λ x. Some x.value) n.ensures ∙ p.ensures.same.1) p.ensures.seen w.ensures.stands w.ensures.last w.ensures.calls)
