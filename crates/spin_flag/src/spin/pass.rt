@@ -105,15 +105,8 @@ impl<'a, T, R: RelaxStrategy> Pass<'a, T, R> {
         } = self;
         let by = Strategy::<R>::named();
         let write = Some(Hold::Write);
-        let session = wait_for(
-            session,
-            FlagCall::Lock,
-            None,
-            Answer::Granted,
-            write,
-            by,
-            rt,
-        );
+        let call = FlagCall::Lock;
+        let session = wait_for(session, call, None, Answer::Granted, write, by, rt);
         let (permit, seen) = writer(session, Hold::Write);
         (Guard::new(permit), seen)
     }
