@@ -67,10 +67,7 @@ asks_of call.Write h = spins_to_write
 asks_of call.ReleaseRead h = gives_back is_read (Some Read)
 asks_of call.ReleaseWrite h = gives_back is_write (Some Write)
 
-abbrev pub LatchTable : Type 0
-LatchTable = Table ℕ (Unit {0}) LatchCall LatchPoint (Answer (Unit {0}))
-
-abbrev pub latch_table : LatchTable
+abbrev pub latch_table : Table ℕ (Unit {0}) LatchCall LatchPoint (Answer (Unit {0}))
 latch_table = record (usual_table (Some tt) latch 0 one_number (λ c h. First) act_of asks_of) { cap = latch_limit }
 
 abbrev pub LatchMachine : Type 0

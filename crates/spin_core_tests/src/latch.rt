@@ -11,6 +11,7 @@ pub mod laws;
 pub mod object;
 mod rule;
 pub mod steps;
+mod table;
 
 use self::rule::{Comes, LatchPermit, Leaves, Looks, Tries, TriesToWrite, Writes};
 pub use self::rule::{Entry, LatchRule, Party, View};

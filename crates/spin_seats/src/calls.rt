@@ -1,6 +1,6 @@
 //! The calls of a lock of seats, the points between their steps, and the lock's table. Begin with [`SeatsCall`] and
 //! [`SeatsTable`].
-ghost use Rattle.std.specs.Prelude.{◌≡◌, ⊤};
+ghost use Rattle.std.specs.Prelude.{◌≡◌, None, ⊤};
 ghost use Rattle.spin_seats.specs.Table.{seats_table};
 
 use crate::steps;
@@ -63,12 +63,19 @@ impl Steps<(), SeatsCall, SeatsPoint> for SeatsTable {
 
     ghost table = { λ it value. seats_table it.seats };
 
+    ghost given = { None };
+
     fn start(&self, call: SeatsCall, holds: Option<Hold>) -> Option<SeatsPoint> {
         match (call, holds) {
             (SeatsCall::TryEnter | SeatsCall::Enter | SeatsCall::Count, None)
             | (SeatsCall::Leave, Some(Hold::Read)) => Some(SeatsPoint::First),
             _ => None,
         }
+    }
+
+    fn place(&self, point: SeatsPoint) -> usize {
+        let _ = point;
+        0
     }
 
     fn operation(&self, call: SeatsCall, point: SeatsPoint, holds: Option<Hold>) -> Operation {

@@ -1,9 +1,10 @@
 -- A step of a table keeps the rule of its cell, and is the step of the model.
 use Rattle.std.proofs.Common.{◌≡◌, ℕ, [], ◌∷◌, Bool, true, false, List, Option, Some, None, is_some, unwrap_or, refl, sym, ap, ◌∙◌, subst, arith, inl, inr}
 use Rattle.std.specs.List.{list_all}
-use Rattle.spin_step.specs.Plain.{fresh}
-use Rattle.spin_step.specs.Acts.{Table, Act, step_at, step_by, change_at, operation_by, next_of, number_at, is_section, machine_of, begin_of}
-use Rattle.spin_step.specs.Operations.{performed}
+use Rattle.spin_step.specs.Plain.{fresh, Plain}
+use Rattle.spin_step.specs.Acts.{Table, Act, step_at, step_by, change_at, operation_by, next_of, number_at, is_section, machine_of, begin_of, place_of}
+use Rattle.spin_step.specs.Operations.{performed, wrapped}
+use Rattle.spin_step.specs.Machines.{Machine}
 use Rattle.spin_step.specs.Schedules.{State, Entry, after, resting, goes_on, placed, begun, happens, may_write, written_by}
 use Rattle.spin_step.specs.declared.answer.Answer.{Answer}
 use Rattle.spin_step.specs.declared.place.Hold.{Hold}
@@ -45,7 +46,7 @@ module _ {W V C L A : Type 0} (t : Table W V C L A) where
   next-is act one w = grind (arith, one)
 
   -- after a store the call goes on in the same way, whatever the store finds
-  store-any : (act : Act W L A) (k : ℕ) → operation_by act ≡ op.Store k → (n : ℕ) → (step_at {V = Unit {0}} t.memory 0 n act t.words).next ≡ (step_at {V = Unit {0}} t.memory 0 0 act t.words).next
+  store-any : (act : Act W L A) (k : ℕ) → wrapped (operation_by act) ≡ op.Store k → (n : ℕ) → (step_at {V = Unit {0}} t.memory 0 n act t.words).next ≡ (step_at {V = Unit {0}} t.memory 0 0 act t.words).next
   store-any act k is n = grind (arith, is)
 
 module _ {W V C L : Type 0} (t : Table W V C L (Answer V)) where
@@ -138,7 +139,7 @@ module _ {W V C L : Type 0} (t : Table W V C L (Answer V)) (s : Meaning C L) (d 
 
   -- the word after the step at this point
   abbrev pub after_word : C → L → Option Hold → ℕ → ℕ
-  after_word c l h = worked (operation_by (t.act c l h))
+  after_word c l h = worked (wrapped (operation_by (t.act c l h)))
 
   abbrev pub ends : C → L → Option Hold → ℕ → Ending V
   ends c l h n = outcome_of (next_of t c l h n)
@@ -301,7 +302,7 @@ module _ {W V C L : Type 0} (t : Table W V C L (Answer V)) (s : Meaning C L) (d 
           subst (λ b. Keeps view shown (after_word c l h) (turn t (Finds s) b c l h)) (sym begun) (rw point (keeps_first c h is may quiet))
 
       -- a store goes on in the same way, whatever it finds
-      stores_alike : (o : Operation) → o ≡ operation_by (t.act c l h) → Keeps view shown (after_word c l h) (turn t (Finds s) (has_begun (what view)) c l h)
+      stores_alike : (o : Operation) → o ≡ wrapped (operation_by (t.act c l h)) → Keeps view shown (after_word c l h) (turn t (Finds s) (has_begun (what view)) c l h)
           → Operates Rule own_ways view shown o (Told t (Finds s) (turn t (Finds s) (has_begun (what view)) c l h) view)
       stores_alike op.Load is so = rw (← is) at so
       stores_alike (op.Exchange old new) is so = rw (← is) at so
@@ -317,7 +318,7 @@ module _ {W V C L : Type 0} (t : Table W V C L (Answer V)) (s : Meaning C L) (d 
       pub as_by : IsAtPoint t c l h (what view) → (P : Says t (Finds s) → Type 0) → P (turn t (Finds s) (has_begun (what view)) c l h) → P (turn_by t (Finds s) false (Some c) (what view))
       as_by at P so = by_turn t (Finds s) (what view) c l h at P so
 
-      pub operates : (o : Operation) → o ≡ operation_by (t.act c l h) → IsAtPoint t c l h (what view) → rests_at s (seat_now (what view)) ≡ true → Unwriting
+      pub operates : (o : Operation) → o ≡ wrapped (operation_by (t.act c l h)) → IsAtPoint t c l h (what view) → rests_at s (seat_now (what view)) ≡ true → Unwriting
           → Operates Rule own_ways view shown o (Told t (Finds s) (turn_by t (Finds s) false (Some c) (what view)) view)
       operates o is at rests quiet =
           as_by at (λ x. Operates Rule own_ways view shown o (Told t (Finds s) x view)) (stores_alike o is (keeps_at at rests quiet))
@@ -345,7 +346,7 @@ module _ {W V C L : Type 0} (t : Table W V C L (Answer V)) (s : Meaning C L) (d 
         (λ own outs n u (stays, (y, same, by)). (stays, (y, tt, by))) Rule own_ways (Some x) (by_first f) all in
         subst (λ o. Keeps view (Some x) f (turn_by t (Finds s) true (Some c) o)) (sym is) less
 
-    pub operates_giving : (o : Operation) → o ≡ operation_by (t.act c (t.start c (Some h)) (Some h)) → Operates Rule own_ways view (Some x) o (Told t (Finds s) (turn_by t (Finds s) true (Some c) (what view)) view)
+    pub operates_giving : (o : Operation) → o ≡ wrapped (operation_by (t.act c (t.start c (Some h)) (Some h))) → Operates Rule own_ways view (Some x) o (Told t (Finds s) (turn_by t (Finds s) true (Some c) (what view)) view)
     operates_giving op.Load same = rw (← same) at keeps_gives
     operates_giving (op.Exchange old new) same = rw (← same) at keeps_gives
     operates_giving (op.Store k) same =

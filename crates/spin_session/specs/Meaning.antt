@@ -4,7 +4,7 @@ use Rattle.std.specs.Option.{unwrap_or}
 use Rattle.spin_step.specs.Plain.{Plain, fresh}
 use Rattle.spin_step.specs.Parties.{IsOpenStep, apply_some, entries_after}
 use Rattle.spin_step.specs.Orders.{IsInOrder}
-use Rattle.spin_step.specs.Operations.{performed}
+use Rattle.spin_step.specs.Operations.{performed, wrapped}
 use Rattle.spin_step.specs.Acts.{Memory, Table, Act, step_at, step_by, change_at, next_of, operation_by, number_at, is_section, machine_of}
 use Rattle.spin_step.specs.Machines.{Machine}
 use Rattle.spin_step.specs.Schedules.{Entry, resting}
@@ -92,9 +92,9 @@ pub record SoundAct {W L A : Type 0} (m : Memory W) (w : W) (word : Plain → �
   pub opens : IsOpenStep plain p (change_at (word plain) act p w)
   pub entries : entries_after plain (change_at (word plain) act p w) (entries_of p from) ≡ entries_of p (to (step_at {V = Unit {0}} m 0 (word plain) act w).next)
   pub knows : Knows (apply_some plain (change_at (word plain) act p w)) (to (step_at {V = Unit {0}} m 0 (word plain) act w).next)
-  pub counts : worked (operation_by act) (word plain) ≡ word (apply_some plain (change_at (word plain) act p w))
-  pub same : worked (operation_by act) (word plain) ≡ performed (operation_by act) (word plain)
-  pub bounded : bounds (worked (operation_by act) (word plain))
+  pub counts : worked (wrapped (operation_by act)) (word plain) ≡ word (apply_some plain (change_at (word plain) act p w))
+  pub same : worked (wrapped (operation_by act)) (word plain) ≡ performed (operation_by act) (word plain)
+  pub bounded : bounds (worked (wrapped (operation_by act)) (word plain))
 
 module _ {W V C L A : Type 0} (t : Table W V C L A) where
   abbrev pub words_of : W → ℕ × Unit {0}

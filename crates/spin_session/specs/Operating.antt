@@ -11,6 +11,7 @@ use Rattle.spin_core.specs.declared.tie.Opening.{Opening}
 use Rattle.spin_core.specs.declared.trace.Trace.{Trace}
 use Rattle.spin_core.specs.declared.trace.Watch.{Watch}
 use Rattle.spin_step.specs.Acts.{Table, next_of, operation_by}
+use Rattle.spin_step.specs.Operations.{wrapped}
 use Rattle.spin_step.specs.Schedules.{Entry, may_write}
 use Rattle.spin_step.specs.declared.answer.Answer.{Answer}
 use Rattle.spin_step.specs.declared.place.Hold.{Hold}
@@ -38,11 +39,11 @@ pub record Executes {W V C L : Type 0} (t : V → Table W V C L (Answer V)) (s :
   pub uses : (key : Opening V) (view : Option (Numbered (Seat C L))) → use_of (ways key).1 view ≡ use_of (use_at s) (what view)
   pub named : (key : Opening V) (name : ℕ) → key.name ≡ name → Named (holds key) (ways key) name
   pub turns : (key : Opening V) (view : Option (Numbered (Seat C L))) (shown : Option V) (c : C) (l : L) (h : Option Hold) (o : Operation)
-      → o ≡ operation_by ((t key.value).act c l h) → IsAt t c l h key (what view) → rests_at s (seat_now (what view)) ≡ true → Quiet s (what view)
+      → o ≡ wrapped (operation_by ((t key.value).act c l h)) → IsAt t c l h key (what view) → rests_at s (seat_now (what view)) ≡ true → Quiet s (what view)
       → Operates (holds key) (ways key) view shown o (TurnTold t (Finds s) false (Some c) key view)
   -- the first step of a call by a holder that writes, after which it does not
   pub gives : (key : Opening V) (view : Option (Numbered (Seat C L))) (x : V) (c : C) (h : Hold) (o : Operation)
-      → o ≡ operation_by ((t key.value).act c ((t key.value).start c (Some h)) (Some h)) → what view ≡ Some (Holding h) → ((t key.value).asks c (Some h)).begins (Some h) ≡ true
+      → o ≡ wrapped (operation_by ((t key.value).act c ((t key.value).start c (Some h)) (Some h))) → what view ≡ Some (Holding h) → ((t key.value).asks c (Some h)).begins (Some h) ≡ true
       → may_write h ≡ true → use_at s (Holding h) ≡ writes → Operates (holds key) (ways key) view (Some x) o (TurnTold t (Finds s) true (Some c) key view)
   -- a value that a party sees after a step is the one written last; so is one that it used before
   pub lasts : (key : Opening V) (view view' : Option (Numbered (Seat C L))) (before after : Option V) (seen : Watch (Entry C V)) → Keeps (ways key) view view' before after

@@ -34,9 +34,10 @@ pub trait Runs<T>: Rule<
     // What the word and the points of the table are in the plain lock.
     ghost meaning: { Meaning Self.Call Self.Point };
 
-    /// Returns the table.
+    /// Returns the table. It has no answer `Value`.
     fn table() -> Self::Table
-        ensures { result ≡ its };
+        ensures is { result ≡ its }
+        ensures given { Self.Table.given ≡ None };
 
     /// States that the cell runs the table.
     fn laws()

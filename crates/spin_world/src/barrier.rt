@@ -1,7 +1,6 @@
 //! The barrier, as a table of the steps of its call. Begin with [`BarrierObject::new`] and [`BarrierCall`].
 ghost use Rattle.std.specs.Prelude.{◌≡◌, true};
-ghost use Rattle.spin_step.specs.Acts.{step_by, can_by, refusal_by};
-ghost use Rattle.spin_world_core.specs.Stepping.{result_of, refusal_of};
+ghost use Rattle.spin_step.specs.Acts.{step_by, can_by};
 ghost use Rattle.spin_world.specs.BarrierTable.{barrier_memory, word_of, act_of, barrier_machine};
 ghost use Rattle.spin_world.specs.Barrier.{IsBarrierOf};
 
@@ -10,7 +9,7 @@ mod laws;
 pub use laws::{a_follower_leaves_a_full_group, every_last_of_a_group_leads};
 use spin_step_more::barrier;
 use spin_step_more::barrier::State;
-use spin_world_core::{Act, Answer, Hold, Next, Object};
+use spin_world_core::{Answer, Hold, Next, Object, Stepped};
 
 /// The two words of a [`BarrierObject`].
 #[derive(Clone, Copy, Debug, PartialEq, Eq)]
@@ -110,21 +109,20 @@ impl Object for BarrierObject {
         }
     }
 
-    fn next_act(
+    fn step(
         &self,
         words: BarrierWords,
         value: Option<u64>,
         call: BarrierCall,
         local: BarrierPoint,
         holds: Option<Hold>,
-    ) -> Act<BarrierWords, u64, BarrierPoint, Answer<u64>>
+    ) -> Stepped<BarrierWords, u64, BarrierPoint, Answer<u64>>
         requires { can_by barrier_memory (word_of local) (act_of self.now.n local holds) words ≡ true }
-        ensures step { result_of result words ≡ step_by barrier_memory (word_of local) (act_of self.now.n local holds) words }
-        ensures refusal { refusal_of result ≡ refusal_by (act_of self.now.n local holds) }
+        ensures { result ≡ step_by barrier_memory (word_of local) (act_of self.now.n local holds) words }
     {
         let _ = (value, call);
         let BarrierWords { count, generation } = words;
-        match local {
+        let (words, next) = match local {
             BarrierPoint::Arrive => {
                 let state = State {
                     n: self.n,
@@ -132,26 +130,38 @@ impl Object for BarrierObject {
                     generation,
                 };
                 let (after, leads) = barrier::arrive(state);
-                let words = BarrierWords {
-                    count: after.count,
-                    generation: after.generation,
-                };
                 let next = if leads {
                     Next::Answers(Answer::Leader, holds)
                 } else {
                     Next::Continue(BarrierPoint::Leave { generation })
                 };
-                Act::Store(words, next)
+                let State {
+                    count,
+                    generation,
+                    ..
+                } = after;
+                (BarrierWords { count, generation }, next)
             }
-            BarrierPoint::Leave { generation: found } => {
-                let next = if generation != found {
-                    Next::Answers(Answer::Follower, holds)
-                } else {
-                    Next::Continue(local)
-                };
-                Act::Load(next)
+            BarrierPoint::Leave { generation: found } if generation != found => {
+                (words, Next::Answers(Answer::Follower, holds))
             }
+            BarrierPoint::Leave { .. } => (words, Next::Continue(local)),
+        };
+        Stepped {
+            words,
+            placed: None,
+            next,
         }
+    }
+
+    fn refuse(
+        &self,
+        call: BarrierCall,
+        local: BarrierPoint,
+        holds: Option<Hold>,
+    ) -> Option<Next<BarrierPoint, Answer<u64>>> {
+        let _ = (call, local, holds);
+        None
     }
 
     fn laws() {}

@@ -1,15 +1,15 @@
-//! The lock of one flag, as a table of the steps of its calls. Begin with [`Flag::new`] and [`FlagCall`].
+//! The lock of one flag, played by its table. Begin with [`Flag::new`] and [`FlagCall`].
 ghost use Rattle.std.specs.Prelude.{◌≡◌, true};
-ghost use Rattle.spin_step.specs.Acts.{step_by, can_by, refusal_by};
+ghost use Rattle.spin_step.specs.Acts.{step_by, can_by};
 ghost use Rattle.spin_step.specs.FlagCalls.{flag_memory, act_of, flag_machine};
-ghost use Rattle.spin_world_core.specs.Stepping.{result_of, refusal_of};
 ghost use Rattle.spin_world.specs.Flag.{IsFlag};
 
 mod laws;
 
 pub use laws::a_flag_is_clear_when_nobody_holds;
-use spin_step::{FlagCall, FlagPoint, flag};
-use spin_world_core::{Act, Answer, Hold, Next, Object};
+use spin_step::stepping::{refused, stepped};
+use spin_step::{FlagCall, FlagPoint, FlagTable, Steps};
+use spin_world_core::{Answer, Hold, Next, Object, Stepped};
 
 /// The lock of one flag. The flag is set while a party holds the lock.
 #[derive(Clone, Copy, PartialEq, Eq)]
@@ -57,46 +57,31 @@ impl<V: Copy> Object for Flag<V> {
     }
 
     fn begin(&self, call: FlagCall, holds: Option<Hold>) -> Option<FlagPoint> {
-        match (call, holds) {
-            (FlagCall::Release, Some(Hold::Write)) => Some(FlagPoint::First),
-            (FlagCall::Release, _) => None,
-            (_, None) => Some(FlagPoint::First),
-            (_, Some(_)) => None,
-        }
+        <FlagTable as Steps<V, FlagCall, FlagPoint>>::start(&FlagTable, call, holds)
     }
 
-    fn next_act(
+    fn step(
         &self,
         words: bool,
         value: Option<V>,
         call: FlagCall,
         local: FlagPoint,
         holds: Option<Hold>,
-    ) -> Act<bool, V, FlagPoint, Answer<V>>
+    ) -> Stepped<bool, V, FlagPoint, Answer<V>>
         requires { can_by flag_memory 0 (act_of {V = V} call local holds) words ≡ true }
-        ensures step { result_of result words ≡ step_by flag_memory 0 (act_of call local holds) words }
-        ensures refusal { refusal_of result ≡ refusal_by (act_of {V = V} call local holds) }
+        ensures { result ≡ step_by flag_memory 0 (act_of call local holds) words }
     {
         let _ = value;
-        let granted = Next::Answers(Answer::Granted, Some(Hold::Write));
-        let refused = Next::Answers(Answer::Refused, holds);
-        match (call, local) {
-            (FlagCall::Lock, FlagPoint::First) => {
-                let lost = Next::Continue(FlagPoint::Second);
-                Act::WeakExchange(flag::lock(words), granted, lost)
-            }
-            (FlagCall::Lock, FlagPoint::Second) => Act::Load(Next::Continue(if words {
-                FlagPoint::Second
-            } else {
-                FlagPoint::First
-            })),
-            (FlagCall::TryLock, _) => Act::Exchange(flag::lock(words), granted, refused),
-            (FlagCall::TryLockWeak, _) => Act::WeakExchange(flag::lock(words), granted, refused),
-            (FlagCall::IsLocked, _) => Act::Load(Next::Answers(Answer::Is(words), holds)),
-            (FlagCall::Release, _) => {
-                Act::Store(flag::unlock(words), Next::Answers(Answer::Done, None))
-            }
-        }
+        stepped(&FlagTable, words, call, local, holds)
+    }
+
+    fn refuse(
+        &self,
+        call: FlagCall,
+        local: FlagPoint,
+        holds: Option<Hold>,
+    ) -> Option<Next<FlagPoint, Answer<V>>> {
+        refused(&FlagTable, call, local, holds)
     }
 
     fn laws() {}

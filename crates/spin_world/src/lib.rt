@@ -35,7 +35,7 @@ pub use spin_step::{
 pub use spin_step_more::rw_calls::{RwCall, RwPoint};
 pub use spin_step_more::{FairCall, FairPoint};
 pub use spin_world_core::{
-    Act, Answer, Event, Hold, Move, Next, Object, Outcome, Place, Seat, Transcript, World,
+    Answer, Event, Hold, Move, Next, Object, Outcome, Place, Seat, Stepped, Transcript, World,
     looks_find_the_last_write, looks_under_one_guard_agree, run_in_two, runs_are_one,
     two_runs_are_one,
 };

@@ -1,8 +1,7 @@
-//! The `Once`, as a table of the steps of its calls. Begin with [`OnceObject::new`] and [`OnceCall`].
+//! The `Once`, played by its table. Begin with [`OnceObject::new`] and [`OnceCall`].
 ghost use Rattle.std.specs.Prelude.{◌≡◌, Some, None, true};
-ghost use Rattle.spin_step.specs.Acts.{one_number, either, step_by, can_by, completes_by, filled, step_with};
-ghost use Rattle.spin_world_core.specs.Stepping.{result_of, refusal_of};
-ghost use Rattle.spin_step.specs.OnceCalls.{is_there, tells, runs, ends, brings_of, act_of, once_machine};
+ghost use Rattle.spin_step.specs.Acts.{one_number, step_by, can_by, completes_by, step_with};
+ghost use Rattle.spin_step.specs.OnceCalls.{brings_of, act_of, once_machine};
 ghost use Rattle.spin_world.specs.Once.{IsOnceOf};
 
 mod laws;
@@ -12,8 +11,9 @@ pub use laws::{
     a_value_is_answered_at_once, a_value_is_looked_at_where_it_is_complete, a_value_stays,
     one_closure_runs_at_a_time,
 };
-use spin_step::{OnceCall, OncePoint, once};
-use spin_world_core::{Act, Answer, Hold, Next, Object};
+use spin_step::stepping::stepped_with;
+use spin_step::{OnceCall, OncePoint, OnceTable, Steps};
+use spin_world_core::{Answer, Hold, Next, Object, Stepped};
 
 /// The cell that is filled once, by the first closure that gives a value.
 ///
@@ -63,68 +63,15 @@ impl<V: Copy> OnceObject<V> {
     }
 }
 
-/// Returns the end of a call that answers with the value, or with `NoValue`.
-fn tell<V: Copy>(value: Option<V>, holds: Option<Hold>) -> Next<OncePoint, Answer<V>>
-    ensures { result ≡ filled value (tells holds) }
+// Returns the value that the closure of the call gives, or `None` if the call has none or its closure fails.
+fn brings<V: Copy>(call: OnceCall<V>) -> Option<V>
+    ensures { result ≡ brings_of call }
 {
-    match value {
-        Some(value) => Next::Answers(Answer::Value(value), holds),
-        None => Next::Answers(Answer::NoValue, holds),
-    }
-}
-
-/// Returns what follows for a call that found this word: the value as its answer if there is one, otherwise `other`.
-fn look<V: Copy>(
-    words: u8,
-    value: Option<V>,
-    holds: Option<Hold>,
-    other: Next<OncePoint, Answer<V>>,
-) -> Next<OncePoint, Answer<V>>
-    ensures { result ≡ either (is_there words) (filled value (tells holds)) other }
-{
-    if words == 2 {
-        tell(value, holds)
-    } else {
-        other
-    }
-}
-
-/// Returns a step of a call with a closure. The closure gives the value `made`, or fails if `made` is `None`.
-fn run<V: Copy>(
-    words: u8,
-    value: Option<V>,
-    made: Option<V>,
-    local: OncePoint,
-    holds: Option<Hold>,
-) -> Act<u8, V, OncePoint, Answer<V>>
-    requires { can_by one_number 0 (runs (ends made holds) local holds) words ≡ true }
-    ensures step { result_of result words ≡ step_with value made (completes_by (runs (ends made holds) local holds)) (step_by one_number 0 (runs (ends made holds) local holds) words) }
-    ensures refusal { refusal_of result ≡ None }
-{
-    match local {
-        OncePoint::Look => {
-            let other = Next::Continue(OncePoint::TryBegin);
-            Act::Load(look(words, value, holds, other))
+    match call {
+        OnceCall::CallOnce(made) | OnceCall::TryCallOnceOk(made) | OnceCall::InitFromRef(made) => {
+            Some(made)
         }
-        OncePoint::TryBegin => {
-            let lost = look(words, value, holds, Next::Continue(OncePoint::Await));
-            Act::Exchange(once::begin(words), Next::Continue(OncePoint::Run), lost)
-        }
-        OncePoint::Await => {
-            let other = Next::Continue(if words == 0 {
-                OncePoint::TryBegin
-            } else {
-                OncePoint::Await
-            });
-            Act::Load(look(words, value, holds, other))
-        }
-        OncePoint::Run => match made {
-            Some(made) => {
-                let answer = Next::Answers(Answer::Value(made), holds);
-                Act::Complete(once::complete(words), made, answer)
-            }
-            None => Act::Store(once::fail(words), Next::Answers(Answer::Failed, holds)),
-        },
+        _ => None,
     }
 }
 
@@ -157,48 +104,35 @@ impl<V: Copy> Object for OnceObject<V> {
     }
 
     fn begin(&self, call: OnceCall<V>, holds: Option<Hold>) -> Option<OncePoint> {
-        let _ = call;
-        match holds {
-            None => Some(OncePoint::Look),
-            Some(_) => None,
-        }
+        <OnceTable as Steps<(), OnceCall<V>, OncePoint>>::start(&OnceTable, call, holds)
     }
 
-    fn next_act(
+    fn step(
         &self,
         words: u8,
         value: Option<V>,
         call: OnceCall<V>,
         local: OncePoint,
         holds: Option<Hold>,
-    ) -> Act<u8, V, OncePoint, Answer<V>>
+    ) -> Stepped<u8, V, OncePoint, Answer<V>>
         requires { can_by one_number 0 (act_of call local holds) words ≡ true }
-        ensures step { result_of result words ≡ step_with value (brings_of call) (completes_by (act_of call local holds)) (step_by one_number 0 (act_of call local holds) words) }
-        ensures refusal { refusal_of result ≡ None }
+        ensures { result ≡ step_with value (brings_of call) (completes_by (act_of call local holds)) (step_by one_number 0 (act_of call local holds) words) }
     {
-        match call {
-            OnceCall::CallOnce(made)
-            | OnceCall::TryCallOnceOk(made)
-            | OnceCall::InitFromRef(made) => run(words, value, Some(made), local, holds),
-            OnceCall::TryCallOnceErr => run(words, value, None, local, holds),
-            OnceCall::Wait => {
-                let other = Next::Continue(OncePoint::Look);
-                Act::Load(look(words, value, holds, other))
-            }
-            OnceCall::Poll => {
-                let other = if words == 0 {
-                    Next::Answers(Answer::NoValue, holds)
-                } else {
-                    Next::Continue(OncePoint::Look)
-                };
-                Act::Load(look(words, value, holds, other))
-            }
-            OnceCall::Get => {
-                let other = Next::Answers(Answer::NoValue, holds);
-                Act::Load(look(words, value, holds, other))
-            }
-            OnceCall::IsCompleted => Act::Load(Next::Answers(Answer::Is(words == 2), holds)),
-        }
+        let made = brings(call);
+        let completes = made.is_some() && matches!(local, OncePoint::Run);
+        stepped_with(
+            &OnceTable, words, value, made, completes, call, local, holds,
+        )
+    }
+
+    fn refuse(
+        &self,
+        call: OnceCall<V>,
+        local: OncePoint,
+        holds: Option<Hold>,
+    ) -> Option<Next<OncePoint, Answer<V>>> {
+        let _ = (call, local, holds);
+        None
     }
 
     fn laws() {}

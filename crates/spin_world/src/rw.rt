@@ -1,7 +1,6 @@
-//! The read-write lock, as a table of the steps of its calls. Begin with [`Rw::new`] and [`RwCall`].
+//! The read-write lock, played by its table. Begin with [`Rw::new`] and [`RwCall`].
 ghost use Rattle.std.specs.Prelude.{◌≡◌, ◌≤◌, true};
-ghost use Rattle.spin_step.specs.Acts.{one_number, step_by, can_by, refusal_by};
-ghost use Rattle.spin_world_core.specs.Stepping.{result_of, refusal_of};
+ghost use Rattle.spin_step.specs.Acts.{one_number, step_by, can_by};
 ghost use Rattle.spin_step_more.specs.RwCalls.{act_of, rw_machine};
 ghost use Rattle.spin_world.specs.Rw.{IsRw};
 
@@ -11,9 +10,11 @@ pub use laws::{
     a_downgrade_keeps_writers_out, a_word_is_zero_when_nobody_holds, an_upgrade_opens_by_releases,
     looks_agree_across_conversions, readers_stand_beside_no_writer,
 };
+use spin_step::Steps;
+use spin_step::stepping::{refused, stepped};
 use spin_step_more::rw;
-use spin_step_more::rw_calls::{RwCall, RwPoint};
-use spin_world_core::{Act, Answer, Hold, Next, Object};
+use spin_step_more::rw_calls::{RwCall, RwPoint, RwTable};
+use spin_world_core::{Answer, Hold, Next, Object, Stepped};
 
 /// The lock of readers, one upgradable reader and one writer, in one word.
 ///
@@ -81,100 +82,31 @@ impl<V: Copy> Object for Rw<V> {
     }
 
     fn begin(&self, call: RwCall, holds: Option<Hold>) -> Option<RwPoint> {
-        match (call, holds) {
-            (
-                RwCall::TryRead
-                | RwCall::Read
-                | RwCall::TryUpgradeableRead
-                | RwCall::UpgradeableRead
-                | RwCall::TryWrite
-                | RwCall::TryWriteWeak
-                | RwCall::Write
-                | RwCall::ReaderCount
-                | RwCall::WriterCount,
-                None,
-            )
-            | (
-                RwCall::TryUpgrade | RwCall::TryUpgradeWeak | RwCall::Upgrade | RwCall::Downgrade,
-                Some(Hold::Upgradable),
-            )
-            | (RwCall::Downgrade | RwCall::DowngradeToUpgradeable, Some(Hold::Write))
-            | (RwCall::Release, Some(Hold::Read | Hold::Upgradable | Hold::Write)) => {
-                Some(RwPoint::First)
-            }
-            _ => None,
-        }
+        <RwTable as Steps<V, RwCall, RwPoint>>::start(&RwTable { cap: self.cap }, call, holds)
     }
 
-    fn next_act(
+    fn step(
         &self,
         words: usize,
         value: Option<V>,
         call: RwCall,
         local: RwPoint,
         holds: Option<Hold>,
-    ) -> Act<usize, V, RwPoint, Answer<V>>
+    ) -> Stepped<usize, V, RwPoint, Answer<V>>
         requires { can_by one_number 0 (act_of {V = V} self.now.cap call local holds) words ≡ true }
-        ensures step { result_of result words ≡ step_by one_number 0 (act_of self.now.cap call local holds) words }
-        ensures refusal { refusal_of result ≡ refusal_by (act_of {V = V} self.now.cap call local holds) }
+        ensures { result ≡ step_by one_number 0 (act_of self.now.cap call local holds) words }
     {
         let _ = value;
-        let is_found = matches!(local, RwPoint::Exchange(found) if found == words);
-        let found = Next::Continue(RwPoint::Exchange(words));
-        let reading = Next::Answers(Answer::Granted, Some(Hold::Read));
-        let upgradable = Next::Answers(Answer::Granted, Some(Hold::Upgradable));
-        let granted = Next::Answers(Answer::Granted, Some(Hold::Write));
-        let refused = Next::Answers(Answer::Refused, holds);
-        let again = Next::Continue(RwPoint::First);
-        let asking = Next::Continue(RwPoint::Asking);
-        match call {
-            RwCall::TryRead => {
-                Act::retry(is_found, rw::read(words, self.cap), reading, found, refused)
-            }
-            RwCall::Read => Act::retry(is_found, rw::read(words, self.cap), reading, found, again),
-            RwCall::TryUpgradeableRead => {
-                let to = rw::upgradable(words, self.cap);
-                Act::retry(is_found, to, upgradable, found, refused)
-            }
-            RwCall::UpgradeableRead => {
-                let to = rw::upgradable(words, self.cap);
-                Act::retry(is_found, to, upgradable, found, again)
-            }
-            RwCall::TryWrite => Act::Exchange(rw::write(words), granted, refused),
-            RwCall::TryWriteWeak => Act::WeakExchange(rw::write(words), granted, refused),
-            RwCall::Write => Act::WeakExchange(rw::write(words), granted, again),
-            RwCall::ReaderCount => {
-                Act::Load(Next::Answers(Answer::Count(rw::readers(words)), holds))
-            }
-            RwCall::WriterCount => {
-                Act::Load(Next::Answers(Answer::Count(rw::writers(words)), holds))
-            }
-            RwCall::TryUpgrade => Act::Exchange(rw::upgrade(words), granted, refused),
-            RwCall::TryUpgradeWeak => Act::WeakExchange(rw::upgrade(words), granted, refused),
-            RwCall::Upgrade => match local {
-                RwPoint::Asking => Act::WeakExchange(rw::upgrade_asked(words), granted, asking),
-                _ => Act::Store(rw::ask(words), asking),
-            },
-            RwCall::Downgrade => {
-                let word = match holds {
-                    Some(Hold::Write) => rw::write_to_read(words),
-                    _ => rw::upgradable_to_read(words),
-                };
-                Act::Store(word, Next::Answers(Answer::Done, Some(Hold::Read)))
-            }
-            RwCall::DowngradeToUpgradeable => {
-                let done = Next::Answers(Answer::Done, Some(Hold::Upgradable));
-                Act::Store(rw::write_to_upgradable(words), done)
-            }
-            RwCall::Release => {
-                let word = match holds {
-                    Some(Hold::Read) => rw::release_read(words),
-                    Some(Hold::Upgradable) => rw::release_upgradable(words),
-                    _ => rw::release_write(words),
-                };
-                Act::Store(word, Next::Answers(Answer::Done, None))
-            }
-        }
+        stepped(&RwTable { cap: self.cap }, words, call, local, holds)
+    }
+
+    fn refuse(
+        &self,
+        call: RwCall,
+        local: RwPoint,
+        holds: Option<Hold>,
+    ) -> Option<Next<RwPoint, Answer<V>>> {
+        refused(&RwTable { cap: self.cap }, call, local, holds)
     }
 
     fn laws() {}

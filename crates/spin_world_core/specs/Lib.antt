@@ -9,4 +9,3 @@ pub mod Transcripts
 pub mod Values
 pub mod Lawful
 pub mod Joined
-pub mod Stepping

@@ -4,7 +4,6 @@
 //! add a lock, read [`Object`], which says what the lock has to show.
 #![tactic(auto)]
 
-mod act;
 mod laws;
 mod object;
 mod schedule;
@@ -12,12 +11,11 @@ mod table;
 mod telling;
 mod world;
 
-pub use act::Act;
 pub use laws::{
     looks_find_the_last_write, looks_under_one_guard_agree, runs_are_one, two_runs_are_one,
 };
 pub use object::Object;
 pub use schedule::Transcript;
-pub use spin_step::{Answer, Event, Hold, Move, Next, Outcome, Place, Seat};
+pub use spin_step::{Answer, Event, Hold, Move, Next, Outcome, Place, Seat, Stepped};
 pub use telling::{no_begins, with_begin};
 pub use world::{World, run_in_two};

@@ -1,13 +1,11 @@
-//! What a lock has to show to be played in a world. Begin with [`Object`]; its main method returns an [`Act`].
+//! What a lock has to show to be played in a world. Begin with [`Object`].
 ghost use Rattle.std.specs.Prelude.{◌≡◌, true};
 ghost use Rattle.spin_step.specs.Machines.{Machine};
 ghost use Rattle.spin_world_core.specs.Lawful.{Lawful};
-ghost use Rattle.spin_world_core.specs.Stepping.{result_of, refusal_of};
 
-use crate::act::Act;
-use spin_step::Hold;
+use spin_step::{Hold, Next, Stepped};
 
-/// A lock in the world, as its words and a table of the steps of its calls.
+/// A lock in the world, as its words and the steps of its calls.
 ///
 /// # Contract
 /// Each method agrees with the object's `machine`. The machine also says what each step does to the plain lock. Callers
@@ -60,24 +58,33 @@ pub trait Object: Drop {
     fn begin(&self, call: Self::Call, holds: Option<Hold>) -> Option<Self::Local>
         ensures { result ≡ (machine self.now).begin call holds };
 
-    /// Returns the next step of the call, for these words and this value. This method is the table of the object. The
-    /// step depends only on the object and the arguments.
+    /// Returns the outcome of the call's next step, for these words and this value. It depends only on the object and
+    /// the arguments. [`stepped`](spin_step::stepping::stepped) gives it for a lock whose table is written as code.
     ///
     /// # Contract
-    /// The step has to be possible (`can` of the machine). Its result is then that of `step` of the machine
-    /// (`result_of`). It may fail spuriously if `refuse` of the machine says how the call then continues
-    /// (`refusal_of`).
-    fn next_act(
+    /// The step has to be possible (`can` of the machine). The outcome is that of `step` of the machine.
+    fn step(
         &self,
         words: Self::Words,
         value: Option<Self::Value>,
         call: Self::Call,
         local: Self::Local,
         holds: Option<Hold>,
-    ) -> Act<Self::Words, Self::Value, Self::Local, Self::Answer>
+    ) -> Stepped<Self::Words, Self::Value, Self::Local, Self::Answer>
         requires { (machine self.now).can words call local holds ≡ true }
-        ensures step { result_of result words ≡ (machine self.now).step words value call local holds }
-        ensures refusal { refusal_of result ≡ (machine self.now).refuse call local holds };
+        ensures { result ≡ (machine self.now).step words value call local holds };
+
+    /// Returns how the call goes on after its next step failed spuriously, or `None` if that step cannot.
+    ///
+    /// # Contract
+    /// It is `refuse` of the machine.
+    fn refuse(
+        &self,
+        call: Self::Call,
+        local: Self::Local,
+        holds: Option<Hold>,
+    ) -> Option<Next<Self::Local, Self::Answer>>
+        ensures { result ≡ (machine self.now).refuse call local holds };
 
     /// States that all laws hold of every object of the type, over every schedule (`Lawful`).
     fn laws()

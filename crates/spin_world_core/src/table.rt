@@ -1,13 +1,11 @@
 //! The words, the value and the seats of a world. Begin with [`Table::act`], which makes one move.
 ghost use Rattle.std.specs.Prelude.{◌≡◌, ◌<◌, Some, IfOk, length, map, replicate, slice_get, option_map};
 ghost use Rattle.spin_step.specs.declared.place.Seat.TheVariants.{Idle};
-ghost use Rattle.spin_step.specs.Schedules.{at_first, seated, let_go, seen_by_owner, resting, may_read, may_write, begun, begins, steps, weakly, reads, writes, leaks, owner_gets, owner_writes, owner_sets, goes_on, is_owners, moves, happens, placed, place_of};
+ghost use Rattle.spin_step.specs.Schedules.{at_first, seated, let_go, seen_by_owner, resting, may_read, may_write, begun, begins, steps, weakly, reads, writes, leaks, owner_gets, owner_writes, owner_sets, goes_on, is_owners, moves, happens, place_of};
 ghost use Rattle.spin_step.specs.Acts.{either};
 ghost use Rattle.spin_world_core.specs.Sharing.{shares, has_leaked};
 ghost use Rattle.spin_world_core.specs.Runs.{CanStep};
-ghost use Rattle.spin_world_core.specs.Stepping.{result_of};
 
-use crate::act::Act;
 use crate::object::Object;
 use spin_step::{Hold, Move, Next, Outcome, Place, Seat};
 use std::alloc::{AllocError, Allocator};
@@ -247,7 +245,6 @@ impl<O: Object, A: Allocator> Table<O, A> {
     }
 
     /// Makes the next step of the party's call. If `is_weak`, that step fails spuriously, or is skipped if it cannot.
-    // `next_act` is called at one place, so that the compiler inlines it and builds no `Act`.
     fn step(
         &mut self,
         object: &O,
@@ -264,46 +261,20 @@ impl<O: Object, A: Allocator> Table<O, A> {
         let Seat::Calling(call, local, holds) = seat else {
             return Outcome::Skipped;
         };
-        let act = object.next_act(self.words, self.value, call, local, holds);
         let next = if is_weak {
-            let Act::WeakExchange(_, _, lost) = act else {
-                return Outcome::Skipped;
-            };
-            lost
+            match object.refuse(call, local, holds) {
+                None => return Outcome::Skipped,
+                Some(next) => next,
+            }
         } else {
-            self.make(act)
+            let made = object.step(self.words, self.value, call, local, holds);
+            self.words = made.words;
+            if made.placed.is_some() {
+                self.value = made.placed;
+            }
+            made.next
         };
         self.go_on(party, call, holds, next)
-    }
-
-    /// Makes the step, and returns how its call continues.
-    fn make(
-        &mut self,
-        act: Act<O::Words, O::Value, O::Local, O::Answer>,
-    ) -> Next<O::Local, O::Answer>
-        ensures next { result ≡ (result_of act self.old.words).next }
-        ensures table { let made = result_of act self.old.words in
-            self.new ≡ record self.old { words = made.words; value = placed made.placed self.old.value } }
-    {
-        match act {
-            Act::Load(next) => next,
-            Act::Store(words, next) => {
-                self.words = words;
-                next
-            }
-            Act::Complete(words, value, next) => {
-                self.words = words;
-                self.value = Some(value);
-                next
-            }
-            Act::Exchange(to, won, lost) | Act::WeakExchange(to, won, lost) => match to {
-                None => lost,
-                Some(words) => {
-                    self.words = words;
-                    won
-                }
-            },
-        }
     }
 
     fn go_on(

@@ -1,13 +1,13 @@
-//! The lock of seats, as a table of the steps of its calls. Begin with [`Seats::new`].
+//! The lock of seats, played by its table. Begin with [`Seats::new`].
 ghost use Rattle.std.specs.Prelude.{◌≡◌, true};
-ghost use Rattle.spin_step.specs.Acts.{one_number, step_by, can_by, refusal_by};
-ghost use Rattle.spin_world_core.specs.Stepping.{result_of, refusal_of};
+ghost use Rattle.spin_step.specs.Acts.{one_number, step_by, can_by};
 ghost use Rattle.spin_seats.specs.Table.{act_of, seats_machine};
 ghost use Rattle.spin_world_seats.specs.Named.{IsSeats};
 
-use spin_seats::calls::{SeatsCall, SeatsPoint};
-use spin_seats::steps;
-use spin_world_core::{Act, Answer, Hold, Next, Object};
+use spin_seats::calls::{SeatsCall, SeatsPoint, SeatsTable};
+use spin_step::Steps;
+use spin_step::stepping::{refused, stepped};
+use spin_world_core::{Answer, Hold, Next, Object, Stepped};
 
 /// The lock with a number of seats. Its value is `()`.
 ///
@@ -71,38 +71,31 @@ impl Object for Seats {
     }
 
     fn begin(&self, call: SeatsCall, holds: Option<Hold>) -> Option<SeatsPoint> {
-        match (call, holds) {
-            (SeatsCall::TryEnter | SeatsCall::Enter | SeatsCall::Count, None)
-            | (SeatsCall::Leave, Some(Hold::Read)) => Some(SeatsPoint::First),
-            _ => None,
-        }
+        SeatsTable { seats: self.seats }.start(call, holds)
     }
 
-    fn next_act(
+    fn step(
         &self,
         words: usize,
         value: Option<()>,
         call: SeatsCall,
         local: SeatsPoint,
         holds: Option<Hold>,
-    ) -> Act<usize, (), SeatsPoint, Answer<()>>
+    ) -> Stepped<usize, (), SeatsPoint, Answer<()>>
         requires { can_by one_number 0 (act_of self.now.seats call local holds) words ≡ true }
-        ensures step { result_of result words ≡ step_by one_number 0 (act_of self.now.seats call local holds) words }
-        ensures refusal { refusal_of result ≡ refusal_by (act_of self.now.seats call local holds) }
+        ensures { result ≡ step_by one_number 0 (act_of self.now.seats call local holds) words }
     {
         let _ = value;
-        let to = steps::enter(words, self.seats);
-        let is_found = matches!(local, SeatsPoint::Exchange(found) if found == words);
-        let found = Next::Continue(SeatsPoint::Exchange(words));
-        let granted = Next::Answers(Answer::Granted, Some(Hold::Read));
-        let refused = Next::Answers(Answer::Refused, holds);
-        let again = Next::Continue(SeatsPoint::First);
-        match call {
-            SeatsCall::TryEnter => Act::retry(is_found, to, granted, found, refused),
-            SeatsCall::Enter => Act::retry(is_found, to, granted, found, again),
-            SeatsCall::Count => Act::Load(Next::Answers(Answer::Count(words), holds)),
-            SeatsCall::Leave => Act::Store(steps::leave(words), Next::Answers(Answer::Done, None)),
-        }
+        stepped(&SeatsTable { seats: self.seats }, words, call, local, holds)
+    }
+
+    fn refuse(
+        &self,
+        call: SeatsCall,
+        local: SeatsPoint,
+        holds: Option<Hold>,
+    ) -> Option<Next<SeatsPoint, Answer<()>>> {
+        refused(&SeatsTable { seats: self.seats }, call, local, holds)
     }
 
     fn laws() {}

@@ -4,12 +4,11 @@
 //! Begin with [`Dispenser::new`].
 ghost use Rattle.std.specs.Prelude.{◌≡◌, true};
 ghost use Rattle.spin_world_core.specs.Runs.{Always};
-ghost use Rattle.spin_step.specs.Acts.{one_number, step_by, can_by, refusal_by};
-ghost use Rattle.spin_world_core.specs.Stepping.{result_of, refusal_of};
+ghost use Rattle.spin_step.specs.Acts.{one_number, step_by, can_by};
 ghost use Rattle.spin_world_tests.specs.declared.dispenser.Dispenser.{Dispenser};
 ghost use Rattle.spin_world_tests.specs.Dispenser.{next_after, act_of, dispenser_machine, IsDispenser, DrawsInOrder};
 
-use spin_world_core::{Act, Hold, Next, Object};
+use spin_world_core::{Hold, Next, Object, Stepped};
 
 /// A call of a [`Dispenser`].
 #[derive(Clone, Copy)]
@@ -107,37 +106,48 @@ impl Object for Dispenser {
         }
     }
 
-    fn next_act(
+    fn step(
         &self,
         words: u64,
         value: Option<()>,
         call: DispenserCall,
         local: DispenserPoint,
         holds: Option<Hold>,
-    ) -> Act<u64, (), DispenserPoint, DispenserAnswer>
+    ) -> Stepped<u64, (), DispenserPoint, DispenserAnswer>
         requires { can_by one_number 0 (act_of self.now.cap call local holds) words ≡ true }
-        ensures step { result_of result words ≡ step_by one_number 0 (act_of self.now.cap call local holds) words }
-        ensures refusal { refusal_of result ≡ refusal_by (act_of self.now.cap call local holds) }
+        ensures { result ≡ step_by one_number 0 (act_of self.now.cap call local holds) words }
     {
         let _ = value;
         let drawn = Next::Answers(DispenserAnswer::Drawn(words), Some(Hold::Read));
-        let next = next_after(self.cap, words);
-        match call {
-            DispenserCall::Count => {
-                Act::Load(Next::Answers(DispenserAnswer::Count(words), holds))
+        let (words, next) = match (call, next_after(self.cap, words)) {
+            (DispenserCall::Count, _) => {
+                (words, Next::Answers(DispenserAnswer::Count(words), holds))
             }
-            DispenserCall::DrawThis(number) => {
-                let to = if number == words { next } else { None };
-                Act::Exchange(to, drawn, Next::Answers(DispenserAnswer::NotNext, holds))
+            (DispenserCall::DrawThis(number), Some(after)) if number == words => (after, drawn),
+            (DispenserCall::DrawThis(_), _) => {
+                (words, Next::Answers(DispenserAnswer::NotNext, holds))
             }
-            DispenserCall::Draw => Act::retry(
-                matches!(local, DispenserPoint::Exchange(found) if found == words),
-                next,
-                drawn,
-                Next::Continue(DispenserPoint::Exchange(words)),
-                Next::Answers(DispenserAnswer::SoldOut, holds),
-            ),
+            (DispenserCall::Draw, None) => (words, Next::Answers(DispenserAnswer::SoldOut, holds)),
+            (DispenserCall::Draw, Some(after)) => match local {
+                DispenserPoint::Exchange(found) if found == words => (after, drawn),
+                _ => (words, Next::Continue(DispenserPoint::Exchange(words))),
+            },
+        };
+        Stepped {
+            words,
+            placed: None,
+            next,
         }
+    }
+
+    fn refuse(
+        &self,
+        call: DispenserCall,
+        local: DispenserPoint,
+        holds: Option<Hold>,
+    ) -> Option<Next<DispenserPoint, DispenserAnswer>> {
+        let _ = (call, local, holds);
+        None
     }
 
     fn laws() {}

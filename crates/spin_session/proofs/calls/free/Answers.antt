@@ -7,6 +7,7 @@ use Rattle.spin_core.specs.Passes.{mark_of}
 use Rattle.spin_core.specs.Spots.{Releases}
 use Rattle.spin_core.specs.Traced.{Named}
 use Rattle.spin_step.specs.Acts.{operation_by}
+use Rattle.spin_step.specs.Operations.{wrapped}
 use Rattle.spin_step.specs.declared.answer.Answer.TheVariants.{Done}
 use Rattle.spin_step.specs.declared.place.Seat.TheVariants.{Holding}
 use Rattle.spin_session.specs.Meaning.{Finds, use_at, model_at}
@@ -23,8 +24,8 @@ pub operate-permit-requires-clause-keeps : goal.operate-permit-requires-clause-k
 operate-permit-requires-clause-keeps g c =
     let a = c.args in let it = c.into_permit-permit in let p = it.result in let t = g.P.Table.Steps.table g.P.Runs.its in let b = (Finds g.P.Runs.meaning) in let call = a.call in let o = c.operation-operation in
     let begins : ((t p.key.value).asks call (Some a.holds)).begins (Some a.holds) ≡ true = rw it.ensures.key c.requires.begins in
-    let start : c.in-Some.point ≡ (t p.key.value).start call (Some a.holds) = starts_at (t p.key.value) call (Some a.holds) c.in-Some.point begins (sym c.in-Some.is ∙ rw c.table-table.ensures at (c.start.ensures p.key.value)) in
-    let same : o.result ≡ operation_by ((t p.key.value).act call ((t p.key.value).start call (Some a.holds)) (Some a.holds)) = rw (start, c.table-table.ensures) at (o.ensures p.key.value) in
+    let start : c.in-Some.point ≡ (t p.key.value).start call (Some a.holds) = starts_at (t p.key.value) call (Some a.holds) c.in-Some.point begins (sym c.in-Some.is ∙ rw c.table-table.ensures.is at (c.start.ensures p.key.value)) in
+    let same : o.result ≡ wrapped (operation_by ((t p.key.value).act call ((t p.key.value).start call (Some a.holds)) (Some a.holds))) = rw (start, c.table-table.ensures.is) at (o.ensures.operation p.key.value) in
     let seat = c.requires.alone a.writer.view.0 (sym (c.laws.ensures.uses a.writer.key (Some a.writer.view)) ∙ it.ensures.use_of_view) in
     let is : what p.view ≡ Some (Holding a.holds) = ap what it.ensures.same.0 ∙ ap Some seat in
     let may : ((t p.key.value).asks call (Some a.holds)).begins (Some a.holds) ≡ true = rw it.ensures.key c.requires.begins in
@@ -78,4 +79,4 @@ pub unreachable-requires : goal.unreachable-requires
 unreachable-requires g c =
     let a = c.args in let p = c.into_permit-permit.result in let t = g.P.Table.Steps.table g.P.Runs.its in
     let begins : ((t p.key.value).asks a.call (Some a.holds)).begins (Some a.holds) ≡ true = rw c.into_permit-permit.ensures.key c.requires.begins in
-    begins_so (t p.key.value) a.call (Some a.holds) begins (sym c.in-None.is ∙ rw c.table-table.ensures at (c.start.ensures p.key.value))
+    begins_so (t p.key.value) a.call (Some a.holds) begins (sym c.in-None.is ∙ rw c.table-table.ensures.is at (c.start.ensures p.key.value))
