@@ -10,7 +10,7 @@ use Rattle.spin_step.specs.declared.place.Seat.{Seat}
 use Rattle.spin_step.specs.declared.place.Seat.TheVariants.{Holding}
 use Rattle.spin_session.specs.Meaning as session
 use Rattle.spin_seats.specs.Meaning.{seats_meaning}
-use Rattle.spin_seats.specs.Table.{SeatsTable, SeatsMachine, seats_table, seats_machine}
+use Rattle.spin_seats.specs.Table.{TableOfSeats, SeatsMachine, seats_table, seats_machine}
 use Rattle.spin_seats.specs.declared.calls.SeatsCall.{SeatsCall}
 use Rattle.spin_seats.specs.declared.calls.SeatsPoint.{SeatsPoint}
 
@@ -21,7 +21,7 @@ View = Seat SeatsCall SeatsPoint
 abbrev pub Done : Type 0
 Done = Entry SeatsCall (Unit {0})
 
-abbrev pub table_of : ℕ → Unit {0} → SeatsTable
+abbrev pub table_of : ℕ → Unit {0} → TableOfSeats
 table_of n value = seats_table n
 
 abbrev pub model : ℕ → SeatsMachine

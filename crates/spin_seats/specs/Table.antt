@@ -47,10 +47,10 @@ asks_of call.Enter h = waits to_read
 asks_of call.Count h = counts_readers
 asks_of call.Leave h = gives_back is_read h
 
-abbrev pub SeatsTable : Type 0
-SeatsTable = Table ℕ (Unit {0}) SeatsCall SeatsPoint (Answer (Unit {0}))
+abbrev pub TableOfSeats : Type 0
+TableOfSeats = Table ℕ (Unit {0}) SeatsCall SeatsPoint (Answer (Unit {0}))
 
-abbrev pub seats_table : ℕ → SeatsTable
+abbrev pub seats_table : ℕ → TableOfSeats
 seats_table n = record (usual_table (Some tt) kind.seats 0 one_number (λ c h. First) (act_of n) asks_of) { cap = seats n }
 
 abbrev pub SeatsMachine : Type 0

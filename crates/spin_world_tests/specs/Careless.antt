@@ -14,7 +14,7 @@ use Rattle.spin_seats.specs.declared.calls.SeatsCall.{SeatsCall}
 use Rattle.spin_seats.specs.declared.calls.SeatsCall.TheVariants as call
 use Rattle.spin_seats.specs.declared.calls.SeatsPoint.{SeatsPoint}
 use Rattle.spin_seats.specs.declared.calls.SeatsPoint.TheVariants.{First, Exchange}
-use Rattle.spin_seats.specs.Table.{SeatsTable, SeatsMachine, seats_table, act_of, asks_of, comes_by}
+use Rattle.spin_seats.specs.Table.{TableOfSeats, SeatsMachine, seats_table, act_of, asks_of, comes_by}
 
 -- the call waits, and what it asks never counts as open
 abbrev pub enters_never : Asked
@@ -46,8 +46,8 @@ careless_act call.TryEnter l h = comes_by 2 (Continue First) l
 careless_act call.Count l h = load (λ w. Answers (Count 7) h)
 careless_act c l h = act_of 2 c l h
 
-abbrev pub careless_table : SeatsTable
-careless_table = let t : SeatsTable = seats_table 2 in record t { lock_kind = careless; act = careless_act; asks = careless_asks }
+abbrev pub careless_table : TableOfSeats
+careless_table = let t : TableOfSeats = seats_table 2 in record t { lock_kind = careless; act = careless_act; asks = careless_asks }
 
 abbrev pub careless_machine : SeatsMachine
 careless_machine = machine_of careless_table

@@ -16,7 +16,7 @@ use Rattle.spin_step.specs.declared.schedule.Move.TheVariants.{Begin, Step, Weak
 use Rattle.spin_step.specs.Calls.{Asked}
 use Rattle.spin_step.specs.Acts.{Act, load, exchange, retry, store, section, machine_of}
 use Rattle.spin_step.specs.declared.table.Operation.TheVariants as op
-use Rattle.spin_seats.specs.Table.{granted, goes_for, comes_by, act_of, asks_of, SeatsTable, seats_table, SeatsMachine, seats_machine}
+use Rattle.spin_seats.specs.Table.{granted, goes_for, comes_by, act_of, asks_of, TableOfSeats, seats_table, SeatsMachine, seats_machine}
 use Rattle.spin_step.specs.Asks.{waits, gives_back}
 
 abbrev SeatsAct : Type 0
@@ -27,7 +27,7 @@ Entries = List (ℕ × Move SeatsCall (Unit {0}))
 
 -- a lock with n seats, with these steps instead of its own
 abbrev with_steps : ℕ → (SeatsCall → SeatsPoint → Option Hold → SeatsAct → SeatsAct) → SeatsMachine
-with_steps n steps = let t : SeatsTable = seats_table n in machine_of (record t { act = λ c l h. steps c l h (act_of n c l h) })
+with_steps n steps = let t : TableOfSeats = seats_table n in machine_of (record t { act = λ c l h. steps c l h (act_of n c l h) })
 
 -- the party begins a `try_enter`, and makes two steps
 abbrev takes_a_seat : ℕ → Entries
@@ -94,13 +94,13 @@ nobody_leaves = let m : SeatsMachine = seats_machine 2 in record m { begin = λ 
 -- `enter` does what `try_enter` does
 abbrev pub enters_or_not : SeatsMachine
 enters_or_not =
-    let t : SeatsTable = seats_table 2 in
+    let t : TableOfSeats = seats_table 2 in
     let as_try : SeatsCall → SeatsCall = λ c. elim c [ call.Enter ↦ call.TryEnter | other ↦ other ] in
     machine_of (record t { act = λ c l h. act_of 2 (as_try c) l h; asks = λ c h. asks_of (as_try c) h })
 
 -- the word says at first that a seat is taken, but no party has a seat
 abbrev pub opens_taken : SeatsMachine
-opens_taken = let t : SeatsTable = seats_table 2 in machine_of (record t { words = 1 })
+opens_taken = let t : TableOfSeats = seats_table 2 in machine_of (record t { words = 1 })
 
 -- a lock without seats, on which one party can sit
 abbrev pub seats_one_on_none : SeatsMachine
@@ -122,7 +122,7 @@ slow_enter = record (waits to_read) { undisturbed_steps = 1000 }
 -- `enter` looks again and again, and promises its answer in a thousand steps
 abbrev pub looks_on : SeatsMachine
 looks_on =
-    let t : SeatsTable = seats_table 2 in
+    let t : TableOfSeats = seats_table 2 in
     machine_of (record t {
       asks = λ c h. elim c [ call.Enter ↦ slow_enter | other ↦ asks_of other h ];
       act = λ c l h. elim c [ call.Enter ↦ load (λ w. Continue First) | other ↦ act_of 2 other l h ];
@@ -133,7 +133,7 @@ enter_in_vain = (0, Begin call.Enter) ∷ (0, Step) ∷ (0, Step) ∷ (0, Step) 
 
 -- by the promise of `leave`, no party may begin this call
 abbrev pub keeps_all : SeatsMachine
-keeps_all = let t : SeatsTable = seats_table 2 in machine_of (record t { asks = λ c h. elim c [ call.Leave ↦ gives_back (λ hold. false) h | other ↦ asks_of other h ] })
+keeps_all = let t : TableOfSeats = seats_table 2 in machine_of (record t { asks = λ c h. elim c [ call.Leave ↦ gives_back (λ hold. false) h | other ↦ asks_of other h ] })
 
 -- `enter` loads the word again when its exchange has failed
 abbrev pub enters_anew : SeatsMachine
