@@ -71,6 +71,11 @@ impl Steps<(), SeatsCall, SeatsPoint> for SeatsTable {
         }
     }
 
+    fn place(&self, point: SeatsPoint) -> usize {
+        let _ = point;
+        0
+    }
+
     fn operation(&self, call: SeatsCall, point: SeatsPoint, holds: Option<Hold>) -> Operation {
         let _ = holds;
         match (call, point) {

@@ -1,8 +1,8 @@
 -- A step of a table whose words are one number is its operation, and what follows the number found.
-use Rattle.std.proofs.Common.{◌≡◌, ℕ, ◌==◌, Bool, true, false, Option, Some, None, is_some, refl, ap, ◌∙◌, arith}
+use Rattle.std.proofs.Common.{◌≡◌, ℕ, false, refl, ap, arith}
 use Rattle.spin_step.specs.declared.stepped.Next.{Next}
 use Rattle.spin_step.specs.Operations.{performed}
-use Rattle.spin_step.specs.Acts.{Memory, Act, load, load_if, load_for, enter, exchange, weak_exchange, attempt, retry, store, section, is_section, stays, step_at, step_by, operation_by, one_number}
+use Rattle.spin_step.specs.Acts.{Act, load, load_if, load_for, enter, exchange, weak_exchange, attempt, retry, store, section, is_section, stays, step_at, step_by, operation_by, one_number}
 
 -- how the call goes on after a step that finds the number n
 abbrev pub next_at : {L A : Type 0} → Act ℕ L A → ℕ → ℕ → Next L A

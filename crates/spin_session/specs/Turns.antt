@@ -6,12 +6,12 @@ use Rattle.spin_step.specs.declared.answer.Answer.{Answer}
 use Rattle.spin_step.specs.declared.answer.Answer.TheVariants.{Granted, Refused, Done}
 use Rattle.spin_step.specs.declared.place.Hold.{Hold}
 use Rattle.spin_step.specs.declared.place.Seat.{Seat}
-use Rattle.spin_step.specs.declared.place.Seat.TheVariants.{Idle, Calling, Holding}
+use Rattle.spin_step.specs.declared.place.Seat.TheVariants.{Calling, Holding}
 use Rattle.spin_step.specs.declared.schedule.Outcome.TheVariants.{Answered, GoingOn}
 use Rattle.spin_step.specs.declared.stepped.Next.{Next}
 use Rattle.spin_step.specs.declared.stepped.Next.TheVariants.{Continue, Answers}
 use Rattle.spin_step.specs.Schedules.{Entry, resting}
-use Rattle.spin_core.specs.Cell.{Use, writes, use_of}
+use Rattle.spin_core.specs.Cell.{writes, use_of}
 use Rattle.spin_core.specs.Own as own
 use Rattle.spin_core.specs.Own.{Numbered, what}
 use Rattle.spin_core.specs.Passes as passes
@@ -20,8 +20,7 @@ use Rattle.spin_core.specs.Spots as spots
 use Rattle.spin_core.specs.Spots.{Stepped, HasCalled, IsIn}
 use Rattle.spin_core.specs.Values.{IsLast}
 use Rattle.spin_core.specs.declared.tie.Opening.{Opening}
-use Rattle.spin_core.specs.declared.trace.Watch.{Watch}
-use Rattle.spin_session.specs.Meaning.{Meaning, Finds, use_at, rests_at, seat_now, seat_after, words_of, model_at}
+use Rattle.spin_session.specs.Meaning.{Meaning, FindsAt, use_at, rests_at, seat_now, seat_after, words_of, model_at}
 use Rattle.spin_session.specs.declared.session.Session.{Session}
 
 abbrev pub outcome_of : {L V : Type 0} → Next L (Answer V) → Ending V
@@ -42,13 +41,13 @@ abbrev pub has_begun : {C L : Type 0} → Option (Seat C L) → Bool
 has_begun (Some (Calling c l h)) = true
 has_begun _ = false
 
-module _ {W V C L : Type 0} (t : Table W V C L (Answer V)) (bounds : ℕ → Type 0) where
+module _ {W V C L : Type 0} (t : Table W V C L (Answer V)) (s : Meaning C L) where
   abbrev pub Says : Type 1
   Says = passes.Says V C (Answer V) (Seat C L)
 
   -- the step of the call c at this point; it is the call's first if `goes_on` is false
   abbrev pub turn : Bool → C → L → Option Hold → Says
-  turn goes_on c l h mine outs n v = step_by goes_on c (λ k. outcome_of (next_of t c l h k)) (λ k. seat_after c h (next_of t c l h k)) mine outs n v × bounds n
+  turn goes_on c l h mine outs n v = step_by goes_on c (λ k. outcome_of (next_of t c l h k)) (λ k. seat_after c h (next_of t c l h k)) mine outs n v × FindsAt s (t.word l) n
 
   -- the next step of a party in a call; a party in no call begins the call c
   abbrev pub turn_from : C → Seat C L → Says
@@ -83,8 +82,8 @@ abbrev pub spot : {V P C L S : Type 0} → Session V (Numbered (Seat C L)) (Entr
 spot it = (it.permit.key, it.permit.view, it.seen)
 
 module _ {W V C L : Type 0} (t : V → Table W V C L (Answer V)) where
-  abbrev pub TurnTold : (ℕ → Type 0) → Bool → Option C → Opening V → Option (Numbered (Seat C L)) → List (Entry C V) → List (Entry C V) → ℕ → Numbered (Seat C L) → Type 0
-  TurnTold bounds gives c key before = Told (t key.value) bounds (turn_by (t key.value) bounds gives c (what before)) before
+  abbrev pub TurnTold : Meaning C L → Bool → Option C → Opening V → Option (Numbered (Seat C L)) → List (Entry C V) → List (Entry C V) → ℕ → Numbered (Seat C L) → Type 0
+  TurnTold s gives c key before = Told (t key.value) s (turn_by (t key.value) s gives c (what before)) before
 
   abbrev pub IsAt : C → L → Option Hold → Opening V → Option (Seat C L) → Type 0
   IsAt c l h key = IsAtPoint (t key.value) c l h
@@ -134,11 +133,11 @@ module _ {W V C L : Type 0} (t : V → Table W V C L (Answer V)) (s : Meaning C 
 
   -- so the party has been answered, by a step that found this number, and holds `after`
   abbrev pub Ended : C → Option Hold → Answer (Unit {0}) → Option Hold → Spot V C L → Spot V C L → Type 0
-  Ended c h a after p q = Calls t c a p q × (seat_now (what q.1) ≡ resting after) × ((l : L) × (n : ℕ) × (next_of (t p.0.value) c l h n ≡ Answers (with_value a None) after) × Finds s n)
+  Ended c h a after p q = Calls t c a p q × (seat_now (what q.1) ≡ resting after) × ((l : L) × (n : ℕ) × (next_of (t p.0.value) c l h n ≡ Answers (with_value a None) after) × FindsAt s ((t p.0.value).word l) n)
 
   -- the step of this call at this point found this number, which is in bounds, and so the call goes on so
   abbrev pub GoesBy : C → L → Option Hold → ℕ → Next L (Answer (Unit {0})) → Opening V → Type 0
-  GoesBy c l h n next key = (filled None next ≡ next_of (t key.value) c l h n) × Finds s n
+  GoesBy c l h n next key = (filled None next ≡ next_of (t key.value) c l h n) × FindsAt s ((t key.value).word l) n
 
   -- from p to q the party has begun this call, and made steps of it, after which the call goes on so
   abbrev pub Comes : C → Option Hold → Next L (Answer (Unit {0})) → Spot V C L → Spot V C L → Type 0
@@ -150,7 +149,7 @@ module _ {W V C L : Type 0} (t : V → Table W V C L (Answer V)) (s : Meaning C 
 
   -- the first step of this call has this answer, for some word that is in bounds; the party holds the same
   abbrev pub Tells : C → Option Hold → Answer (Unit {0}) → Opening V → Type 0
-  Tells c h a key = (n : ℕ) × (next_of (t key.value) c ((t key.value).start c h) h n ≡ Answers (with_value a None) h) × Finds s n
+  Tells c h a key = (n : ℕ) × (next_of (t key.value) c ((t key.value).start c h) h n ≡ Answers (with_value a None) h) × FindsAt s ((t key.value).word ((t key.value).start c h)) n
 
 module _ {W V C L : Type 0} (t : V → Table W V C L (Answer V)) where
   -- the party's call goes on, after a step at this point that found this number

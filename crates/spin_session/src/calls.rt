@@ -11,10 +11,11 @@ ghost use Rattle.spin_step.specs.declared.place.Seat.TheVariants.{Idle, Holding}
 ghost use Rattle.spin_step.specs.declared.answer.Answer.{Answer as AnAnswer};
 ghost use Rattle.spin_step.specs.declared.answer.Answer.TheVariants.{Granted, Refused, Done};
 ghost use Rattle.spin_step.specs.declared.place.Hold.{Hold as AHold};
-ghost use Rattle.spin_session.specs.Meaning.{Finds, seat_after, use_at, model_at};
+ghost use Rattle.spin_session.specs.Meaning.{seat_after, use_at, model_at};
 ghost use Rattle.spin_session.specs.Operating.{Operates};
 ghost use Rattle.spin_session.specs.Turns.{TurnTold, SeesLast, Frees, IsAt, Knows, Quiet, StaysQuiet, Stands, MayBegin, Ended, Comes, GoesBy, GoesOn, Waits, Under, IsAnsweredBy, IsAnswered, IsAnsweredAtOnce, IsTry, IsLook, Tells, Calls, Spot, spot, is_granted};
 
+use crate::second::Word;
 use crate::session::Session;
 use crate::table::{CallOf, Entry, Party, Runs, Turn};
 use spin_core::cell::{Permit, WritePermit};
@@ -288,8 +289,9 @@ pub fn free<'a, T, P: Runs<T>>(
         Some(point) => point,
         None => unreachable!(),
     };
+    let place = table.place(point);
     let operation = table.operation(call, point, hold);
-    let (_, permit, seen) = operate::<T, P, Brand>(permit, operation, seen, call);
+    let (_, permit, seen) = operate::<T, P, Brand>(permit, place, operation, seen, call);
     Session { permit, seen }
 }
 
@@ -445,9 +447,10 @@ fn step<'a, T, P: Runs<T>>(
 {
     P::laws();
     let table = P::table();
+    let place = table.place(point);
     let operation = table.operation(call, point, holds);
     let Session { permit, seen } = session;
-    let (found, permit, seen) = operate::<T, P, Brand>(permit, operation, seen, call);
+    let (found, permit, seen) = operate::<T, P, Brand>(permit, place, operation, seen, call);
     (
         table.next(call, point, holds, found),
         found,
@@ -455,9 +458,10 @@ fn step<'a, T, P: Runs<T>>(
     )
 }
 
-// Makes one operation of the call. Returns the number found; a store finds 0.
+// Makes one operation of the call, on the word at this place. Returns the number found; a store finds 0.
 fn operate<'a, T, P: Runs<T>, K: CallOf<P::Call>>(
     permit: Permit<'a, T, Party<P::Call, P::Point>, P>,
+    place: usize,
     operation: Operation,
     seen: Watch<Entry<P::Call, T>>,
     call: P::Call,
@@ -467,13 +471,35 @@ fn operate<'a, T, P: Runs<T>, K: CallOf<P::Call>>(
     Watch<Entry<P::Call, T>>,
 )
     requires knows { MayKnow (P.holds permit.key) (P.ways permit.key) seen }
-    requires keeps { Operates (P.holds permit.key) (P.ways permit.key) permit.view permit.value operation (TurnTold (P.Table.table P.its) (Finds P.meaning) K.gives K.call permit.key permit.view) }
-    ensures moved { Moved (Watches (Named (P.holds permit.entry.key) (P.ways permit.entry.key) seen.name) seen result.2 (TurnTold (P.Table.table P.its) (Finds P.meaning) K.gives K.call permit.entry.key permit.entry.view) result.0) result.1.view }
+    requires keeps { Operates P.Word.words (P.holds permit.key) (P.ways permit.key) permit.view permit.value place operation (TurnTold (P.Table.table P.its) P.meaning K.gives K.call permit.key permit.view) }
+    ensures moved { Moved (Watches (Named (P.holds permit.entry.key) (P.ways permit.entry.key) seen.name) seen result.2 (TurnTold (P.Table.table P.its) P.meaning K.gives K.call permit.entry.key permit.entry.view) result.0) result.1.view }
     ensures kept { Keeps (P.ways permit.entry.key) permit.entry.view result.1.view permit.entry.value result.1.value }
     ensures found { Found (P.ways permit.entry.key) permit.entry.view result.1.view permit.entry.value result.1.value result.2 }
     ensures key { result.1.key ≡ permit.entry.key }
 {
     let _ = call;
+    if place > 0 {
+        return match operation {
+            Operation::Load => P::Word::load::<
+                T,
+                Party<P::Call, P::Point>,
+                Entry<P::Call, T>,
+                P,
+                Turn<P, K>,
+            >(permit, seen),
+            Operation::Store(to) => {
+                let (permit, seen) = P::Word::store::<
+                    T,
+                    Party<P::Call, P::Point>,
+                    Entry<P::Call, T>,
+                    P,
+                    Turn<P, K>,
+                >(permit, to, seen);
+                (0, permit, seen)
+            }
+            _ => unreachable!(),
+        };
+    }
     match operation {
         Operation::Load => permit.load::<Turn<P, K>>(seen),
         Operation::Exchange(old, new) => permit.exchange::<Turn<P, K>>(old, new, seen),

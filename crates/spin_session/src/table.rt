@@ -1,9 +1,10 @@
 //! The rule of a cell that runs a lock's table. Begin with [`Runs`].
 ghost use Rattle.std.specs.Prelude.{◌≡◌, Bool, false, None, Option};
-ghost use Rattle.spin_session.specs.Meaning.{Finds, Meaning};
+ghost use Rattle.spin_session.specs.Meaning.{Meaning};
 ghost use Rattle.spin_session.specs.Operating.{Executes};
 ghost use Rattle.spin_session.specs.Turns.{TurnTold};
 
+use crate::second::Word;
 use spin_core::cell::{Play, Rule};
 use spin_core::tie::{self, Opening};
 use spin_core::trace::Trace;
@@ -21,9 +22,12 @@ pub trait Runs<T>: Rule<
     T,
     Party<Self::Call, Self::Point>,
     Key = Opening<T>,
-    Second = Trace<Entry<Self::Call, T>>,
+    Second = Trace<Entry<Self::Call, T>, Self::Word>,
 > {
     type Call: Copy;
+
+    /// The second word of the cell, or `()`.
+    type Word: Word;
 
     type Point: Copy;
 
@@ -40,7 +44,7 @@ pub trait Runs<T>: Rule<
 
     /// States that the cell runs the table.
     fn laws()
-        ensures { Executes (Self.Table.table its) meaning Self.holds Self.ways };
+        ensures { Executes Self.Word.words (Self.Table.table its) meaning Self.holds Self.ways };
 }
 
 /// A call of type `C`. The proof of a step picks it.
@@ -67,5 +71,5 @@ impl<T, P: Runs<T>, K: CallOf<P::Call>> Play<
     Party<P::Call, P::Point>,
     Entry<P::Call, T>,
 > for Turn<P, K> {
-    ghost told = { λ key old new before. TurnTold (P.Table.table P.its) (Finds P.meaning) K.gives K.call key before };
+    ghost told = { λ key old new before. TurnTold (P.Table.table P.its) P.meaning K.gives K.call key before };
 }

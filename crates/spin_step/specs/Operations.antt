@@ -1,5 +1,5 @@
 -- The operations on words: a step of a call is one operation on one word, as a processor makes it.
-use Rattle.std.specs.Prelude.{◌≡◌, ℕ, ◌+◌, ◌-◌, ◌%◌, ◌==◌, Bool, true, false, Option, Some, is_some, if◌then◌else◌, get_or, slice_set}
+use Rattle.std.specs.Prelude.{◌≡◌, ℕ, ◌+◌, ◌-◌, ◌%◌, ◌^◌, ◌==◌, Bool, true, false, Option, Some, is_some, if◌then◌else◌, get_or, slice_set}
 use Rattle.std.specs.List.{list_all}
 use Rattle.spin_step.specs.declared.place.Hold.{Hold}
 use Rattle.spin_step.specs.declared.stepped.Next.{Next}
@@ -18,6 +18,11 @@ performed (op.Add k) n = n + k
 performed (op.Subtract k) n = n - k
 performed op.SetLowestBit n = if n % 2 == 0 then n + 1 else n
 performed (op.Store k) n = k
+
+-- the operation as a processor makes it: a number that it stores is taken modulo 2^64
+abbrev pub wrapped : Operation → Operation
+wrapped (op.Store k) = op.Store (k % 2 ^ 64)
+wrapped operation = operation
 
 -- Whenever the step is possible, it makes this operation on the i-th word, and leaves the other words as they are. Its
 -- outcome depends only on the number that it finds.

@@ -53,6 +53,11 @@ impl<T> Steps<T, FlagCall, FlagPoint> for FlagTable {
         }
     }
 
+    fn place(&self, point: FlagPoint) -> usize {
+        let _ = point;
+        0
+    }
+
     fn operation(&self, call: FlagCall, point: FlagPoint, holds: Option<Hold>) -> Operation {
         let _ = holds;
         match (call, point) {

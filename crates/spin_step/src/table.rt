@@ -1,6 +1,7 @@
 //! The table of a lock as code: before a step its operation, after it how the call goes on. Begin with [`Steps`].
 ghost use Rattle.std.specs.Prelude.{◌≡◌, None, is_some};
 ghost use Rattle.spin_step.specs.Acts.{Table, begin_of, filled, next_of, operation_by, refusal_by};
+ghost use Rattle.spin_step.specs.Operations.{wrapped};
 ghost use Rattle.spin_step.specs.declared.answer.Answer.{Answer as AnAnswer};
 
 use crate::answer::Answer;
@@ -33,9 +34,16 @@ pub trait Steps<T, C, L>: Copy {
     fn start(&self, call: C, holds: Option<Hold>) -> Option<L>
         ensures { (value : T) → result ≡ begin_of (table self.now value) call holds };
 
+    /// Returns the place of the word on which the step at this point works.
+    fn place(&self, point: L) -> usize
+        ensures { (value : T) → result ≡ (table self.now value).word point };
+
     /// Returns the operation of the call's next step.
+    ///
+    /// # Contract
+    /// It is that of the table, but a number that the table stores is taken modulo 2^64 (`wrapped`).
     fn operation(&self, call: C, point: L, holds: Option<Hold>) -> Operation
-        ensures { (value : T) → result ≡ operation_by ((table self.now value).act call point holds) };
+        ensures operation { (value : T) → result ≡ wrapped (operation_by ((table self.now value).act call point holds)) };
 
     /// Returns whether the call's next step is an exchange that may fail spuriously in the world.
     fn is_weak(&self, call: C, point: L, holds: Option<Hold>) -> bool

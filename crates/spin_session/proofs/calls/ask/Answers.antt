@@ -1,4 +1,3 @@
-use Rattle.std.proofs.Common.{sym}
 use Rattle.spin_session.specs.Turns.{spot}
 use Rattle.spin_session.proofs.Course.{ended, looked, looked_on}
 use Rattle.spin_session.proofs.calls.ask.Goals as goal

@@ -1,17 +1,18 @@
-use Rattle.std.proofs.Common.{◌≡◌, true, None, Some, sym, ap, ◌∙◌, subst, refl}
+use Rattle.std.proofs.Common.{◌≡◌, ℕ, Option, true, Some, sym, ap, ◌∙◌, subst}
 use Rattle.spin_core.specs.Own.{what}
-use Rattle.spin_core.specs.Cell.{Moved, off, writes, use_of}
+use Rattle.spin_core.specs.Cell.{off, writes, use_of}
 use Rattle.spin_core.specs.Values.{IsLast}
 use Rattle.std.specs.Option.{IfSome}
 use Rattle.spin_core.specs.Passes.{mark_of}
 use Rattle.spin_core.specs.Spots.{Releases}
-use Rattle.spin_core.specs.Traced.{Watches, Named, MayKnow}
+use Rattle.spin_core.specs.Traced.{Named}
 use Rattle.spin_step.specs.Acts.{operation_by}
+use Rattle.spin_step.specs.Operations.{wrapped}
 use Rattle.spin_step.specs.declared.answer.Answer.TheVariants.{Done}
-use Rattle.spin_step.specs.declared.place.Seat.TheVariants.{Idle, Holding}
-use Rattle.spin_session.specs.Meaning.{Finds, use_at, model_at}
+use Rattle.spin_step.specs.declared.place.Seat.TheVariants.{Holding}
+use Rattle.spin_session.specs.Meaning.{use_at, model_at}
 use Rattle.spin_session.specs.Operating.{Operates}
-use Rattle.spin_session.specs.Turns.{TurnTold, Spot, Frees, SeesLast}
+use Rattle.spin_session.specs.Turns.{TurnTold, Spot, Frees}
 use Rattle.spin_session.proofs.Course.{starts_at, begins_so}
 use Rattle.spin_session.proofs.Freed.{ends_out, off_out, knows, releases}
 use Rattle.spin_session.proofs.calls.free.Goals as goal
@@ -21,19 +22,20 @@ operate-permit-requires-clause-knows g c = rw c.into_permit-permit.ensures.key c
 
 pub operate-permit-requires-clause-keeps : goal.operate-permit-requires-clause-keeps
 operate-permit-requires-clause-keeps g c =
-    let a = c.args in let it = c.into_permit-permit in let p = it.result in let t = g.P.Table.Steps.table g.P.Runs.its in let b = (Finds g.P.Runs.meaning) in let call = a.call in let o = c.operation-operation in
+    let a = c.args in let it = c.into_permit-permit in let p = it.result in let t = g.P.Table.Steps.table g.P.Runs.its in let b = g.P.Runs.meaning in let call = a.call in let o = c.operation-operation in
     let begins : ((t p.key.value).asks call (Some a.holds)).begins (Some a.holds) ≡ true = rw it.ensures.key c.requires.begins in
     let start : c.in-Some.point ≡ (t p.key.value).start call (Some a.holds) = starts_at (t p.key.value) call (Some a.holds) c.in-Some.point begins (sym c.in-Some.is ∙ rw c.table-table.ensures at (c.start.ensures p.key.value)) in
-    let same : o.result ≡ operation_by ((t p.key.value).act call ((t p.key.value).start call (Some a.holds)) (Some a.holds)) = rw (start, c.table-table.ensures) at (o.ensures p.key.value) in
+    let same : o.result ≡ wrapped (operation_by ((t p.key.value).act call ((t p.key.value).start call (Some a.holds)) (Some a.holds))) = rw (start, c.table-table.ensures) at (o.ensures.operation p.key.value) in
+    let place : (t p.key.value).word ((t p.key.value).start call (Some a.holds)) ≡ c.place-place.result = sym (rw (start, c.table-table.ensures) at (c.place-place.ensures p.key.value)) in
     let seat = c.requires.alone a.writer.view.0 (sym (c.laws.ensures.uses a.writer.key (Some a.writer.view)) ∙ it.ensures.use_of_view) in
     let is : what p.view ≡ Some (Holding a.holds) = ap what it.ensures.same.0 ∙ ap Some seat in
     let may : ((t p.key.value).asks call (Some a.holds)).begins (Some a.holds) ≡ true = rw it.ensures.key c.requires.begins in
     let all = c.laws.ensures.gives p.key p.view a.writer.value call a.holds o.result same is may c.requires.held.0 c.requires.held.1 in
-    subst (λ x. Operates (g.P.Rule.holds p.key) (g.P.Rule.ways p.key) p.view x o.result (TurnTold t b true (Some call) p.key p.view)) (sym it.ensures.same.1) all
+    subst (λ (x : Option g.row.T.Denot × ℕ). Operates g.P.Word.Word.words (g.P.Rule.holds p.key) (g.P.Rule.ways p.key) p.view x.0 x.1 o.result (TurnTold t b true (Some call) p.key p.view)) (λ i. (sym it.ensures.same.1 i, place i)) all
 
 pub returns-clause-out : goal.returns-clause-out
 returns-clause-out g c =
-    let a = c.args in let it = c.into_permit-permit in let p = it.result in let f = c.operate-permit in let t = g.P.Table.Steps.table g.P.Runs.its in let b = (Finds g.P.Runs.meaning) in let call = a.call in
+    let a = c.args in let it = c.into_permit-permit in let p = it.result in let f = c.operate-permit in let t = g.P.Table.Steps.table g.P.Runs.its in let b = g.P.Runs.meaning in let call = a.call in
     let seat = c.requires.alone a.writer.view.0 (sym (c.laws.ensures.uses a.writer.key (Some a.writer.view)) ∙ it.ensures.use_of_view) in
     let is : what p.view ≡ Some (Holding a.holds) = ap what it.ensures.same.0 ∙ ap Some seat in
     let from : Spot g.row.T.Denot g.row.P-Call.Denot g.row.P-Point.Denot = (p.key, p.view, a.seen) in
@@ -45,7 +47,7 @@ returns-clause-out g c =
 
 pub returns-clause-knows : goal.returns-clause-knows
 returns-clause-knows g c =
-    let a = c.args in let it = c.into_permit-permit in let p = it.result in let f = c.operate-permit in let t = g.P.Table.Steps.table g.P.Runs.its in let b = (Finds g.P.Runs.meaning) in let call = a.call in
+    let a = c.args in let it = c.into_permit-permit in let p = it.result in let f = c.operate-permit in let t = g.P.Table.Steps.table g.P.Runs.its in let b = g.P.Runs.meaning in let call = a.call in
     let seat = c.requires.alone a.writer.view.0 (sym (c.laws.ensures.uses a.writer.key (Some a.writer.view)) ∙ it.ensures.use_of_view) in
     let is : what p.view ≡ Some (Holding a.holds) = ap what it.ensures.same.0 ∙ ap Some seat in
     let from : Spot g.row.T.Denot g.row.P-Call.Denot g.row.P-Point.Denot = (p.key, p.view, a.seen) in
@@ -57,7 +59,7 @@ returns-clause-knows g c =
 
 pub returns-clause-releases : goal.returns-clause-releases
 returns-clause-releases g c named knew =
-    let a = c.args in let w = a.writer in let it = c.into_permit-permit in let p = it.result in let f = c.operate-permit in let t = g.P.Table.Steps.table g.P.Runs.its in let b = (Finds g.P.Runs.meaning) in let call = a.call in
+    let a = c.args in let w = a.writer in let it = c.into_permit-permit in let p = it.result in let f = c.operate-permit in let t = g.P.Table.Steps.table g.P.Runs.its in let b = g.P.Runs.meaning in let call = a.call in
     let seat = c.requires.alone a.writer.view.0 (sym (c.laws.ensures.uses a.writer.key (Some a.writer.view)) ∙ it.ensures.use_of_view) in
     let is : what p.view ≡ Some (Holding a.holds) = ap what it.ensures.same.0 ∙ ap Some seat in
     let from : Spot g.row.T.Denot g.row.P-Call.Denot g.row.P-Point.Denot = (p.key, p.view, a.seen) in

@@ -1,4 +1,4 @@
-use Rattle.std.proofs.Common.{ap, ◌∙◌, sym}
+use Rattle.std.proofs.Common.{ap, ◌∙◌}
 use Rattle.spin_core.specs.Cell.{use_of}
 use Rattle.spin_core.specs.Own.{what}
 use Rattle.spin_session.specs.Meaning.{use_at}
