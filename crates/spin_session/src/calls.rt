@@ -50,10 +50,10 @@ pub fn wait_for<'a, T, P: Runs<T>, R: RelaxStrategy, W: Wait>(
     rt: &W,
 ) -> SessionOf<'a, T, P>
     requires stands { Stands holds session }
-    requires may { MayBegin (P.Table.table P.its) P.meaning call holds session.permit.key }
-    requires answers { IsAnsweredBy (P.Table.table P.its) call holds answer after session.permit.key }
+    requires may { MayBegin (P.Table.table (P.its session.permit.key.start)) P.meaning call holds session.permit.key }
+    requires answers { IsAnsweredBy (P.Table.table (P.its session.permit.key.start)) call holds answer after session.permit.key }
     ensures stands { Stands after result }
-    ensures calls { Calls (P.Table.table P.its) call answer (spot session.entry) (spot result) }
+    ensures calls { Calls (P.Table.table (P.its session.entry.permit.key.start)) call answer (spot session.entry) (spot result) }
     ensures last { SeesLast result }
 {
     let _ = (answer, after, strategy);
@@ -79,10 +79,10 @@ pub fn begin<'a, T, P: Runs<T>>(
     after: Option<Hold>,
 ) -> Result<SessionOf<'a, T, P>, (P::Point, u64, SessionOf<'a, T, P>)>
     requires stands { Stands holds session }
-    requires may { MayBegin (P.Table.table P.its) P.meaning call holds session.permit.key }
-    requires answers { IsAnsweredBy (P.Table.table P.its) call holds answer after session.permit.key }
-    ensures ended { IfOk result (λ now. Stands after now × SeesLast now × Calls (P.Table.table P.its) call answer (spot session.entry) (spot now)) }
-    ensures waits { IfErr result (λ on. Waits (P.Table.table P.its) P.meaning call on.0 holds on.1 (spot session.entry) (spot on.2)) }
+    requires may { MayBegin (P.Table.table (P.its session.permit.key.start)) P.meaning call holds session.permit.key }
+    requires answers { IsAnsweredBy (P.Table.table (P.its session.permit.key.start)) call holds answer after session.permit.key }
+    ensures ended { IfOk result (λ now. Stands after now × SeesLast now × Calls (P.Table.table (P.its session.entry.permit.key.start)) call answer (spot session.entry) (spot now)) }
+    ensures waits { IfErr result (λ on. Waits (P.Table.table (P.its session.entry.permit.key.start)) P.meaning call on.0 holds on.1 (spot session.entry) (spot on.2)) }
 {
     let _ = (answer, after);
     let point = point_of(&session, call, holds);
@@ -109,9 +109,9 @@ pub fn go_on<'a, T, P: Runs<T>, R: RelaxStrategy, W: Wait>(
     rt: &W,
 ) -> SessionOf<'a, T, P>
     requires knows { Knows P.meaning (spot on.2) }
-    requires goes { GoesOn (P.Table.table P.its) call on.0 holds on.1 on.2.permit.key (what on.2.permit.view) }
+    requires goes { GoesOn (P.Table.table (P.its on.2.permit.key.start)) call on.0 holds on.1 on.2.permit.key (what on.2.permit.view) }
     requires quiet { StaysQuiet P.meaning call holds }
-    ensures calls { (p : Spot T P.Call P.Point) → Waits (P.Table.table P.its) P.meaning call on.entry.0 holds on.entry.1 p (spot on.entry.2) → IsAnsweredBy (P.Table.table P.its) call holds answer after p.0 → Stands after result × Calls (P.Table.table P.its) call answer p (spot result) }
+    ensures calls { (p : Spot T P.Call P.Point) → Waits (P.Table.table (P.its on.entry.2.permit.key.start)) P.meaning call on.entry.0 holds on.entry.1 p (spot on.entry.2) → IsAnsweredBy (P.Table.table (P.its on.entry.2.permit.key.start)) call holds answer after p.0 → Stands after result × Calls (P.Table.table (P.its on.entry.2.permit.key.start)) call answer p (spot result) }
     ensures last { SeesLast result }
 {
     let _ = (answer, after, strategy);
@@ -132,10 +132,10 @@ pub fn try_for<'a, T, P: Runs<T>, W: Wait>(
     rt: &W,
 ) -> Result<SessionOf<'a, T, P>, SessionOf<'a, T, P>>
     requires stands { Stands holds session }
-    requires may { MayBegin (P.Table.table P.its) P.meaning call holds session.permit.key }
-    requires tries { IsTry (P.Table.table P.its) call holds after session.permit.key }
-    ensures granted { IfOk result (λ now. Stands after now × SeesLast now × Calls (P.Table.table P.its) call Granted (spot session.entry) (spot now)) }
-    ensures refused { IfErr result (λ now. Stands holds now × Calls (P.Table.table P.its) call Refused (spot session.entry) (spot now)) }
+    requires may { MayBegin (P.Table.table (P.its session.permit.key.start)) P.meaning call holds session.permit.key }
+    requires tries { IsTry (P.Table.table (P.its session.permit.key.start)) call holds after session.permit.key }
+    ensures granted { IfOk result (λ now. Stands after now × SeesLast now × Calls (P.Table.table (P.its session.entry.permit.key.start)) call Granted (spot session.entry) (spot now)) }
+    ensures refused { IfErr result (λ now. Stands holds now × Calls (P.Table.table (P.its session.entry.permit.key.start)) call Refused (spot session.entry) (spot now)) }
 {
     let _ = after;
     let mut at = point_of(&session, call, holds);
@@ -169,11 +169,11 @@ pub fn attempt<'a, T, P: Runs<T>>(
     after: Option<Hold>,
 ) -> Result<SessionOf<'a, T, P>, SessionOf<'a, T, P>>
     requires stands { Stands holds session }
-    requires may { MayBegin (P.Table.table P.its) P.meaning call holds session.permit.key }
-    requires tries { IsTry (P.Table.table P.its) call holds after session.permit.key }
-    requires once { IsAnswered (P.Table.table P.its) call holds session.permit.key }
-    ensures granted { IfOk result (λ now. Stands after now × SeesLast now × Calls (P.Table.table P.its) call Granted (spot session.entry) (spot now)) }
-    ensures refused { IfErr result (λ now. Stands holds now × Calls (P.Table.table P.its) call Refused (spot session.entry) (spot now)) }
+    requires may { MayBegin (P.Table.table (P.its session.permit.key.start)) P.meaning call holds session.permit.key }
+    requires tries { IsTry (P.Table.table (P.its session.permit.key.start)) call holds after session.permit.key }
+    requires once { IsAnswered (P.Table.table (P.its session.permit.key.start)) call holds session.permit.key }
+    ensures granted { IfOk result (λ now. Stands after now × SeesLast now × Calls (P.Table.table (P.its session.entry.permit.key.start)) call Granted (spot session.entry) (spot now)) }
+    ensures refused { IfErr result (λ now. Stands holds now × Calls (P.Table.table (P.its session.entry.permit.key.start)) call Refused (spot session.entry) (spot now)) }
 {
     let _ = after;
     let point = point_of(&session, call, holds);
@@ -202,10 +202,10 @@ pub fn make<'a, T, P: Runs<T>>(
     after: Option<Hold>,
 ) -> SessionOf<'a, T, P>
     requires stands { Stands holds session }
-    requires may { MayBegin (P.Table.table P.its) P.meaning call holds session.permit.key }
-    requires answers { IsAnsweredAtOnce (P.Table.table P.its) call holds answer after session.permit.key }
+    requires may { MayBegin (P.Table.table (P.its session.permit.key.start)) P.meaning call holds session.permit.key }
+    requires answers { IsAnsweredAtOnce (P.Table.table (P.its session.permit.key.start)) call holds answer after session.permit.key }
     ensures stands { Stands after result }
-    ensures calls { Calls (P.Table.table P.its) call answer (spot session.entry) (spot result) }
+    ensures calls { Calls (P.Table.table (P.its session.entry.permit.key.start)) call answer (spot session.entry) (spot result) }
     ensures last { SeesLast result }
 {
     let _ = (answer, after);
@@ -225,11 +225,11 @@ pub fn ask<'a, T, P: Runs<T>>(
     holds: Option<Hold>,
 ) -> (Answer<()>, SessionOf<'a, T, P>)
     requires stands { Stands holds session }
-    requires may { MayBegin (P.Table.table P.its) P.meaning call holds session.permit.key }
-    requires looks { IsLook (P.Table.table P.its) call holds session.permit.key }
+    requires may { MayBegin (P.Table.table (P.its session.permit.key.start)) P.meaning call holds session.permit.key }
+    requires looks { IsLook (P.Table.table (P.its session.permit.key.start)) call holds session.permit.key }
     ensures stands { Stands holds result.1 }
-    ensures calls { Calls (P.Table.table P.its) call result.0 (spot session.entry) (spot result.1) }
-    ensures found { Tells (P.Table.table P.its) P.meaning call holds result.0 session.entry.permit.key }
+    ensures calls { Calls (P.Table.table (P.its session.entry.permit.key.start)) call result.0 (spot session.entry) (spot result.1) }
+    ensures found { Tells (P.Table.table (P.its session.entry.permit.key.start)) P.meaning call holds result.0 session.entry.permit.key }
 {
     let point = point_of(&session, call, holds);
     let (next, _, session) = step(session, call, point, holds);
@@ -273,13 +273,13 @@ pub fn free<'a, T, P: Runs<T>>(
 ) -> SessionOf<'a, T, P>
     requires knows { MayKnow (P.holds writer.key) (P.ways writer.key) seen }
     requires alone { (seat : Seat P.Call P.Point) → use_at P.meaning seat ≡ writes → seat ≡ Holding holds }
-    requires begins { (((P.Table.table P.its) writer.key.value).asks call (Some holds)).begins (Some holds) ≡ true }
+    requires begins { (((P.Table.table (P.its writer.key.start)) writer.key.value).asks call (Some holds)).begins (Some holds) ≡ true }
     requires held { (may_write holds ≡ true) × (use_at P.meaning (Holding holds) ≡ writes) }
-    requires frees { Frees (P.Table.table P.its) call holds writer.key }
+    requires frees { Frees (P.Table.table (P.its writer.key.start)) call holds writer.key }
     ensures out { IsOut Idle (what result.permit.view) }
     ensures knows { mark_of result.permit.view ≡ length result.seen.entries }
     ensures key { result.permit.key ≡ writer.entry.key }
-    ensures releases { writer.entry.key.name ≡ seen.name → writer.entry.view.2 ≡ length seen.entries → Releases (model_at (P.Table.table P.its)) (λ o. o) call Done writer.entry.value (writer.entry.key, Some writer.entry.view, seen) (spot result) }
+    ensures releases { writer.entry.key.name ≡ seen.name → writer.entry.view.2 ≡ length seen.entries → Releases (model_at (P.Table.table (P.its writer.entry.key.start))) (λ o. o) call Done writer.entry.value (writer.entry.key, Some writer.entry.view, seen) (spot result) }
 {
     P::laws();
     let permit = writer.into_permit();
@@ -311,13 +311,14 @@ fn point_of<'a, T, P: Runs<T>>(
     holds: Option<Hold>,
 ) -> P::Point
     requires stands { Stands holds session.now }
-    requires may { MayBegin (P.Table.table P.its) P.meaning call holds session.now.permit.key }
-    ensures start { result ≡ ((P.Table.table P.its) session.now.permit.key.value).start call holds }
+    requires may { MayBegin (P.Table.table (P.its session.now.permit.key.start)) P.meaning call holds session.now.permit.key }
+    ensures start { result ≡ ((P.Table.table (P.its session.now.permit.key.start)) session.now.permit.key.value).start call holds }
     ensures knows { Knows P.meaning (spot session.now) }
-    ensures at { IsAt (P.Table.table P.its) call result holds session.now.permit.key (what session.now.permit.view) }
-    ensures under { Under (P.Table.table P.its) P.meaning call (spot session.now) (spot session.now) }
+    ensures at { IsAt (P.Table.table (P.its session.now.permit.key.start)) call result holds session.now.permit.key (what session.now.permit.view) }
+    ensures under { Under (P.Table.table (P.its session.now.permit.key.start)) P.meaning call (spot session.now) (spot session.now) }
 {
     let _ = session;
+    P::laws();
     match P::table().start(call, holds) {
         Some(point) => point,
         None => unreachable!(),
@@ -337,10 +338,10 @@ fn wait<'a, T, P: Runs<T>, R: RelaxStrategy, W: Wait>(
     rt: &W,
 ) -> SessionOf<'a, T, P>
     requires knows { Knows P.meaning (spot session) }
-    requires goes { GoesOn (P.Table.table P.its) call point holds found session.permit.key (what session.permit.view) }
+    requires goes { GoesOn (P.Table.table (P.its session.permit.key.start)) call point holds found session.permit.key (what session.permit.view) }
     requires quiet { StaysQuiet P.meaning call holds }
     ensures knows { Knows P.meaning (spot result) }
-    ensures ended { (p : Spot T P.Call P.Point) → Under (P.Table.table P.its) P.meaning call p (spot session.entry) → (a : AnAnswer (Unit {0})) × (after : Option AHold) × Ended (P.Table.table P.its) P.meaning call holds a after p (spot result) }
+    ensures ended { (p : Spot T P.Call P.Point) → Under (P.Table.table (P.its session.entry.permit.key.start)) P.meaning call p (spot session.entry) → (a : AnAnswer (Unit {0})) × (after : Option AHold) × Ended (P.Table.table (P.its session.entry.permit.key.start)) P.meaning call holds a after p (spot result) }
     ensures last { SeesLast result }
 {
     let mut hints = 1;
@@ -369,10 +370,11 @@ fn point_after<T, P: Runs<T>>(
     holds: Option<Hold>,
     found: u64,
 ) -> P::Point
-    requires { GoesOn (P.Table.table P.its) call point holds found session.now.permit.key (what session.now.permit.view) }
-    ensures { IsAt (P.Table.table P.its) call result holds session.now.permit.key (what session.now.permit.view) }
+    requires { GoesOn (P.Table.table (P.its session.now.permit.key.start)) call point holds found session.now.permit.key (what session.now.permit.view) }
+    ensures { IsAt (P.Table.table (P.its session.now.permit.key.start)) call result holds session.now.permit.key (what session.now.permit.view) }
 {
     let _ = session;
+    P::laws();
     match P::table().next(call, point, holds, found) {
         Next::Continue(point) => point,
         Next::Answers(_, _) => unreachable!(),
@@ -393,13 +395,13 @@ fn round<'a, T, P: Runs<T>>(
     SessionOf<'a, T, P>,
 )
     requires knows { Knows P.meaning (spot session) }
-    requires at { IsAt (P.Table.table P.its) call point holds session.permit.key (what session.permit.view) }
+    requires at { IsAt (P.Table.table (P.its session.permit.key.start)) call point holds session.permit.key (what session.permit.view) }
     requires quiet { StaysQuiet P.meaning call holds }
     ensures knows { Knows P.meaning (spot result.3) }
     ensures key { result.3.permit.key ≡ session.entry.permit.key }
     ensures seat { what result.3.permit.view ≡ Some (seat_after call holds result.0) }
-    ensures comes { (p : Spot T P.Call P.Point) → Under (P.Table.table P.its) P.meaning call p (spot session.entry) → Comes (P.Table.table P.its) P.meaning call holds result.0 p (spot result.3) }
-    ensures goes { GoesBy (P.Table.table P.its) P.meaning call result.1 holds result.2 result.0 session.entry.permit.key }
+    ensures comes { (p : Spot T P.Call P.Point) → Under (P.Table.table (P.its session.entry.permit.key.start)) P.meaning call p (spot session.entry) → Comes (P.Table.table (P.its session.entry.permit.key.start)) P.meaning call holds result.0 p (spot result.3) }
+    ensures goes { GoesBy (P.Table.table (P.its session.entry.permit.key.start)) P.meaning call result.1 holds result.2 result.0 session.entry.permit.key }
     ensures last { SeesLast result.3 }
 {
     let (next, found, session) = step(session, call, point, holds);
@@ -436,13 +438,13 @@ fn step<'a, T, P: Runs<T>>(
     holds: Option<Hold>,
 ) -> (Next<P::Point, Answer<()>>, u64, SessionOf<'a, T, P>)
     requires knows { Knows P.meaning (spot session) }
-    requires at { IsAt (P.Table.table P.its) call point holds session.permit.key (what session.permit.view) }
+    requires at { IsAt (P.Table.table (P.its session.permit.key.start)) call point holds session.permit.key (what session.permit.view) }
     requires quiet { StaysQuiet P.meaning call holds }
     ensures knows { Knows P.meaning (spot result.2) }
     ensures key { result.2.permit.key ≡ session.entry.permit.key }
     ensures seat { what result.2.permit.view ≡ Some (seat_after call holds result.0) }
-    ensures comes { (p : Spot T P.Call P.Point) → Under (P.Table.table P.its) P.meaning call p (spot session.entry) → Comes (P.Table.table P.its) P.meaning call holds result.0 p (spot result.2) }
-    ensures goes { GoesBy (P.Table.table P.its) P.meaning call point holds result.1 result.0 session.entry.permit.key }
+    ensures comes { (p : Spot T P.Call P.Point) → Under (P.Table.table (P.its session.entry.permit.key.start)) P.meaning call p (spot session.entry) → Comes (P.Table.table (P.its session.entry.permit.key.start)) P.meaning call holds result.0 p (spot result.2) }
+    ensures goes { GoesBy (P.Table.table (P.its session.entry.permit.key.start)) P.meaning call point holds result.1 result.0 session.entry.permit.key }
     ensures last { SeesLast result.2 }
 {
     P::laws();
@@ -471,8 +473,8 @@ fn operate<'a, T, P: Runs<T>, K: CallOf<P::Call>>(
     Watch<Entry<P::Call, T>>,
 )
     requires knows { MayKnow (P.holds permit.key) (P.ways permit.key) seen }
-    requires keeps { Operates P.Word.words (P.holds permit.key) (P.ways permit.key) permit.view permit.value place operation (TurnTold (P.Table.table P.its) P.meaning K.gives K.call permit.key permit.view) }
-    ensures moved { Moved (Watches (Named (P.holds permit.entry.key) (P.ways permit.entry.key) seen.name) seen result.2 (TurnTold (P.Table.table P.its) P.meaning K.gives K.call permit.entry.key permit.entry.view) result.0) result.1.view }
+    requires keeps { Operates P.Word.words (P.holds permit.key) (P.ways permit.key) permit.view permit.value place operation (TurnTold (P.Table.table (P.its permit.key.start)) P.meaning K.gives K.call permit.key permit.view) }
+    ensures moved { Moved (Watches (Named (P.holds permit.entry.key) (P.ways permit.entry.key) seen.name) seen result.2 (TurnTold (P.Table.table (P.its permit.entry.key.start)) P.meaning K.gives K.call permit.entry.key permit.entry.view) result.0) result.1.view }
     ensures kept { Keeps (P.ways permit.entry.key) permit.entry.view result.1.view permit.entry.value result.1.value }
     ensures found { Found (P.ways permit.entry.key) permit.entry.view result.1.view permit.entry.value result.1.value result.2 }
     ensures key { result.1.key ≡ permit.entry.key }

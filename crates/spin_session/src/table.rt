@@ -1,5 +1,5 @@
 //! The rule of a cell that runs a lock's table. Begin with [`Runs`].
-ghost use Rattle.std.specs.Prelude.{◌≡◌, Bool, false, None, Option};
+ghost use Rattle.std.specs.Prelude.{◌≡◌, ℕ, Bool, false, None, Option};
 ghost use Rattle.spin_session.specs.Meaning.{Meaning};
 ghost use Rattle.spin_session.specs.Operating.{Executes};
 ghost use Rattle.spin_session.specs.Turns.{TurnTold};
@@ -33,18 +33,19 @@ pub trait Runs<T>: Rule<
 
     type Table: Steps<T, Self::Call, Self::Point>;
 
-    ghost its: { Self.Table };
+    // The table, for words that open with this number.
+    ghost its: { ℕ → Self.Table };
 
     // What the word and the points of the table are in the plain lock.
     ghost meaning: { Meaning Self.Call Self.Point };
 
-    /// Returns the table.
+    /// Returns the table for words that open with 0. The steps are the same for all numbers.
     fn table() -> Self::Table
-        ensures { result ≡ its };
+        ensures { result ≡ its 0 };
 
     /// States that the cell runs the table.
     fn laws()
-        ensures { Executes Self.Word.words (Self.Table.table its) meaning Self.holds Self.ways };
+        ensures { Executes Self.Word.words (λ start. Self.Table.table (its start)) meaning Self.holds Self.ways };
 }
 
 /// A call of type `C`. The proof of a step picks it.
@@ -71,5 +72,5 @@ impl<T, P: Runs<T>, K: CallOf<P::Call>> Play<
     Party<P::Call, P::Point>,
     Entry<P::Call, T>,
 > for Turn<P, K> {
-    ghost told = { λ key old new before. TurnTold (P.Table.table P.its) P.meaning K.gives K.call key before };
+    ghost told = { λ key old new before. TurnTold (P.Table.table (P.its key.start)) P.meaning K.gives K.call key before };
 }
