@@ -119,8 +119,10 @@ module _ {W V C L : Type 0} (t : V → Table W V C L (Answer V)) (s : Meaning C 
   looked_on key looks n next (which, fine) l is =
       let so : filled {V = V} None (Continue l) ≡ next_of (t key.value) c ((t key.value).start c h) h n = rw is at which in subst (AnswersWith h) (sym so) (looks n)
 
-  pub answered_on : (key : Opening V) → IsAnswered t c h key → (n : ℕ) (next : Next L (Answer (Unit {0}))) → GoesBy t s c ((t key.value).start c h) h n next key → (l : L) → next ≡ Continue l → ⊥
-  answered_on key once n next (which, fine) l is = once n l (sym (rw is at which))
+  -- a call that is answered by its third step does not go on after it
+  pub answered_on : (key : Opening V) → IsAnswered t c h key → (n m j : ℕ) (l k : L) (x y z : Next L (Answer (Unit {0}))) → GoesBy t s c ((t key.value).start c h) h n x key → x ≡ Continue l → GoesBy t s c l h m y key → y ≡ Continue k
+      → GoesBy t s c k h j z key → (i : L) → z ≡ Continue i → ⊥
+  answered_on key once n m j l k x y z first is second is' third i is'' = once n m j l k i (sym (rw is at first.0)) (sym (rw is' at second.0)) (sym (rw is'' at third.0))
 
 -- a party that holds has a seat
 pub holder_sits : {C L : Type 0} (view : Option (Seat C L)) (h : Hold) → seat_now view ≡ resting (Some h) → view ≡ Some (Holding h)

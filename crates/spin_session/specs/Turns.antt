@@ -169,9 +169,13 @@ module _ {W V C L : Type 0} (t : V → Table W V C L (Answer V)) where
   abbrev pub IsAnsweredAtOnce : C → Option Hold → Answer (Unit {0}) → Option Hold → Opening V → Type 0
   IsAnsweredAtOnce c h a after key = (n : ℕ) → next_of (t key.value) c ((t key.value).start c h) h n ≡ Answers (with_value a None) after
 
-  -- the first step of the call answers it
+  -- the third step of the call answers it, or an earlier one
   abbrev pub IsAnswered : C → Option Hold → Opening V → Type 0
-  IsAnswered c h key = (n : ℕ) (l : L) → next_of (t key.value) c ((t key.value).start c h) h n ≡ Continue l → ⊥
+  IsAnswered c h key = (n m j : ℕ) (l k i : L) → next_of (t key.value) c ((t key.value).start c h) h n ≡ Continue l → next_of (t key.value) c l h m ≡ Continue k → next_of (t key.value) c k h j ≡ Continue i → ⊥
+
+  -- after each answer of the call, its party holds the same as before
+  abbrev pub LeavesHold : C → Option Hold → Opening V → Type 0
+  LeavesHold c h key = (l : L) (n : ℕ) (b : Answer V) (k : Option Hold) → next_of (t key.value) c l h n ≡ Answers b k → k ≡ h
 
   -- the first step of the call answers it, and its party holds the same as before
   abbrev pub IsLook : C → Option Hold → Opening V → Type 0

@@ -13,7 +13,7 @@ ghost use Rattle.spin_step.specs.declared.answer.Answer.TheVariants.{Granted, Re
 ghost use Rattle.spin_step.specs.declared.place.Hold.{Hold as AHold};
 ghost use Rattle.spin_session.specs.Meaning.{seat_after, use_at, model_at};
 ghost use Rattle.spin_session.specs.Operating.{Operates};
-ghost use Rattle.spin_session.specs.Turns.{TurnTold, SeesLast, Frees, IsAt, Knows, Quiet, StaysQuiet, Stands, MayBegin, Ended, Comes, GoesBy, GoesOn, Waits, Under, IsAnsweredBy, IsAnswered, IsAnsweredAtOnce, IsTry, IsLook, Tells, Calls, Spot, spot, is_granted};
+ghost use Rattle.spin_session.specs.Turns.{TurnTold, SeesLast, Frees, IsAt, Knows, Quiet, StaysQuiet, Stands, MayBegin, Ended, Comes, GoesBy, GoesOn, Waits, Under, IsAnsweredBy, IsAnswered, IsAnsweredAtOnce, IsTry, IsLook, LeavesHold, Tells, Calls, Spot, spot, is_granted};
 
 use crate::second::Word;
 use crate::session::Session;
@@ -158,10 +158,11 @@ pub fn try_for<'a, T, P: Runs<T>, W: Wait>(
     unreachable!()
 }
 
-/// Makes a call that either gets a hold or is refused, in one step.
+/// Makes a call that either gets a hold or is refused, in at most three steps.
 ///
 /// # Contract
 /// The party has made exactly this call. If the call was granted it holds `after`, else it holds what it held before.
+#[inline(always)]
 pub fn attempt<'a, T, P: Runs<T>>(
     session: SessionOf<'a, T, P>,
     call: P::Call,
@@ -176,18 +177,8 @@ pub fn attempt<'a, T, P: Runs<T>>(
     ensures refused { IfErr result (λ now. Stands holds now × Calls (P.Table.table (P.its session.entry.permit.key.start)) call Refused (spot session.entry) (spot now)) }
 {
     let _ = after;
-    let point = point_of(&session, call, holds);
-    let (next, _, further) = step(session, call, point, holds);
-    match next {
-        Next::Answers(answer, _) => {
-            if is_granted(answer) {
-                Ok(further)
-            } else {
-                Err(further)
-            }
-        }
-        Next::Continue(_) => unreachable!(),
-    }
+    let (answer, _, session) = in_three(session, call, holds);
+    if is_granted(answer) { Ok(session) } else { Err(session) }
 }
 
 /// Makes a call of one step, which is always answered so.
@@ -237,6 +228,27 @@ pub fn ask<'a, T, P: Runs<T>>(
         Next::Answers(answer, _) => (answer, session),
         Next::Continue(_) => unreachable!(),
     }
+}
+
+/// Makes a call of at most three steps, which leaves to the party what it holds.
+///
+/// # Contract
+/// The party has made exactly this call, with the returned answer.
+#[inline(always)]
+pub fn look<'a, T, P: Runs<T>>(
+    session: SessionOf<'a, T, P>,
+    call: P::Call,
+    holds: Option<Hold>,
+) -> (Answer<()>, SessionOf<'a, T, P>)
+    requires stands { Stands holds session }
+    requires may { MayBegin (P.Table.table (P.its session.permit.key.start)) P.meaning call holds session.permit.key }
+    requires leaves { LeavesHold (P.Table.table (P.its session.permit.key.start)) call holds session.permit.key }
+    requires once { IsAnswered (P.Table.table (P.its session.permit.key.start)) call holds session.permit.key }
+    ensures stands { Stands holds result.1 }
+    ensures calls { Calls (P.Table.table (P.its session.entry.permit.key.start)) call result.0 (spot session.entry) (spot result.1) }
+{
+    let (answer, _, session) = in_three(session, call, holds);
+    (answer, session)
 }
 
 /// Returns the permit of a party that writes the value, and what the party knows.
@@ -415,6 +427,40 @@ fn round<'a, T, P: Runs<T>>(
                 (next, to, found, session)
             } else {
                 (Next::Continue(to), point, found, session)
+            }
+        }
+    }
+}
+
+// Makes a call that is answered by its third step at the latest. Returns the answer, and what the party then holds.
+#[inline(always)]
+fn in_three<'a, T, P: Runs<T>>(
+    session: SessionOf<'a, T, P>,
+    call: P::Call,
+    holds: Option<Hold>,
+) -> (Answer<()>, Option<Hold>, SessionOf<'a, T, P>)
+    requires stands { Stands holds session }
+    requires may { MayBegin (P.Table.table (P.its session.permit.key.start)) P.meaning call holds session.permit.key }
+    requires once { IsAnswered (P.Table.table (P.its session.permit.key.start)) call holds session.permit.key }
+    ensures knows { Knows P.meaning (spot result.2) }
+    ensures ended { Ended (P.Table.table (P.its session.entry.permit.key.start)) P.meaning call holds result.0 result.1 (spot session.entry) (spot result.2) }
+    ensures last { SeesLast result.2 }
+{
+    let first = point_of(&session, call, holds);
+    let (next, _, session) = step(session, call, first, holds);
+    match next {
+        Next::Answers(answer, after) => (answer, after, session),
+        Next::Continue(second) => {
+            let (next, _, session) = step(session, call, second, holds);
+            match next {
+                Next::Answers(answer, after) => (answer, after, session),
+                Next::Continue(third) => {
+                    let (next, _, session) = step(session, call, third, holds);
+                    match next {
+                        Next::Answers(answer, after) => (answer, after, session),
+                        Next::Continue(_) => unreachable!(),
+                    }
+                }
             }
         }
     }
