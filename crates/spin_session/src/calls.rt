@@ -19,7 +19,7 @@ use crate::second::Word;
 use crate::session::Session;
 use crate::table::{CallOf, Entry, Party, Runs, Turn};
 use spin_core::cell::{Permit, WritePermit};
-use spin_core::relax::{MAX_HINTS, RelaxStrategy, Strategy};
+use spin_core::relax::{RelaxStrategy, Strategy};
 use spin_core::trace::Watch;
 use spin_step::{Answer, Hold, Next, Operation, Steps};
 use std::marker::Brand;
@@ -34,8 +34,8 @@ pub type SessionOf<'a, T, P> = Session<
     P,
 >;
 
-/// Makes a call that waits, and is always answered so. It pauses before each round but the first. A round is one step,
-/// and after a load also the step that the load found possible.
+/// Makes a call that waits, and is always answered so. It makes its steps in rounds, and pauses between them. A round is
+/// the steps up to the first after which the call pauses (see [`Runs::pause`]), but at most three.
 ///
 /// # Contract
 /// The party has made exactly this call, with this answer, and holds `after`. Whether and when the call returns is not
@@ -337,7 +337,7 @@ fn point_of<'a, T, P: Runs<T>>(
     }
 }
 
-// Takes rounds of a call that waits, with pauses that grow, until it is answered. The call's last step was at `point`,
+// Takes rounds of a call that waits, with pauses between them, until it is answered. The call's last step was at `point`,
 // and found this number: so a caller whose call is answered at once does not compute how it would go on.
 #[cold]
 #[inline(never)]
@@ -356,20 +356,27 @@ fn wait<'a, T, P: Runs<T>, R: RelaxStrategy, W: Wait>(
     ensures ended { (p : Spot T P.Call P.Point) → Under (P.Table.table (P.its session.entry.permit.key.start)) P.meaning call p (spot session.entry) → (a : AnAnswer (Unit {0})) × (after : Option AHold) × Ended (P.Table.table (P.its session.entry.permit.key.start)) P.meaning call holds a after p (spot result) }
     ensures last { SeesLast result }
 {
-    let mut hints = 1;
+    let mut last = 0;
+    let mut from = point;
+    let mut number = found;
     let mut at = point_after::<T, P>(&session, call, point, holds, found);
     let mut party = session;
     for _ in rt.forever() {
-        R::pause(rt, hints);
-        let (next, _, _, further) = round(party, call, at, holds);
+        let hints = P::pause(call, from, at, holds, number, last);
+        if hints > 0 {
+            R::bounded_pause(rt, hints);
+            last = hints;
+        }
+        let (next, point, found, further) = round(party, call, at, holds);
         match next {
             Next::Answers(_, _) => return further,
-            Next::Continue(point) => {
-                at = point;
+            Next::Continue(to) => {
+                from = point;
+                number = found;
+                at = to;
                 party = further;
             }
         }
-        hints = hints.saturating_mul(2).min(MAX_HINTS);
     }
     unreachable!()
 }
@@ -393,8 +400,9 @@ fn point_after<T, P: Runs<T>>(
     }
 }
 
-// Makes a step, and after a load also the step that the load found possible. Returns the point of the last step, and
-// the number that it found.
+// Makes the steps of the call from `point` up to the first after which it pauses, but at most three. Returns the point of
+// the last step, and the number that it found.
+#[inline(always)]
 fn round<'a, T, P: Runs<T>>(
     session: SessionOf<'a, T, P>,
     call: P::Call,
@@ -417,16 +425,48 @@ fn round<'a, T, P: Runs<T>>(
     ensures last { SeesLast result.3 }
 {
     let (next, found, session) = step(session, call, point, holds);
+    let (next, point, found, session) = further((next, point, found, session), call, holds);
+    further((next, point, found, session), call, holds)
+}
+
+// Makes one more step of the call, unless the call is answered or pauses.
+#[inline(always)]
+fn further<'a, T, P: Runs<T>>(
+    made: (
+        Next<P::Point, Answer<()>>,
+        P::Point,
+        u64,
+        SessionOf<'a, T, P>,
+    ),
+    call: P::Call,
+    holds: Option<Hold>,
+) -> (
+    Next<P::Point, Answer<()>>,
+    P::Point,
+    u64,
+    SessionOf<'a, T, P>,
+)
+    requires knows { Knows P.meaning (spot made.3) }
+    requires seat { what made.3.permit.view ≡ Some (seat_after call holds made.0) }
+    requires quiet { StaysQuiet P.meaning call holds }
+    requires goes { GoesBy (P.Table.table (P.its made.3.permit.key.start)) P.meaning call made.1 holds made.2 made.0 made.3.permit.key }
+    requires last { SeesLast made.3 }
+    ensures knows { Knows P.meaning (spot result.3) }
+    ensures key { result.3.permit.key ≡ made.entry.3.permit.key }
+    ensures seat { what result.3.permit.view ≡ Some (seat_after call holds result.0) }
+    ensures comes { (p : Spot T P.Call P.Point) → Comes (P.Table.table (P.its made.entry.3.permit.key.start)) P.meaning call holds made.entry.0 p (spot made.entry.3) → Comes (P.Table.table (P.its made.entry.3.permit.key.start)) P.meaning call holds result.0 p (spot result.3) }
+    ensures goes { GoesBy (P.Table.table (P.its made.entry.3.permit.key.start)) P.meaning call result.1 holds result.2 result.0 made.entry.3.permit.key }
+    ensures last { SeesLast result.3 }
+{
+    let (next, from, found, session) = made;
     match next {
-        Next::Answers(answer, after) => (Next::Answers(answer, after), point, found, session),
+        Next::Answers(answer, after) => (Next::Answers(answer, after), from, found, session),
         Next::Continue(to) => {
-            let looked = is_load(P::table().operation(call, point, holds));
-            let looks = is_load(P::table().operation(call, to, holds));
-            if looked && !looks {
+            if P::pause(call, from, to, holds, found, 0) > 0 {
+                (Next::Continue(to), from, found, session)
+            } else {
                 let (next, found, session) = step(session, call, to, holds);
                 (next, to, found, session)
-            } else {
-                (Next::Continue(to), point, found, session)
             }
         }
     }
@@ -470,10 +510,6 @@ fn is_granted(answer: Answer<()>) -> bool
     ensures { result ≡ is_granted answer }
 {
     matches!(answer, Answer::Granted)
-}
-
-fn is_load(operation: Operation) -> bool {
-    matches!(operation, Operation::Load)
 }
 
 // Makes the step of the call at `point`, or begins the call there. Returns the number found, too.

@@ -6,9 +6,10 @@ ghost use Rattle.spin_session.specs.Turns.{TurnTold};
 
 use crate::second::Word;
 use spin_core::cell::{Play, Rule};
+use spin_core::relax::MAX_HINTS;
 use spin_core::tie::{self, Opening};
 use spin_core::trace::Trace;
-use spin_step::{Seat, Steps};
+use spin_step::{Hold, Operation, Seat, Steps};
 use std::marker::{Brand, PhantomData};
 
 /// A party: its seat in the model, with its number and its mark.
@@ -43,6 +44,30 @@ pub trait Runs<T>: Rule<
     fn table() -> Self::Table
         ensures { result ≡ its 0 };
 
+    /// Returns how many hints a waiting call gives before its next step, at the point `to`, or 0 if it makes this step at
+    /// once. Its last step, at the point `from`, found this number. Its last pause had `last` hints, or 0 if it has not
+    /// paused.
+    ///
+    /// By default a call does not pause after a load if its next step is none. Each other pause has twice as many hints
+    /// as the last one.
+    fn pause(
+        call: Self::Call,
+        from: Self::Point,
+        to: Self::Point,
+        holds: Option<Hold>,
+        found: u64,
+        last: u32,
+    ) -> u32 {
+        let _ = found;
+        let table = Self::table();
+        let looked = is_load(table.operation(call, from, holds));
+        if looked && !is_load(table.operation(call, to, holds)) {
+            0
+        } else {
+            last.saturating_mul(2).max(1).min(MAX_HINTS)
+        }
+    }
+
     /// States that the cell runs the table.
     fn laws()
         ensures { Executes Self.Word.words (λ start. Self.Table.table (its start)) meaning Self.holds Self.ways };
@@ -73,4 +98,8 @@ impl<T, P: Runs<T>, K: CallOf<P::Call>> Play<
     Entry<P::Call, T>,
 > for Turn<P, K> {
     ghost told = { λ key old new before. TurnTold (P.Table.table (P.its key.start)) P.meaning K.gives K.call key before };
+}
+
+fn is_load(operation: Operation) -> bool {
+    matches!(operation, Operation::Load)
 }

@@ -18,6 +18,6 @@ loop-preserved g c =
       f.ensures.knows,
       inl (f.ensures.seat ∙ ap (λ x. Some (seat_after a.call a.holds x)) c.in-Continue.is),
       λ p on. let came = subst (λ n. Under (tab n) s a.call p (spot c.loop.party) → Comes (tab n) s a.call a.holds f.result.0 p (spot f.result.3)) (ap (λ k. k.start) c.loop.invariant.5) (f.ensures.comes p) (c.loop.invariant.4 p on) in
-          under (tab a.session.permit.key.start) s a.call a.holds p (spot f.result.3) f.result.0 came c.in-Continue.point c.in-Continue.is,
+          under (tab a.session.permit.key.start) s a.call a.holds p (spot f.result.3) f.result.0 came c.in-Continue.to c.in-Continue.is,
       f.ensures.key ∙ c.loop.invariant.5,
     )
