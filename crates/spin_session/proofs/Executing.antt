@@ -17,6 +17,7 @@ executes_on k t s alike d = record {
   named = λ key name same n x vs meets. meets.0.0 ∙ same;
   turns = λ key view shown c l h o is at rests quiet. refining.operates k (t key.start key.value) s (d key.start key.value) key view shown c l h o is at rests quiet;
   gives = λ key view x c h o is at may able held. refining.operates_giving k (t key.start key.value) s (d key.start key.value) key view x c h at may able held o is;
+  peeks = λ key view shown. refining.keeps_peek k (t key.start key.value) s (d key.start key.value) key view shown;
   lasts = λ key view view' before after seen kept known stops.
       let u = use_of (use_of_party s) view in let u' = use_of (use_of_party s) view' in
       let not : u ≡ writes → u' ≢ writes = λ e e'. stops (tie.same_use (use_at s) view ∙ e) (tie.same_use (use_at s) view' ∙ e') in

@@ -20,7 +20,7 @@ use Rattle.spin_core.specs.Cell.{Use, off, reads, writes, no_fact, Ways, Going, 
 use Rattle.spin_core.specs.Own.{Numbered, Runs, what}
 use Rattle.spin_core.specs.Run.{AreMoves, is_played, outcomes}
 use Rattle.spin_core.specs.Own.{by_party}
-use Rattle.spin_core.specs.Views.{Part, idle}
+use Rattle.spin_core.specs.Views.{Part, idle, entries_of, HasPart}
 use Rattle.spin_core.specs.Passes.{Ending, IsOut}
 use Rattle.spin_core.specs.declared.tie.Opening.{Opening}
 use Rattle.spin_core.specs.declared.trace.Trace.{Trace}
@@ -35,8 +35,8 @@ use Rattle.spin_step.proofs.InOrder.{in_order-kept, in_order-fresh, cap-kept}
 use Rattle.spin_step.specs.Parties.{apply_some}
 use Rattle.spin_core.specs.Values.{left, last, Leaves}
 use Rattle.spin_step.specs.declared.schedule.Move.{Move}
-use Rattle.spin_session.specs.Meaning.{Meaning, Words, just_one, HasSecond, number_in, put_in, on_place, IsAccess, way_of, part_of, seat_now, rests_at, seat_after, use_at, words_in, worked, AreWords, FindsAt, ComesFrom, Refines, RefinesOn}
-use Rattle.spin_session.specs.Turns.{outcome_of, Says, turn, Quiet, Told, turn_by, gives_up, has_begun, IsAtPoint}
+use Rattle.spin_session.specs.Meaning.{Meaning, Words, just_one, HasSecond, number_in, put_in, on_place, IsAccess, way_of, part_of, seat_now, rests_at, seat_after, use_at, words_in, worked, AreWords, Peeks, FindsAt, ComesFrom, Refines, RefinesOn}
+use Rattle.spin_session.specs.Turns.{outcome_of, Says, turn, Quiet, Told, turn_by, gives_up, has_begun, IsAtPoint, peeks}
 use Rattle.spin_session.specs.Operating.{Operates}
 use Rattle.spin_step.specs.declared.table.Operation.{Operation}
 use Rattle.spin_step.specs.declared.table.Operation.TheVariants as op
@@ -106,6 +106,12 @@ leaves_quiet : {C V : Type 0} (u v : Use) (shown : Option V) (own : List (Move C
 leaves_quiet off v shown own quiet none = none
 leaves_quiet reads v shown own quiet none = none
 leaves_quiet writes v shown own quiet none = absurd (quiet refl)
+
+-- a party that goes on as it was may make no move
+leaves_none : (C : Type 0) {V : Type 0} (u : Use) (shown : Option V) → Leaves {C = C} u u shown []
+leaves_none C off shown = λ v. refl
+leaves_none C reads shown = λ v. refl
+leaves_none C writes shown = tt
 
 -- The numbers in a cell's words.
 
@@ -400,6 +406,36 @@ module _ {W V C L S : Type 0} (k : Words S) (t : Table W V C L (Answer V)) (s : 
         tells_less (machine_of t) (λ z. z) (words_in t k) view says_all (λ own outs n v. says_all own outs 0 v) (λ own outs n v said. rw (store-any t act to now n) at said)
         Rule own_ways (Some x) (on_step c l (Some h)) keeps_gives) in
         subst (λ (z : Operation × Option (Seat C L)). Operates k Rule own_ways view (Some x) (t.word l) z.0 (Told t s (turn_by t s true (Some c) z.1) view)) (λ i. (sym same i, sym is i)) all
+
+  -- A load at place 1 by which the party makes no step.
+
+  same_use_now : (view : Option (Seat C L)) → use_of (use_at s) view ≡ use_at s (seat_now view)
+  same_use_now None = refl
+  same_use_now (Some x) = refl
+
+  abbrev peeks_at : OnWord S
+  peeks_at = on_place k 1 (λ n. n)
+
+  abbrev Peeked : Seat C L → ℕ → Seat C L → Type 0
+  Peeked seat n u = (u ≡ seat) × Peeks k s seat n
+
+  peek_moves : (seat : Seat C L) → Moving (Some seat) peeks_at (Peeked seat) (peeks t s k seat)
+  peek_moves seat w value u is = ([], [], (is, refl, refl), refl, refl, w, value, ap (with_seat t w value) (sym is.0), refl, sym (k.kept (words_in t k w)))
+
+  allows_peek : (view : Option (Seat C L)) → AllowsTo (AreWords k s) (ways lock) view None peeks_at (Peeked (seat_now view))
+  allows_peek view id n m vs meets at small =
+      let (plain, room, order, is, n_is, m_is) = meets.0.0 in let p : ℕ = number (part_of s) id view vs in let seat = seat_now view in
+      let has : HasPart plain p (part_of s seat) = subst (HasPart plain p) (part_now view) (own_part (part_of s) id view vs plain at is) in
+      let is' = lock_after (part_of s) id view vs seat plain None at order is tt (ap (entries_of p) (part_now view)) has.1 in
+      rw (k.kept (n, m))
+      (seat, going_of s.shares _ (use_at s seat) _ _ (((plain, room, order, is', n_is, m_is), meets.0.1), d.fits (after_views id view vs seat) plain room order is'), (refl, (plain, p, order, has, λ i. k.number (n_is i, m_is i))))
+
+  pub keeps_peek : (view : Option (Numbered (Seat C L))) (shown : Option V) → Keeps view shown peeks_at (peeks t s k (seat_now (what view)))
+  keeps_peek view shown =
+      let v : Option (Seat C L) = what view in let seat = seat_now v in
+      keeps view shown peeks_at (Peeked seat) (peeks t s k seat)
+      (λ own outs n u (stays, none, nobody). rw none (subst (λ z. Leaves {C = C} (use_of (use_at s) v) z shown []) (same_use_now v ∙ sym (ap (use_at s) stays.0)) (leaves_none C (use_of (use_at s) v) shown)))
+      (moves_now v peeks_at (Peeked seat) (peeks t s k seat) (peek_moves seat)) (allows_peek v)
 
   -- a party rests at each point to which its call goes on
   pub rests_on : (view : Option (Seat C L)) (c : C) (l : L) (h : Option Hold) (n : ℕ) → IsAtPoint t c l h view → rests_at s (seat_now view) ≡ true → rests_at s (to c l h n) ≡ true

@@ -1,5 +1,5 @@
 -- What a lock's table means in the plain lock, and what has to be shown of a table that a cell runs.
-use Rattle.std.specs.Prelude.{◌≡◌, ℕ, zero, suc, ◌≤◌, ◌+◌, ◌-◌, ◌%◌, ◌^◌, ◌==◌, ◌⊎◌, Bool, true, false, Option, Some, is_some, if◌then◌else◌, bit_or, List}
+use Rattle.std.specs.Prelude.{◌≡◌, refl, ℕ, zero, suc, ◌≤◌, ◌+◌, ◌-◌, ◌%◌, ◌^◌, ◌==◌, ◌⊎◌, Bool, true, false, Option, Some, is_some, if◌then◌else◌, bit_or, List}
 use Rattle.std.specs.Option.{unwrap_or}
 use Rattle.spin_step.specs.Plain.{Plain, fresh, ticket_limit}
 use Rattle.spin_step.specs.Parties.{IsOpenStep, apply_some, entries_after}
@@ -38,12 +38,13 @@ pub record Words (S : Type 0) : Type 0 where
   pub of : ℕ → S
   pub number : ℕ × S → ℕ
   pub put : ℕ → ℕ × S → ℕ × S
+  pub kept : (s : ℕ × S) → put (number s) s ≡ s
 
 abbrev pub just_one : Words (Unit {0})
-just_one = record { of = λ n. tt; number = λ s. s.0; put = λ n s. (n, s.1) }
+just_one = record { of = λ n. tt; number = λ s. s.0; put = λ n s. (n, s.1); kept = λ s. refl }
 
 abbrev pub with_second : Words ℕ
-with_second = record { of = λ n. n; number = λ s. s.1; put = λ n s. (s.0, n) }
+with_second = record { of = λ n. n; number = λ s. s.1; put = λ n s. (s.0, n); kept = λ s. refl }
 
 module _ {S : Type 0} (k : Words S) where
   -- the number at this place of a cell
@@ -119,6 +120,10 @@ module _ {C L : Type 0} where
   -- the same for a step on the word at this place
   abbrev pub FindsAt : Meaning C L → ℕ → ℕ → Type 0
   FindsAt s i n = elim i [ zero ↦ Finds s n | suc j ↦ IsWordOf s s.second n ]
+
+-- the number n is at place 1 of a lock in order in which the party has the part of its seat
+abbrev pub Peeks : {C L S : Type 0} → Words S → Meaning C L → Seat C L → ℕ → Type 0
+Peeks k s seat n = (plain : Plain) × (p : ℕ) × IsInOrder plain × HasPart plain p (part_of s seat) × (n ≡ k.number (s.word plain, k.of (s.second plain)))
 
 -- A step of this shape on the first word makes a step of the plain lock, or none, and its party gets the part `to` of how its call goes on. The
 -- operation of the processor does what the table's does.

@@ -18,7 +18,7 @@ use Rattle.spin_step.specs.declared.place.Hold.{Hold}
 use Rattle.spin_step.specs.declared.place.Seat.{Seat}
 use Rattle.spin_step.specs.declared.place.Seat.TheVariants.{Idle, Holding}
 use Rattle.spin_session.specs.Meaning.{Meaning, Words, on_place, use_at, rests_at, seat_now, seat_after}
-use Rattle.spin_session.specs.Turns.{TurnTold, IsAt, Quiet}
+use Rattle.spin_session.specs.Turns.{TurnTold, PeekTold, IsAt, Quiet}
 use Rattle.spin_step.specs.declared.table.Operation.{Operation}
 use Rattle.spin_step.specs.declared.table.Operation.TheVariants as op
 
@@ -56,6 +56,8 @@ pub record Executes {W V C L S : Type 0} (k : Words S) (t : ℕ → V → Table 
   pub gives : (key : Opening V) (view : Option (Numbered (Seat C L))) (x : V) (c : C) (h : Hold) (o : Operation)
       → o ≡ wrapped (operation_by ((t key.start key.value).act c ((t key.start key.value).start c (Some h)) (Some h))) → what view ≡ Some (Holding h) → ((t key.start key.value).asks c (Some h)).begins (Some h) ≡ true
       → may_write h ≡ true → use_at s (Holding h) ≡ writes → Operates k (holds key) (ways key) view (Some x) ((t key.start key.value).word ((t key.start key.value).start c (Some h))) o (TurnTold (t key.start) s true (Some c) key view)
+  -- a load at place 1 that is no step
+  pub peeks : (key : Opening V) (view : Option (Numbered (Seat C L))) (shown : Option V) → TracesTo (holds key) (ways key) view shown (on_place k 1 (λ n. n)) (PeekTold (t key.start) k s key view)
   -- a value that a party sees after a step is the one written last; so is one that it used before
   pub lasts : (key : Opening V) (view view' : Option (Numbered (Seat C L))) (before after : Option V) (seen : Watch (Entry C V)) → Keeps (ways key) view view' before after
       → Found (ways key) view view' before after seen → (use_of (use_at s) (what view) ≡ writes → use_of (use_at s) (what view') ≢ writes)

@@ -2,8 +2,8 @@
 ghost use Rattle.std.specs.Prelude.{◌≡◌, true, None, Some, Option, IfOk, IfErr, length};
 ghost use Rattle.spin_core.specs.Cell.{writes, Moved, Keeps};
 ghost use Rattle.spin_core.specs.Own.{what};
-ghost use Rattle.spin_core.specs.Passes.{IsOut, mark_of};
-ghost use Rattle.spin_core.specs.Spots.{Releases};
+ghost use Rattle.spin_core.specs.Passes.{IsOut, Nothing, mark_of};
+ghost use Rattle.spin_core.specs.Spots.{Releases, Since};
 ghost use Rattle.spin_core.specs.Traced.{Found, MayKnow, Named, Watches};
 ghost use Rattle.spin_step.specs.Schedules.{may_write};
 ghost use Rattle.spin_step.specs.declared.place.Seat.{Seat};
@@ -11,13 +11,13 @@ ghost use Rattle.spin_step.specs.declared.place.Seat.TheVariants.{Idle, Holding}
 ghost use Rattle.spin_step.specs.declared.answer.Answer.{Answer as AnAnswer};
 ghost use Rattle.spin_step.specs.declared.answer.Answer.TheVariants.{Granted, Refused, Done};
 ghost use Rattle.spin_step.specs.declared.place.Hold.{Hold as AHold};
-ghost use Rattle.spin_session.specs.Meaning.{seat_after, use_at, model_at};
+ghost use Rattle.spin_session.specs.Meaning.{Peeks, seat_after, use_at, model_at};
 ghost use Rattle.spin_session.specs.Operating.{Operates};
 ghost use Rattle.spin_session.specs.Turns.{TurnTold, SeesLast, Frees, IsAt, Knows, Quiet, StaysQuiet, Stands, MayBegin, Ended, Comes, GoesBy, GoesOn, Waits, Under, IsAnsweredBy, IsAnswered, IsAnsweredAtOnce, IsTry, IsLook, LeavesHold, Tells, Calls, Spot, spot, is_granted};
 
 use crate::second::Word;
 use crate::session::Session;
-use crate::table::{CallOf, Entry, Party, Runs, Turn};
+use crate::table::{CallOf, Entry, Party, Peek, Runs, Turn};
 use spin_core::cell::{Permit, WritePermit};
 use spin_core::relax::{RelaxStrategy, Strategy};
 use spin_core::trace::Watch;
@@ -178,7 +178,11 @@ pub fn attempt<'a, T, P: Runs<T>>(
 {
     let _ = after;
     let (answer, _, session) = in_three(session, call, holds);
-    if is_granted(answer) { Ok(session) } else { Err(session) }
+    if is_granted(answer) {
+        Ok(session)
+    } else {
+        Err(session)
+    }
 }
 
 /// Makes a call of one step, which is always answered so.
@@ -272,6 +276,40 @@ pub fn writer<'a, T, P: Runs<T>>(
     (permit.into_writer(), seen)
 }
 
+/// Loads the word at place 1, for a holder that writes. The load is no step of a call.
+///
+/// # Contract
+/// The number found is the word of a lock in which the party has the part of its seat (`finds`). The party and its value
+/// stay as they are, and it makes no move.
+#[inline(always)]
+pub fn peek<'a, T, P: Runs<T>>(
+    writer: WritePermit<'a, T, Party<P::Call, P::Point>, P>,
+    seen: Watch<Entry<P::Call, T>>,
+) -> (
+    u64,
+    WritePermit<'a, T, Party<P::Call, P::Point>, P>,
+    Watch<Entry<P::Call, T>>,
+)
+    requires knows { MayKnow (P.holds writer.key) (P.ways writer.key) seen }
+    ensures seat { result.1.view.0 ≡ writer.entry.view.0 }
+    ensures writes { use_at P.meaning writer.entry.view.0 ≡ writes }
+    ensures value { result.1.value ≡ writer.entry.value }
+    ensures key { result.1.key ≡ writer.entry.key }
+    ensures finds { Peeks P.Word.words P.meaning writer.entry.view.0 result.0 }
+    ensures since { writer.entry.key.name ≡ seen.name → writer.entry.view.2 ≡ length seen.entries → (Since (model_at (P.Table.table (P.its writer.entry.key.start))) Nothing (writer.entry.key, Some writer.entry.view, seen) (result.1.key, Some result.1.view, result.2)) × (result.1.view.2 ≡ length result.2.entries) }
+{
+    P::laws();
+    let permit = writer.into_permit();
+    let (number, permit, seen) = P::Word::load::<
+        T,
+        Party<P::Call, P::Point>,
+        Entry<P::Call, T>,
+        P,
+        Peek<P>,
+    >(permit, seen);
+    (number, permit.into_writer(), seen)
+}
+
 /// Makes a call of one step of a holder that writes, which then holds nothing. The holder first writes its value.
 ///
 /// # Contract
@@ -284,7 +322,7 @@ pub fn free<'a, T, P: Runs<T>>(
     holds: Hold,
 ) -> SessionOf<'a, T, P>
     requires knows { MayKnow (P.holds writer.key) (P.ways writer.key) seen }
-    requires alone { (seat : Seat P.Call P.Point) → use_at P.meaning seat ≡ writes → seat ≡ Holding holds }
+    requires alone { use_at P.meaning writer.view.0 ≡ writes → writer.view.0 ≡ Holding holds }
     requires begins { (((P.Table.table (P.its writer.key.start)) writer.key.value).asks call (Some holds)).begins (Some holds) ≡ true }
     requires held { (may_write holds ≡ true) × (use_at P.meaning (Holding holds) ≡ writes) }
     requires frees { Frees (P.Table.table (P.its writer.key.start)) call holds writer.key }

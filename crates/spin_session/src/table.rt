@@ -2,7 +2,7 @@
 ghost use Rattle.std.specs.Prelude.{◌≡◌, ℕ, Bool, false, None, Option};
 ghost use Rattle.spin_session.specs.Meaning.{Meaning};
 ghost use Rattle.spin_session.specs.Operating.{Executes};
-ghost use Rattle.spin_session.specs.Turns.{TurnTold};
+ghost use Rattle.spin_session.specs.Turns.{PeekTold, TurnTold};
 
 use crate::second::Word;
 use spin_core::cell::{Play, Rule};
@@ -98,6 +98,15 @@ impl<T, P: Runs<T>, K: CallOf<P::Call>> Play<
     Entry<P::Call, T>,
 > for Turn<P, K> {
     ghost told = { λ key old new before. TurnTold (P.Table.table (P.its key.start)) P.meaning K.gives K.call key before };
+}
+
+/// A load of the word at place 1 that is no step of a call.
+pub struct Peek<P> {
+    rule: PhantomData<P>,
+}
+
+impl<T, P: Runs<T>> Play<Opening<T>, Party<P::Call, P::Point>, Entry<P::Call, T>> for Peek<P> {
+    ghost told = { λ key old new before. PeekTold (P.Table.table (P.its key.start)) P.Word.words P.meaning key before };
 }
 
 fn is_load(operation: Operation) -> bool {

@@ -31,7 +31,7 @@ operate-permit-requires-clause-keeps g c =
     let start : c.in-Some.point ≡ (t p.key.value).start call (Some a.holds) = starts_at (t p.key.value) call (Some a.holds) c.in-Some.point begins (sym c.in-Some.is ∙ begun ∙ alike.begins call (Some a.holds)) in
     let same : o.result ≡ wrapped (operation_by ((t p.key.value).act call ((t p.key.value).start call (Some a.holds)) (Some a.holds))) = rw start at (done ∙ ap wrapped (alike.operations call c.in-Some.point (Some a.holds))) in
     let place : (t p.key.value).word ((t p.key.value).start call (Some a.holds)) ≡ c.place-place.result = sym (rw start at (there ∙ alike.places c.in-Some.point)) in
-    let seat = c.requires.alone a.writer.view.0 (sym (c.laws.ensures.uses a.writer.key (Some a.writer.view)) ∙ it.ensures.use_of_view) in
+    let seat = c.requires.alone (sym (c.laws.ensures.uses a.writer.key (Some a.writer.view)) ∙ it.ensures.use_of_view) in
     let is : what p.view ≡ Some (Holding a.holds) = ap what it.ensures.same.0 ∙ ap Some seat in
     let may : ((t p.key.value).asks call (Some a.holds)).begins (Some a.holds) ≡ true = rw it.ensures.key c.requires.begins in
     let all = c.laws.ensures.gives p.key p.view a.writer.value call a.holds o.result same is may c.requires.held.0 c.requires.held.1 in
@@ -40,7 +40,7 @@ operate-permit-requires-clause-keeps g c =
 pub returns-clause-out : goal.returns-clause-out
 returns-clause-out g c =
     let a = c.args in let it = c.into_permit-permit in let p = it.result in let f = c.operate-permit in let t = g.P.Table.Steps.table (g.P.Runs.its c.into_permit-permit.result.key.start) in let b = g.P.Runs.meaning in let call = a.call in
-    let seat = c.requires.alone a.writer.view.0 (sym (c.laws.ensures.uses a.writer.key (Some a.writer.view)) ∙ it.ensures.use_of_view) in
+    let seat = c.requires.alone (sym (c.laws.ensures.uses a.writer.key (Some a.writer.view)) ∙ it.ensures.use_of_view) in
     let is : what p.view ≡ Some (Holding a.holds) = ap what it.ensures.same.0 ∙ ap Some seat in
     let from : Spot g.row.T.Denot g.row.P-Call.Denot g.row.P-Point.Denot = (p.key, p.view, a.seen) in
     let now : Spot g.row.T.Denot g.row.P-Call.Denot g.row.P-Point.Denot = (f.result.1.key, f.result.1.view, f.result.2) in
@@ -52,7 +52,7 @@ returns-clause-out g c =
 pub returns-clause-knows : goal.returns-clause-knows
 returns-clause-knows g c =
     let a = c.args in let it = c.into_permit-permit in let p = it.result in let f = c.operate-permit in let t = g.P.Table.Steps.table (g.P.Runs.its c.into_permit-permit.result.key.start) in let b = g.P.Runs.meaning in let call = a.call in
-    let seat = c.requires.alone a.writer.view.0 (sym (c.laws.ensures.uses a.writer.key (Some a.writer.view)) ∙ it.ensures.use_of_view) in
+    let seat = c.requires.alone (sym (c.laws.ensures.uses a.writer.key (Some a.writer.view)) ∙ it.ensures.use_of_view) in
     let is : what p.view ≡ Some (Holding a.holds) = ap what it.ensures.same.0 ∙ ap Some seat in
     let from : Spot g.row.T.Denot g.row.P-Call.Denot g.row.P-Point.Denot = (p.key, p.view, a.seen) in
     let now : Spot g.row.T.Denot g.row.P-Call.Denot g.row.P-Point.Denot = (f.result.1.key, f.result.1.view, f.result.2) in
@@ -64,7 +64,7 @@ returns-clause-knows g c =
 pub returns-clause-releases : goal.returns-clause-releases
 returns-clause-releases g c named knew =
     let a = c.args in let w = a.writer in let it = c.into_permit-permit in let p = it.result in let f = c.operate-permit in let t = g.P.Table.Steps.table (g.P.Runs.its c.into_permit-permit.result.key.start) in let b = g.P.Runs.meaning in let call = a.call in
-    let seat = c.requires.alone a.writer.view.0 (sym (c.laws.ensures.uses a.writer.key (Some a.writer.view)) ∙ it.ensures.use_of_view) in
+    let seat = c.requires.alone (sym (c.laws.ensures.uses a.writer.key (Some a.writer.view)) ∙ it.ensures.use_of_view) in
     let is : what p.view ≡ Some (Holding a.holds) = ap what it.ensures.same.0 ∙ ap Some seat in
     let from : Spot g.row.T.Denot g.row.P-Call.Denot g.row.P-Point.Denot = (p.key, p.view, a.seen) in
     let now : Spot g.row.T.Denot g.row.P-Call.Denot g.row.P-Point.Denot = (f.result.1.key, f.result.1.view, f.result.2) in
