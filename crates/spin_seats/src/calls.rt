@@ -1,6 +1,6 @@
 //! The calls of a lock of seats, the points between their steps, and the lock's table. Begin with [`SeatsCall`] and
 //! [`SeatsTable`].
-ghost use Rattle.std.specs.Prelude.{◌≡◌, ⊤};
+ghost use Rattle.std.specs.Prelude.{◌≡◌, None, ⊤};
 ghost use Rattle.spin_seats.specs.Table.{seats_table};
 
 use crate::steps;
@@ -62,6 +62,8 @@ impl Steps<(), SeatsCall, SeatsPoint> for SeatsTable {
     type Words = usize;
 
     ghost table = { λ it value. seats_table it.seats };
+
+    ghost given = { None };
 
     fn start(&self, call: SeatsCall, holds: Option<Hold>) -> Option<SeatsPoint> {
         match (call, holds) {

@@ -40,9 +40,10 @@ pub trait Runs<T>: Rule<
     // What the word and the points of the table are in the plain lock.
     ghost meaning: { Meaning Self.Call Self.Point };
 
-    /// Returns the table for words that open with 0. The steps are the same for all numbers.
+    /// Returns the table for words that open with 0. The steps are the same for all numbers. It has no answer `Value`.
     fn table() -> Self::Table
-        ensures { result ≡ its 0 };
+        ensures is { result ≡ its 0 }
+        ensures given { Self.Table.given ≡ None };
 
     /// Returns how many hints a waiting call gives before its next step, at the point `to`, or 0 if it makes this step at
     /// once. Its last step, at the point `from`, found this number. Its last pause had `last` hints, or 0 if it has not

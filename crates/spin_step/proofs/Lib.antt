@@ -10,3 +10,4 @@ pub mod Tickets
 pub mod TicketSteps
 pub mod InOrder
 pub mod Onces
+pub mod Made

@@ -12,6 +12,7 @@ pub mod Machines
 pub mod Operations
 pub mod Schedules
 pub mod Acts
+pub mod Words
 pub mod Tables
 pub mod FlagKind
 pub mod FlagCalls

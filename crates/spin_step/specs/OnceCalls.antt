@@ -69,9 +69,13 @@ asks_of IsCompleted = looks_complete
 abbrev pub OnceMachine : Type 0 → Type 0
 OnceMachine V = Machine ℕ V (OnceCall V) OncePoint (Answer V)
 
-abbrev pub once_table : {V : Type 0} → Option V → Table ℕ V (OnceCall V) OncePoint (Answer (Unit {0}))
-once_table value =
+-- the table, for a value of another type than that of the closures
+abbrev pub once_table_of : {V X : Type 0} → Option X → Table ℕ X (OnceCall V) OncePoint (Answer (Unit {0}))
+once_table_of value =
     usual_table value once (if is_some value then 2 else 0) one_number (λ c h. Look) act_of (λ c h. asks_of c)
+
+abbrev pub once_table : {V : Type 0} → Option V → Table ℕ V (OnceCall V) OncePoint (Answer (Unit {0}))
+once_table value = once_table_of value
 
 abbrev pub once_machine : {V : Type 0} → Option V → OnceMachine V
 once_machine value = machine_with (once_table value) brings_of

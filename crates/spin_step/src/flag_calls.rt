@@ -1,6 +1,6 @@
 //! The calls of the lock of one flag, the points that a call reaches between its steps, and its table. Begin with
 //! [`FlagCall`] and [`FlagTable`].
-ghost use Rattle.std.specs.Prelude.{◌≡◌};
+ghost use Rattle.std.specs.Prelude.{◌≡◌, None};
 ghost use Rattle.spin_step.specs.FlagCalls.{flag_table, granted};
 
 use crate::answer::Answer;
@@ -44,6 +44,8 @@ impl<T> Steps<T, FlagCall, FlagPoint> for FlagTable {
     type Words = bool;
 
     ghost table = { λ it. flag_table };
+
+    ghost given = { None };
 
     fn start(&self, call: FlagCall, holds: Option<Hold>) -> Option<FlagPoint> {
         match (call, holds) {

@@ -1,12 +1,14 @@
 //! The table of a lock as code: before a step its operation, after it how the call goes on. Begin with [`Steps`].
-ghost use Rattle.std.specs.Prelude.{◌≡◌, None, is_some};
+ghost use Rattle.std.specs.Prelude.{◌≡◌, Option, is_some};
 ghost use Rattle.spin_step.specs.Acts.{Table, begin_of, filled, next_of, operation_by, refusal_by};
 ghost use Rattle.spin_step.specs.Operations.{wrapped};
+ghost use Rattle.spin_step.specs.Words.{WorksOn};
 ghost use Rattle.spin_step.specs.declared.answer.Answer.{Answer as AnAnswer};
 
 use crate::answer::Answer;
 use crate::place::Hold;
 use crate::stepped::Next;
+use crate::words::Words;
 
 /// One atomic operation on a word.
 #[derive(Clone, Copy)]
@@ -26,9 +28,12 @@ pub enum Operation {
 /// The value is the lock's table in the logic (`table`), for each value of `T` with which the lock may open.
 pub trait Steps<T, C, L>: Copy {
     /// The words of the model.
-    type Words: Copy;
+    type Words: Words;
 
     ghost table: { Self → T → Table Self.Words T C L (AnAnswer T) };
+
+    // The value that an answer `Value` gives. A lock has no such answer.
+    ghost given: { Option T };
 
     /// Returns the point at which the call begins, or `None` if a party that holds `holds` may not begin it.
     fn start(&self, call: C, holds: Option<Hold>) -> Option<L>
@@ -41,9 +46,11 @@ pub trait Steps<T, C, L>: Copy {
     /// Returns the operation of the call's next step.
     ///
     /// # Contract
-    /// It is that of the table, but a number that the table stores is taken modulo 2^64 (`wrapped`).
+    /// It is that of the table, but a number that the table stores is taken modulo 2^64 (`wrapped`). Where the step is
+    /// possible, the number stays in its word (`WorksOn`).
     fn operation(&self, call: C, point: L, holds: Option<Hold>) -> Operation
-        ensures operation { (value : T) → result ≡ wrapped (operation_by ((table self.now value).act call point holds)) };
+        ensures operation { (value : T) → result ≡ wrapped (operation_by ((table self.now value).act call point holds)) }
+        ensures works { (value : T) → WorksOn Self.Words.memory Self.Words.places Self.Words.limit (table self.now value) call point holds };
 
     /// Returns whether the call's next step is an exchange that may fail spuriously in the world.
     fn is_weak(&self, call: C, point: L, holds: Option<Hold>) -> bool
@@ -51,5 +58,5 @@ pub trait Steps<T, C, L>: Copy {
 
     /// Returns how the call goes on, if its step found the number `found`.
     fn next(&self, call: C, point: L, holds: Option<Hold>, found: u64) -> Next<L, Answer<()>>
-        ensures { (value : T) → filled None result ≡ next_of (table self.now value) call point holds found };
+        ensures { (value : T) → filled given result ≡ next_of (table self.now value) call point holds found };
 }

@@ -1,4 +1,13 @@
-//! The calls of the ticket lock, their points, and its words. Begin with [`TicketCall`].
+//! The calls of the ticket lock, their points, its words and its table. Begin with [`TicketCall`] and [`TicketTable`].
+ghost use Rattle.std.specs.Prelude.{◌≡◌, None};
+ghost use Rattle.spin_step.specs.TicketCalls.{ticket_table};
+
+use crate::answer::Answer;
+use crate::place::Hold;
+use crate::stepped::Next;
+use crate::table::{Operation, Steps};
+use crate::ticket;
+
 /// The two words of a `Ticket`.
 #[derive(Copy)]
 pub struct TicketWords {
@@ -45,4 +54,103 @@ pub enum TicketPoint {
     LookNext(u64),
     /// `Release` stores the number after the party's own ticket, which has this number.
     Serve(u64),
+}
+
+/// The table of the ticket lock whose first ticket has this number.
+///
+/// # Contract
+/// It is `ticket_table`.
+#[derive(Clone, Copy)]
+pub struct TicketTable {
+    pub first: u64,
+}
+
+impl<T> Steps<T, TicketCall, TicketPoint> for TicketTable {
+    type Words = TicketWords;
+
+    ghost table = { λ it value. ticket_table value it.first };
+
+    ghost given = { None };
+
+    fn start(&self, call: TicketCall, holds: Option<Hold>) -> Option<TicketPoint> {
+        match (call, holds) {
+            (TicketCall::Lock, None) => Some(TicketPoint::LoadNext),
+            (TicketCall::TryLock, None) => Some(TicketPoint::TryLoadNext),
+            (TicketCall::IsLocked, None) => Some(TicketPoint::LookServing),
+            (TicketCall::Release, Some(Hold::Ticket(ticket))) => Some(TicketPoint::Serve(ticket)),
+            _ => None,
+        }
+    }
+
+    fn place(&self, point: TicketPoint) -> usize {
+        match point {
+            TicketPoint::Await(_)
+            | TicketPoint::TryLoadServing(_)
+            | TicketPoint::LookServing
+            | TicketPoint::Serve(_) => 1,
+            _ => 0,
+        }
+    }
+
+    fn operation(&self, call: TicketCall, point: TicketPoint, holds: Option<Hold>) -> Operation {
+        let _ = (call, holds);
+        match point {
+            TicketPoint::Take(next) | TicketPoint::TryTake(next) => {
+                Operation::Exchange(next, ticket::take(next).unwrap_or(next))
+            }
+            TicketPoint::Serve(ticket) => Operation::Store(ticket.wrapping_add(1)),
+            _ => Operation::Load,
+        }
+    }
+
+    fn is_weak(&self, call: TicketCall, point: TicketPoint, holds: Option<Hold>) -> bool {
+        let _ = (call, point, holds);
+        false
+    }
+
+    fn next(
+        &self,
+        call: TicketCall,
+        point: TicketPoint,
+        holds: Option<Hold>,
+        found: u64,
+    ) -> Next<TicketPoint, Answer<()>> {
+        let _ = call;
+        let refused = Next::Answers(Answer::Refused, holds);
+        match point {
+            TicketPoint::Take(next) if found == next && found < u64::MAX => {
+                Next::Continue(TicketPoint::Await(next))
+            }
+            TicketPoint::LoadNext | TicketPoint::Take(_) => Next::Continue(if found < u64::MAX {
+                TicketPoint::Take(found)
+            } else {
+                TicketPoint::LoadNext
+            }),
+            TicketPoint::Await(ticket) => {
+                if ticket::is_turn(found, ticket) {
+                    Next::Answers(Answer::Granted, Some(Hold::Ticket(ticket)))
+                } else {
+                    Next::Continue(point)
+                }
+            }
+            TicketPoint::TryLoadNext => Next::Continue(TicketPoint::TryLoadServing(found)),
+            TicketPoint::TryLoadServing(next) => {
+                if ticket::is_turn(found, next) && next < u64::MAX {
+                    Next::Continue(TicketPoint::TryTake(next))
+                } else {
+                    refused
+                }
+            }
+            TicketPoint::TryTake(next) => {
+                if found == next && next < u64::MAX {
+                    Next::Answers(Answer::Granted, Some(Hold::Ticket(next)))
+                } else {
+                    refused
+                }
+            }
+            TicketPoint::LookServing => Next::Continue(TicketPoint::LookNext(found)),
+            TicketPoint::LookNext(serving) => Next::Answers(Answer::Is(found != serving), holds),
+            TicketPoint::Serve(_) => Next::Answers(Answer::Done, None),
+        }
+    }
 }

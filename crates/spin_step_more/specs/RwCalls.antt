@@ -1,5 +1,5 @@
 -- The calls of the read-write lock, step by step, and what each step is in the plain lock.
-use Rattle.std.specs.Prelude.{ℕ, ◌-◌, ◌/◌, ◌&&◌, Option, Some, None, nat_lt, min}
+use Rattle.std.specs.Prelude.{ℕ, ◌-◌, ◌/◌, ◌==◌, ◌&&◌, Option, Some, None, nat_lt, min}
 use Rattle.spin_step.specs.Plain.{reading, upgradable, asking, writing, weight, Ask, to_read, to_read_upgradable, to_write, to_upgrade, to_upgrade_asked, gets, releases, turns}
 use Rattle.spin_step_more.specs.Readers.{reader_limit, readers_in, writers_in, tells, read, read_upgradable, write, upgrade, upgrade_asked}
 use Rattle.spin_step.specs.declared.place.Hold.{Hold}
@@ -16,7 +16,7 @@ use Rattle.spin_step.specs.Calls.{Asked}
 use Rattle.spin_step.specs.Asks.{is_above_read, is_held_some, is_write, looks_and_tries, spins_to_write, waits_to_upgrade, waits, tries, tries_weakly, counts_readers, counts_writers, turns_to, gives_back}
 use Rattle.spin_step_more.specs.RwKind.{rw}
 use Rattle.spin_step.specs.Machines.{Machine}
-use Rattle.spin_step.specs.Acts.{one_number, Act, load, load_for, exchange, weak_exchange, retry, store, swap, Table, machine_of}
+use Rattle.spin_step.specs.Acts.{one_number, either, Act, load, load_for, exchange, weak_exchange, retry, store, swap, Table, machine_of}
 use Rattle.spin_step.specs.Tables.{usual_table}
 use Rattle.spin_step.specs.declared.table.Operation.TheVariants as op
 
@@ -26,6 +26,11 @@ granted held = Answers Granted (Some held)
 -- a call that has looked goes on to an exchange that expects the word found
 abbrev pub goes_for : {V : Type 0} → ℕ → Next RwPoint (Answer V)
 goes_for w = Continue (Exchange w)
+
+-- how a call that wants to read goes on where the word found admits it
+abbrev pub comes : {V : Type 0} → Hold → RwPoint → ℕ → Next RwPoint (Answer V)
+comes held (Exchange k) n = either (n == k) (granted held) (goes_for n)
+comes held _ n = goes_for n
 
 -- A call that loads first. Then it repeats its exchange as long as the word found has room for it.
 abbrev pub comes_by : {V : Type 0} → (ℕ → Option ℕ) → Ask → Hold → Next RwPoint (Answer V) → RwPoint → Act ℕ RwPoint (Answer V)

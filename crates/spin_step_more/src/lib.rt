@@ -10,6 +10,6 @@ mod fair_calls;
 pub mod laws;
 pub mod rw;
 
-pub use fair_calls::{FairCall, FairPoint};
+pub use fair_calls::{FairCall, FairPoint, FairTable};
 
 pub mod rw_calls;

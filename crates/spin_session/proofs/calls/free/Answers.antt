@@ -25,9 +25,9 @@ operate-permit-requires-clause-keeps g c =
     let a = c.args in let it = c.into_permit-permit in let p = it.result in let t = g.P.Table.Steps.table (g.P.Runs.its c.into_permit-permit.result.key.start) in let b = g.P.Runs.meaning in let call = a.call in let o = c.operation-operation in
     let begins : ((t p.key.value).asks call (Some a.holds)).begins (Some a.holds) ≡ true = rw it.ensures.key c.requires.begins in
     let t₀ = g.P.Table.Steps.table (g.P.Runs.its 0) in let alike = c.laws.ensures.alike p.key.value p.key.start in
-    let begun : c.start.result ≡ begin_of (t₀ p.key.value) call (Some a.holds) = rw c.table-table.ensures at (c.start.ensures p.key.value) in
-    let done : o.result ≡ wrapped (operation_by ((t₀ p.key.value).act call c.in-Some.point (Some a.holds))) = rw c.table-table.ensures at (o.ensures.operation p.key.value) in
-    let there : c.place-place.result ≡ (t₀ p.key.value).word c.in-Some.point = rw c.table-table.ensures at (c.place-place.ensures p.key.value) in
+    let begun : c.start.result ≡ begin_of (t₀ p.key.value) call (Some a.holds) = rw c.table-table.ensures.is at (c.start.ensures p.key.value) in
+    let done : o.result ≡ wrapped (operation_by ((t₀ p.key.value).act call c.in-Some.point (Some a.holds))) = rw c.table-table.ensures.is at (o.ensures.operation p.key.value) in
+    let there : c.place-place.result ≡ (t₀ p.key.value).word c.in-Some.point = rw c.table-table.ensures.is at (c.place-place.ensures p.key.value) in
     let start : c.in-Some.point ≡ (t p.key.value).start call (Some a.holds) = starts_at (t p.key.value) call (Some a.holds) c.in-Some.point begins (sym c.in-Some.is ∙ begun ∙ alike.begins call (Some a.holds)) in
     let same : o.result ≡ wrapped (operation_by ((t p.key.value).act call ((t p.key.value).start call (Some a.holds)) (Some a.holds))) = rw start at (done ∙ ap wrapped (alike.operations call c.in-Some.point (Some a.holds))) in
     let place : (t p.key.value).word ((t p.key.value).start call (Some a.holds)) ≡ c.place-place.result = sym (rw start at (there ∙ alike.places c.in-Some.point)) in
@@ -84,5 +84,5 @@ pub unreachable-requires : goal.unreachable-requires
 unreachable-requires g c =
     let a = c.args in let p = c.into_permit-permit.result in let t = g.P.Table.Steps.table (g.P.Runs.its c.into_permit-permit.result.key.start) in
     let begins : ((t p.key.value).asks a.call (Some a.holds)).begins (Some a.holds) ≡ true = rw c.into_permit-permit.ensures.key c.requires.begins in
-    let begun : c.start.result ≡ begin_of (g.P.Table.Steps.table (g.P.Runs.its 0) p.key.value) a.call (Some a.holds) = rw c.table-table.ensures at (c.start.ensures p.key.value) in
+    let begun : c.start.result ≡ begin_of (g.P.Table.Steps.table (g.P.Runs.its 0) p.key.value) a.call (Some a.holds) = rw c.table-table.ensures.is at (c.start.ensures p.key.value) in
     begins_so (t p.key.value) a.call (Some a.holds) begins (sym c.in-None.is ∙ begun ∙ (c.laws.ensures.alike p.key.value p.key.start).begins a.call (Some a.holds))

@@ -17,9 +17,9 @@ pub operate-found-requires-clause-keeps : goal.operate-found-requires-clause-kee
 operate-found-requires-clause-keeps g c =
     let a = c.args in let p = a.session.permit in let t = g.P.Table.Steps.table (g.P.Runs.its c.args.session.permit.key.start) in let o = c.operation-operation in
     let t₀ = g.P.Table.Steps.table (g.P.Runs.its 0) in let alike = c.laws.ensures.alike p.key.value p.key.start in
-    let done : o.result ≡ wrapped (operation_by ((t₀ p.key.value).act a.call a.point a.holds)) = rw c.table-table.ensures at (o.ensures.operation p.key.value) in
+    let done : o.result ≡ wrapped (operation_by ((t₀ p.key.value).act a.call a.point a.holds)) = rw c.table-table.ensures.is at (o.ensures.operation p.key.value) in
     let same : o.result ≡ wrapped (operation_by ((t p.key.value).act a.call a.point a.holds)) = done ∙ ap wrapped (alike.operations a.call a.point a.holds) in
-    let there : c.place-place.result ≡ (t₀ p.key.value).word a.point = rw c.table-table.ensures at (c.place-place.ensures p.key.value) in
+    let there : c.place-place.result ≡ (t₀ p.key.value).word a.point = rw c.table-table.ensures.is at (c.place-place.ensures p.key.value) in
     let place : (t p.key.value).word a.point ≡ c.place-place.result = sym (there ∙ alike.places a.point) in
     subst (λ i. Operates g.P.Word.Word.words (g.P.Rule.holds p.key) (g.P.Rule.ways p.key) p.view p.value i o.result (TurnTold t g.P.Runs.meaning false (Some a.call) p.key p.view)) place
     (c.laws.ensures.turns p.key p.view p.value a.call a.point a.holds o.result same c.requires.at c.requires.knows.2 (quiet_at (t p.key.value) g.P.Runs.meaning a.call a.point a.holds (what p.view) c.requires.at c.requires.quiet))
@@ -40,7 +40,7 @@ returns-clause-seat g c =
     let a = c.args in let it = a.session in let p = it.permit in let f = c.operate-found in let t = g.P.Table.Steps.table (g.P.Runs.its c.args.session.permit.key.start) in let named = Named (g.P.Rule.holds p.key) (g.P.Rule.ways p.key) it.seen.name in
     let all = turned (t p.key.value) g.P.Runs.meaning p.view f.result.1.view it.seen f.result.2 c.requires.knows.1 a.call a.point a.holds c.requires.at named
     (c.laws.ensures.named p.key it.seen.name c.requires.knows.0) f.result.0 f.ensures.moved in
-    let went : filled None c.next.result ≡ next_of (g.P.Table.Steps.table (g.P.Runs.its 0) p.key.value) a.call a.point a.holds f.result.0 = rw c.table-table.ensures at (c.next.ensures p.key.value) in
+    let went : filled None c.next.result ≡ next_of (g.P.Table.Steps.table (g.P.Runs.its 0) p.key.value) a.call a.point a.holds f.result.0 = rw (c.table-table.ensures.is, c.table-table.ensures.given) at (c.next.ensures p.key.value) in
     let next = went ∙ (c.laws.ensures.alike p.key.value p.key.start).goes a.call a.point a.holds f.result.0 in
     all.is ∙ ap Some (ap (seat_after a.call a.holds) (sym next) ∙ same_seat g.row.T.Denot a.call a.holds c.next.result)
 
@@ -50,7 +50,7 @@ returns-clause-comes g c p on =
     let is_named = c.laws.ensures.named k.key it.seen.name c.requires.knows.0 in let s = g.P.Runs.meaning in
     let all = turned (t k.key.value) s k.view f.result.1.view it.seen f.result.2 c.requires.knows.1 a.call a.point a.holds c.requires.at named is_named f.result.0 f.ensures.moved in
     let fine = in_bounds (t k.key.value) s k.view f.result.1.view it.seen f.result.2 c.requires.knows.1 a.call a.point a.holds c.requires.at named is_named f.result.0 f.ensures.moved in
-    let went : filled None c.next.result ≡ next_of (g.P.Table.Steps.table (g.P.Runs.its 0) k.key.value) a.call a.point a.holds f.result.0 = rw c.table-table.ensures at (c.next.ensures k.key.value) in
+    let went : filled None c.next.result ≡ next_of (g.P.Table.Steps.table (g.P.Runs.its 0) k.key.value) a.call a.point a.holds f.result.0 = rw (c.table-table.ensures.is, c.table-table.ensures.given) at (c.next.ensures k.key.value) in
     let next = went ∙ (c.laws.ensures.alike k.key.value k.key.start).goes a.call a.point a.holds f.result.0 in
     let now : Spot g.row.T.Denot g.row.P-Call.Denot g.row.P-Point.Denot = (f.result.1.key, f.result.1.view, f.result.2) in
     comes t s a.call a.point a.holds p (spot it) now on c.next.result
@@ -59,7 +59,7 @@ returns-clause-comes g c p on =
 pub returns-clause-goes : goal.returns-clause-goes
 returns-clause-goes g c =
     let a = c.args in let it = a.session in let k = it.permit in let f = c.operate-found in let t = g.P.Table.Steps.table (g.P.Runs.its c.args.session.permit.key.start) in let named = Named (g.P.Rule.holds k.key) (g.P.Rule.ways k.key) it.seen.name in
-    let went : filled None c.next.result ≡ next_of (g.P.Table.Steps.table (g.P.Runs.its 0) k.key.value) a.call a.point a.holds f.result.0 = rw c.table-table.ensures at (c.next.ensures k.key.value) in (
+    let went : filled None c.next.result ≡ next_of (g.P.Table.Steps.table (g.P.Runs.its 0) k.key.value) a.call a.point a.holds f.result.0 = rw (c.table-table.ensures.is, c.table-table.ensures.given) at (c.next.ensures k.key.value) in (
       went ∙ (c.laws.ensures.alike k.key.value k.key.start).goes a.call a.point a.holds f.result.0,
       in_bounds (t k.key.value) g.P.Runs.meaning k.view f.result.1.view it.seen f.result.2 c.requires.knows.1 a.call a.point a.holds c.requires.at named (c.laws.ensures.named k.key it.seen.name c.requires.knows.0) f.result.0 f.ensures.moved,
     )
