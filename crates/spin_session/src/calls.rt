@@ -1,6 +1,6 @@
 //! The calls of a session: each is made by the steps of the lock's table. Begin with [`wait_for`].
 ghost use Rattle.std.specs.Prelude.{◌≡◌, true, None, Some, Option, IfOk, IfErr, length};
-ghost use Rattle.spin_core.specs.Cell.{writes, Moved, Keeps};
+ghost use Rattle.spin_core.specs.Cell.{writes, use_of, Moved, Keeps};
 ghost use Rattle.spin_core.specs.Own.{what};
 ghost use Rattle.spin_core.specs.Passes.{IsOut, Nothing, mark_of};
 ghost use Rattle.spin_core.specs.Spots.{Releases, Since};
@@ -115,6 +115,56 @@ pub fn go_on<'a, T, P: Runs<T>, R: RelaxStrategy, W: Wait>(
     ensures last { SeesLast result }
 {
     let _ = (answer, after, strategy);
+    let (point, found, session) = on;
+    wait::<T, P, R, W>(session, call, point, holds, found, rt)
+}
+
+/// Makes the first round of a call that waits, whatever its answer is and what the party then holds. This function does
+/// not wait: if it returns `Err`, the caller calls [`wait_on`].
+///
+/// # Contract
+/// With `Ok` the party has made exactly this call, and has been answered as the table says (`ended`). With `Err` it waits
+/// in the call.
+#[inline(always)]
+pub fn first_round<'a, T, P: Runs<T>>(
+    session: SessionOf<'a, T, P>,
+    call: P::Call,
+    holds: Option<Hold>,
+) -> Result<SessionOf<'a, T, P>, (P::Point, u64, SessionOf<'a, T, P>)>
+    requires stands { Stands holds session }
+    requires may { MayBegin (P.Table.table (P.its session.permit.key.start)) P.meaning call holds session.permit.key }
+    ensures ended { IfOk result (λ now. (a : AnAnswer (Unit {0})) × (after : Option AHold) × Ended (P.Table.table (P.its session.entry.permit.key.start)) P.meaning call holds a after (spot session.entry) (spot now)) }
+    ensures knows { IfOk result (λ now. Knows P.meaning (spot now) × SeesLast now) }
+    ensures waits { IfErr result (λ on. Waits (P.Table.table (P.its session.entry.permit.key.start)) P.meaning call on.0 holds on.1 (spot session.entry) (spot on.2)) }
+{
+    let point = point_of(&session, call, holds);
+    let (next, point, found, session) = round(session, call, point, holds);
+    match next {
+        Next::Answers(_, _) => Ok(session),
+        Next::Continue(_) => Err((point, found, session)),
+    }
+}
+
+/// Goes on with a call that waits from where [`first_round`] left it.
+///
+/// # Contract
+/// The party has been answered as the table says (`ended`). Whether and when the call returns is not promised.
+#[inline(always)]
+pub fn wait_on<'a, T, P: Runs<T>, R: RelaxStrategy, W: Wait>(
+    on: (P::Point, u64, SessionOf<'a, T, P>),
+    call: P::Call,
+    holds: Option<Hold>,
+    strategy: Strategy<R>,
+    rt: &W,
+) -> SessionOf<'a, T, P>
+    requires knows { Knows P.meaning (spot on.2) }
+    requires goes { GoesOn (P.Table.table (P.its on.2.permit.key.start)) call on.0 holds on.1 on.2.permit.key (what on.2.permit.view) }
+    requires quiet { StaysQuiet P.meaning call holds }
+    ensures knows { Knows P.meaning (spot result) }
+    ensures ended { (p : Spot T P.Call P.Point) → Under (P.Table.table (P.its on.entry.2.permit.key.start)) P.meaning call p (spot on.entry.2) → (a : AnAnswer (Unit {0})) × (after : Option AHold) × Ended (P.Table.table (P.its on.entry.2.permit.key.start)) P.meaning call holds a after p (spot result) }
+    ensures last { SeesLast result }
+{
+    let _ = strategy;
     let (point, found, session) = on;
     wait::<T, P, R, W>(session, call, point, holds, found, rt)
 }
@@ -271,6 +321,23 @@ pub fn writer<'a, T, P: Runs<T>>(
     ensures seen { result.1 ≡ session.entry.seen }
 {
     let _ = holds;
+    P::laws();
+    let Session { permit, seen } = session;
+    (permit.into_writer(), seen)
+}
+
+/// Returns the permit of a party that writes the value, whatever it holds, and what the party knows.
+pub fn writing<'a, T, P: Runs<T>>(
+    session: SessionOf<'a, T, P>,
+) -> (
+    WritePermit<'a, T, Party<P::Call, P::Point>, P>,
+    Watch<Entry<P::Call, T>>,
+)
+    requires { use_of (use_at P.meaning) (what session.permit.view) ≡ writes }
+    ensures same { (Some result.0.view ≡ session.entry.permit.view) × (Some result.0.value ≡ session.entry.permit.value) }
+    ensures key { result.0.key ≡ session.entry.permit.key }
+    ensures seen { result.1 ≡ session.entry.seen }
+{
     P::laws();
     let Session { permit, seen } = session;
     (permit.into_writer(), seen)
@@ -510,9 +577,12 @@ fn further<'a, T, P: Runs<T>>(
     }
 }
 
-// Makes a call that is answered by its third step at the latest. Returns the answer, and what the party then holds.
+/// Makes a call that is answered by its third step at the latest. Returns the answer, and what the party then holds.
+///
+/// # Contract
+/// The party has made exactly this call, and has been answered as the table says (`ended`).
 #[inline(always)]
-fn in_three<'a, T, P: Runs<T>>(
+pub fn in_three<'a, T, P: Runs<T>>(
     session: SessionOf<'a, T, P>,
     call: P::Call,
     holds: Option<Hold>,
