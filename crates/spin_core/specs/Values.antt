@@ -41,4 +41,4 @@ module _ {C V : Type 0} where
 
 -- the opening after the owner has borrowed the value: the trace no longer tells the value
 abbrev pub untold : {V : Type 0} → Opening V → Opening V
-untold opening = record { marker = opening.marker; name = opening.name; value = opening.value; told = false }
+untold opening = record { marker = opening.marker; name = opening.name; value = opening.value; told = false; start = opening.start }

@@ -12,7 +12,8 @@ use std::marker::{Model, PhantomData};
 /// values.
 pub type Entry<C, T = ()> = (usize, Move<C, T>);
 
-/// What is fixed when a lock is made: the name of its trace, and its opening value. It has no bytes.
+/// What is fixed when a lock is made: the name of its trace, its opening value, and the number with which its words
+/// open. It has no bytes.
 ///
 /// If `told` is true, a value that nobody writes is the one that the trace says was written last, or else the
 /// opening value. This holds until the owner borrows the value.
@@ -21,6 +22,7 @@ pub struct Opening<T> {
     pub ghost name: { ℕ },
     pub ghost value: { T },
     pub ghost told: { Bool },
+    pub ghost start: { ℕ },
 }
 
 impl<T> Model for Opening<T> {
@@ -30,12 +32,24 @@ impl<T> Model for Opening<T> {
 }
 
 impl<T> Opening<T> {
-    /// Returns the opening of a lock with this trace and this value.
+    /// Returns the opening of a lock with this trace and this value. Its words open with 0.
     pub const fn of<E, S>(trace: &Trace<E, S>, value: &T) -> Opening<T>
-        ensures { (result.name ≡ trace.now.name) × (result.value ≡ value.now) × (result.told ≡ true) }
+        ensures { (result.name ≡ trace.now.name) × (result.value ≡ value.now) × (result.told ≡ true) × (result.start ≡ 0) }
     {
         let _ = trace;
         let _ = value;
+        Opening {
+            marker: PhantomData,
+        }
+    }
+
+    /// Returns the opening of a lock with this trace and this value, whose words open with the number `start`.
+    pub const fn starting_at<E, S>(trace: &Trace<E, S>, value: &T, start: &u64) -> Opening<T>
+        ensures { (result.name ≡ trace.now.name) × (result.value ≡ value.now) × (result.told ≡ true) × (result.start ≡ start.now) }
+    {
+        let _ = trace;
+        let _ = value;
+        let _ = start;
         Opening {
             marker: PhantomData,
         }

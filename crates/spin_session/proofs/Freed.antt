@@ -23,15 +23,15 @@ pub off_out : {C L : Type 0} (s : Meaning C L) (view : Option (Seat C L)) → Is
 off_out s None out = refl
 off_out s (Some x) out = ap (use_at s) out
 
-module _ {W V C L : Type 0} (t : V → Table W V C L (Answer V)) (bounds : ℕ → Type 0) (c : C) (h : Hold) (p q : Spot V C L) (is : what p.1 ≡ Some (Holding h)) (frees : Frees t c h p.0) (named : Type 0) (n : ℕ) where
+module _ {W V C L : Type 0} (t : V → Table W V C L (Answer V)) (s : Meaning C L) (c : C) (h : Hold) (p q : Spot V C L) (is : what p.1 ≡ Some (Holding h)) (frees : Frees t c h p.0) (named : Type 0) (n : ℕ) where
   abbrev Step : (V → Type 0) → Option (Numbered (Seat C L)) → Type 0
-  Step Q w = Moved (Watches named p.2 q.2 (Told (t p.0.value) bounds (gives_up (t p.0.value) bounds Q c (Some (Holding h))) p.1) n) w
+  Step Q w = Moved (Watches named p.2 q.2 (Told (t p.0.value) s (gives_up (t p.0.value) s Q c (Some (Holding h))) p.1) n) w
 
   abbrev Moves : Option (Numbered (Seat C L)) → Type 0
-  Moves w = Moved (Watches named p.2 q.2 (Told (t p.0.value) bounds (turn_by (t p.0.value) bounds true (Some c) (what p.1)) p.1) n) w
+  Moves w = Moved (Watches named p.2 q.2 (Told (t p.0.value) s (turn_by (t p.0.value) s true (Some c) (what p.1)) p.1) n) w
 
   as_step : (w : Option (Numbered (Seat C L))) → Moves w → Step (λ y. Unit {0}) w
-  as_step w moved = subst (λ o. Moved (Watches named p.2 q.2 (Told (t p.0.value) bounds (turn_by (t p.0.value) bounds true (Some c) o) p.1) n) w) is moved
+  as_step w moved = subst (λ o. Moved (Watches named p.2 q.2 (Told (t p.0.value) s (turn_by (t p.0.value) s true (Some c) o) p.1) n) w) is moved
 
   pub ends_out : (w : Option (Numbered (Seat C L))) → Moves w → IsOut Idle (what w)
   ends_out None moved = absurd moved
@@ -47,7 +47,7 @@ module _ {W V C L : Type 0} (t : V → Table W V C L (Answer V)) (bounds : ℕ �
 
   pub releases : named → q.0 ≡ p.0 → mark_of p.1 ≡ length p.2.entries → (x : V) → IsLast p.0 q.2.entries x → Moves q.1 → Releases (model_at t) (λ o. o) c Done x p q
   releases is_named same knew x last moved =
-      let says : Says (t p.0.value) bounds = gives_up (t p.0.value) bounds (IsIt x) c (Some (Holding h)) in
+      let says : Says (t p.0.value) s = gives_up (t p.0.value) s (IsIt x) c (Some (Holding h)) in
       let all = spots.took (model_at t) (λ z. z) (words_of (t p.0.value)) p q same knew is_named n says (λ k. Idle) (λ k. WritesSome (IsIt x) (IsCall c Done))
       (λ own outs k u (stays, (y, so, (rest, comes, is, are, s))). (rw (frees k) at stays, (y, so, (rest, comes, is, are, passes.whole c Done rest comes (rw (frees k) at s)))))
       (exactly q.1 (as_step q.1 moved)) in (all.0, last)

@@ -1,11 +1,11 @@
 -- What a lock's table means in the plain lock, and what has to be shown of a table that a cell runs.
-use Rattle.std.specs.Prelude.{◌≡◌, ℕ, ◌+◌, ◌-◌, ◌%◌, ◌^◌, ◌==◌, ◌⊎◌, Bool, true, false, Option, Some, is_some, if◌then◌else◌, bit_or, List}
+use Rattle.std.specs.Prelude.{◌≡◌, refl, ℕ, zero, suc, ◌≤◌, ◌+◌, ◌-◌, ◌%◌, ◌^◌, ◌==◌, ◌⊎◌, Bool, true, false, Option, Some, is_some, if◌then◌else◌, bit_or, List}
 use Rattle.std.specs.Option.{unwrap_or}
-use Rattle.spin_step.specs.Plain.{Plain, fresh}
+use Rattle.spin_step.specs.Plain.{Plain, fresh, ticket_limit}
 use Rattle.spin_step.specs.Parties.{IsOpenStep, apply_some, entries_after}
 use Rattle.spin_step.specs.Orders.{IsInOrder}
-use Rattle.spin_step.specs.Operations.{performed, wrapped}
-use Rattle.spin_step.specs.Acts.{Memory, Table, Act, step_at, step_by, change_at, next_of, operation_by, number_at, is_section, machine_of}
+use Rattle.spin_step.specs.Operations.{performed}
+use Rattle.spin_step.specs.Acts.{Memory, Table, Act, step_at, step_by, change_at, next_of, operation_by, number_at, place_of, is_section, machine_of}
 use Rattle.spin_step.specs.Machines.{Machine}
 use Rattle.spin_step.specs.Schedules.{Entry, resting}
 use Rattle.spin_step.specs.declared.answer.Answer.{Answer}
@@ -16,10 +16,10 @@ use Rattle.spin_step.specs.declared.stepped.Next.{Next}
 use Rattle.spin_step.specs.declared.stepped.Next.TheVariants.{Continue, Answers}
 use Rattle.spin_step.specs.declared.table.Operation.{Operation}
 use Rattle.spin_step.specs.declared.table.Operation.TheVariants as op
-use Rattle.spin_core.specs.Cell.{Use, Way, Ways, alone, lends, Limits, readers_of, writers_of}
+use Rattle.spin_core.specs.Cell.{Use, Way, Ways, alone, lends, Limits, readers_of, writers_of, OnWord}
 use Rattle.spin_core.specs.Own.{Numbered, Runs}
 use Rattle.spin_core.specs.Values.{last}
-use Rattle.spin_core.specs.Views.{Part, idle, entries_of, Knows, HasPart, IsLockOf, Encodes, used_by, no_word}
+use Rattle.spin_core.specs.Views.{Part, idle, entries_of, Knows, HasPart, IsLockOf, Encodes, used_by}
 use Rattle.spin_core.proofs.Leaving.{NamesNobody}
 use Rattle.spin_core.specs.declared.tie.Opening.{Opening}
 use Rattle.spin_core.specs.declared.trace.Trace.{Trace}
@@ -28,16 +28,47 @@ use Rattle.spin_core.specs.declared.trace.Trace.{Trace}
 abbrev pub worked : Operation → ℕ → ℕ
 worked op.Load n = n
 worked (op.Exchange from to) n = if n == from then to else n
-worked (op.Store to) n = to
+worked (op.Store to) n = to % 2 ^ 64
 worked (op.Add by) n = (n + by) % 2 ^ 64
 worked (op.Subtract by) n = (n + (2 ^ 64 - by)) % 2 ^ 64
 worked op.SetLowestBit n = bit_or n 1
 
--- what a table's word and points are in the plain lock
+-- How a cell keeps a number at place 1, in what stands beside its first word. A cell of one word has its first word at each place.
+pub record Words (S : Type 0) : Type 0 where
+  pub of : ℕ → S
+  pub number : ℕ × S → ℕ
+  pub put : ℕ → ℕ × S → ℕ × S
+  pub kept : (s : ℕ × S) → put (number s) s ≡ s
+
+abbrev pub just_one : Words (Unit {0})
+just_one = record { of = λ n. tt; number = λ s. s.0; put = λ n s. (n, s.1); kept = λ s. refl }
+
+abbrev pub with_second : Words ℕ
+with_second = record { of = λ n. n; number = λ s. s.1; put = λ n s. (s.0, n); kept = λ s. refl }
+
+module _ {S : Type 0} (k : Words S) where
+  -- the number at this place of a cell
+  abbrev pub number_in : ℕ → ℕ × S → ℕ
+  number_in i s = elim i [ zero ↦ s.0 | suc j ↦ k.number s ]
+
+  -- the words of a cell with this number at a place
+  abbrev pub put_in : ℕ → ℕ → ℕ × S → ℕ × S
+  put_in i n s = elim i [ zero ↦ (n, s.1) | suc j ↦ k.put n s ]
+
+  abbrev pub HasSecond : Type 0
+  HasSecond = (a b : ℕ) → k.number (a, k.of b) ≡ b
+
+  -- a step on the word at this place
+  abbrev pub on_place : ℕ → (ℕ → ℕ) → OnWord S
+  on_place i f = (λ s. put_in i (f (number_in i s)) s, λ s. number_in i s)
+
+-- what a table's words and points are in the plain lock
 pub record Meaning (C L : Type 0) : Type 1 where
   pub cap : ℕ
   pub word : Plain → ℕ
-  -- what else holds of the word at any time
+  -- the second word; a lock of one word may name any number
+  pub second : Plain → ℕ
+  -- what else holds of the first word at any time
   pub bounds : ℕ → Type 0
   -- several parties may read the value at once
   pub shares : Bool
@@ -74,31 +105,59 @@ module _ {C L : Type 0} where
   abbrev pub use_of_party : Meaning C L → Numbered (Seat C L) → Use
   use_of_party s v = use_at s v.0
 
-  -- what holds of the word and the parties: the word is that of a plain lock in order with these parties
-  abbrev pub IsWord : Meaning C L → ℕ → Unit {0} → List (Seat C L) → Type 0
-  IsWord s n m vs = Encodes (part_of s) s.cap s.word no_word n m vs × s.bounds n
+  -- what holds of the words and the parties: the words are those of a plain lock in order with these parties
+  abbrev pub AreWords : {S : Type 0} → Words S → Meaning C L → ℕ → S → List (Seat C L) → Type 0
+  AreWords k s n m vs = Encodes (part_of s) s.cap s.word (λ plain. k.of (s.second plain)) n m vs × s.bounds n
 
   -- the word of a plain lock in order
-  abbrev pub IsWordOf : Meaning C L → ℕ → Type 0
-  IsWordOf s n = (plain : Plain) × (plain.cap ≡ s.cap) × IsInOrder plain × (n ≡ s.word plain)
+  abbrev pub IsWordOf : Meaning C L → (Plain → ℕ) → ℕ → Type 0
+  IsWordOf s word n = (plain : Plain) × (plain.cap ≡ s.cap) × IsInOrder plain × (n ≡ word plain)
 
-  -- what each step tells of the number that it found
+  -- what a step on the first word tells of the number that it found
   abbrev pub Finds : Meaning C L → ℕ → Type 0
-  Finds s n = s.bounds n × IsWordOf s n
+  Finds s n = s.bounds n × IsWordOf s s.word n
 
--- A step of this shape makes a step of the plain lock, or none, and its party gets the part `to` of how its call goes on. The operation of the
--- processor does what the table's does.
+  -- the same for a step on the word at this place
+  abbrev pub FindsAt : Meaning C L → ℕ → ℕ → Type 0
+  FindsAt s i n = elim i [ zero ↦ Finds s n | suc j ↦ IsWordOf s s.second n ]
+
+-- the number n is at place 1 of a lock in order in which the party has the part of its seat
+abbrev pub Peeks : {C L S : Type 0} → Words S → Meaning C L → Seat C L → ℕ → Type 0
+Peeks k s seat n = (plain : Plain) × (p : ℕ) × IsInOrder plain × HasPart plain p (part_of s seat) × (n ≡ k.number (s.word plain, k.of (s.second plain)))
+
+-- A step of this shape on the first word makes a step of the plain lock, or none, and its party gets the part `to` of how its call goes on. The
+-- operation of the processor does what the table's does.
 pub record SoundAct {W L A : Type 0} (m : Memory W) (w : W) (word : Plain → ℕ) (bounds : ℕ → Type 0) (act : Act W L A) (to : Next L A → Part) (p : ℕ) (plain : Plain) (from : Part) : Type 0 where
   pub opens : IsOpenStep plain p (change_at (word plain) act p w)
   pub entries : entries_after plain (change_at (word plain) act p w) (entries_of p from) ≡ entries_of p (to (step_at {V = Unit {0}} m 0 (word plain) act w).next)
   pub knows : Knows (apply_some plain (change_at (word plain) act p w)) (to (step_at {V = Unit {0}} m 0 (word plain) act w).next)
-  pub counts : worked (wrapped (operation_by act)) (word plain) ≡ word (apply_some plain (change_at (word plain) act p w))
-  pub same : worked (wrapped (operation_by act)) (word plain) ≡ performed (operation_by act) (word plain)
-  pub bounded : bounds (worked (wrapped (operation_by act)) (word plain))
+  pub counts : worked (operation_by act) (word plain) ≡ word (apply_some plain (change_at (word plain) act p w))
+  pub same : worked (operation_by act) (word plain) ≡ performed (operation_by act) (word plain)
+  pub bounded : bounds (worked (operation_by act) (word plain))
+
+-- the same of a step on the word at place i
+pub record SoundOn {W L A S : Type 0} (k : Words S) (m : Memory W) (w : W) (i : ℕ) (words : Plain → ℕ × S) (bounds : ℕ → Type 0) (act : Act W L A) (to : Next L A → Part) (p : ℕ) (plain : Plain) (from : Part) : Type 0 where
+  pub opens : IsOpenStep plain p (change_at (number_in k i (words plain)) act p w)
+  pub entries : entries_after plain (change_at (number_in k i (words plain)) act p w) (entries_of p from) ≡ entries_of p (to (step_at {V = Unit {0}} m 0 (number_in k i (words plain)) act w).next)
+  pub knows : Knows (apply_some plain (change_at (number_in k i (words plain)) act p w)) (to (step_at {V = Unit {0}} m 0 (number_in k i (words plain)) act w).next)
+  pub counts : put_in k i (worked (operation_by act) (number_in k i (words plain))) (words plain) ≡ words (apply_some plain (change_at (number_in k i (words plain)) act p w))
+  pub same : worked (operation_by act) (number_in k i (words plain)) ≡ performed (operation_by act) (number_in k i (words plain))
+  pub bounded : bounds (put_in k i (worked (operation_by act) (number_in k i (words plain))) (words plain)).0
+
+-- an operation that a cell makes on its word at this place: on its second word it loads and stores
+abbrev pub IsAccess : ℕ → Operation → Type 0
+IsAccess zero o = Unit {0}
+IsAccess (suc j) op.Load = Unit {0}
+IsAccess (suc j) (op.Store to) = Unit {0}
+IsAccess (suc j) o = ⊥
 
 module _ {W V C L A : Type 0} (t : Table W V C L A) where
+  -- the words of a cell for these words of the model
+  abbrev pub words_in : {S : Type 0} → Words S → W → ℕ × S
+  words_in k w = (number_at t.memory 0 w, k.of (number_at t.memory 1 w))
+
   abbrev pub words_of : W → ℕ × Unit {0}
-  words_of w = (number_at t.memory 0 w, tt)
+  words_of = words_in just_one
 
   -- the step at this point, in a plain lock; the party has the part `from` before the step
   abbrev pub Sound : Meaning C L → C → L → Option Hold → ℕ → Plain → Part → Type 0
@@ -108,7 +167,7 @@ module _ {W V C L A : Type 0} (t : Table W V C L A) where
   abbrev pub ComesFrom : Meaning C L → C → L → Option Hold → Part → Type 0
   ComesFrom s c l h from = (s.part c l h ≡ Some from) ⊎ (((t.asks c h).begins h ≡ true) × (l ≡ t.start c h) × (from ≡ part_of s (resting h)))
 
-  -- what has to be shown of a table, once: it refines the plain lock, as `s` says
+  -- what has to be shown of a table of one word, once: it refines the plain lock, as `s` says
   pub record Refines (s : Meaning C L) : Type 0 where
     pub one_word : (l : L) → t.word l ≡ 0
     pub operates : (c : C) (l : L) (h : Option Hold) → is_section (t.act c l h) ≡ false
@@ -123,14 +182,40 @@ module _ {W V C L A : Type 0} (t : Table W V C L A) where
     pub sound : (c : C) (l : L) (h : Option Hold) (p : ℕ) (plain : Plain) (vs : List (Seat C L)) (from : Part) → ComesFrom s c l h from → plain.cap ≡ s.cap → IsInOrder plain → IsLockOf (part_of s) vs plain → s.bounds (s.word plain)
         → HasPart plain p from → Sound s c l h p plain from
 
+  -- the same of a table whose words the cell keeps as `k` says
+  pub record RefinesOn {S : Type 0} (k : Words S) (s : Meaning C L) : Type 0 where
+    pub places : (c : C) (l : L) (h : Option Hold) → place_of (t.word l) (t.act c l h) ≡ t.word l
+    -- each point is on the first word, or on the second of a cell that has one
+    pub within : (l : L) → (t.word l ≡ 0) ⊎ ((t.word l ≡ 1) × HasSecond k)
+    pub accesses : (c : C) (l : L) (h : Option Hold) → IsAccess (t.word l) (operation_by (t.act c l h))
+    pub operates : (c : C) (l : L) (h : Option Hold) → is_section (t.act c l h) ≡ false
+    pub writes_words : (c : C) (l : L) (h : Option Hold) (w : W)
+        → words_in k (step_by {V = V} t.memory (t.word l) (t.act c l h) w).words ≡ put_in k (t.word l) (performed (operation_by (t.act c l h)) (number_in k (t.word l) (words_in k w))) (words_in k w)
+    pub first : ℕ
+    pub is_number : first ≤ ticket_limit
+    pub opens_at : (words_in k t.words ≡ (s.word (fresh s.cap 0 first), k.of (s.second (fresh s.cap 0 first)))) × s.bounds (s.word (fresh s.cap 0 first))
+    -- a word may be 0: a store tells as if it had found 0
+    pub empty : (l : L) → FindsAt s (t.word l) 0
+    -- the words do not depend on the parties' numbers, and at most one party uses the value, or several read it
+    pub nobody : NamesNobody s.word × NamesNobody (λ plain. k.of (s.second plain))
+    pub fits : (vs : List (Seat C L)) (plain : Plain) → plain.cap ≡ s.cap → IsInOrder plain → IsLockOf (part_of s) vs plain → Limits {X = Unit {0}} (way_of s.shares) (readers_of (use_at s) vs) (writers_of (use_at s) vs)
+    -- a party rests at each point to which its call goes on
+    pub goes : (c : C) (l : L) (h : Option Hold) (from : Part) (n : ℕ) → ComesFrom s c l h from → rests_at s (seat_after c h (next_of t c l h n)) ≡ true
+    pub sound : (c : C) (l : L) (h : Option Hold) (p : ℕ) (plain : Plain) (vs : List (Seat C L)) (from : Part) → ComesFrom s c l h from → plain.cap ≡ s.cap → IsInOrder plain → IsLockOf (part_of s) vs plain → s.bounds (s.word plain)
+        → HasPart plain p from → SoundOn k t.memory t.words (t.word l) (λ x. (s.word x, k.of (s.second x))) s.bounds (t.act c l h) (λ next. part_of s (seat_after c h next)) p plain from
+
 -- the rule of a cell that runs a table
 module _ {W V C L : Type 0} (t : V → Table W V C L (Answer V)) where
   abbrev pub model_at : Opening V → Machine W V C L (Answer V)
   model_at opening = machine_of (t opening.value)
 
 module _ {W V C L : Type 0} (t : V → Table W V C L (Answer V)) (s : Meaning C L) where
-  abbrev pub RunsTable : Opening V → ℕ → Trace (Entry C V) (Unit {0}) → List (Numbered (Seat C L)) → Type 0
-  RunsTable opening = Runs (machine_of (t opening.value)) (λ x. x) (words_of (t opening.value)) (IsWord s) opening.name
+  -- the rule of a cell that keeps the table's words as `k` says
+  abbrev pub RunsOn : {S : Type 0} → Words S → Opening V → ℕ → Trace (Entry C V) S → List (Numbered (Seat C L)) → Type 0
+  RunsOn k opening = Runs (machine_of (t opening.value)) (λ x. x) (words_in (t opening.value) k) (AreWords k s) opening.name
 
-abbrev pub ways_of : {V C L : Type 0} → Meaning C L → Opening V → Ways V (Numbered (Seat C L)) (Trace (Entry C V) (Unit {0}))
+  abbrev pub RunsTable : Opening V → ℕ → Trace (Entry C V) (Unit {0}) → List (Numbered (Seat C L)) → Type 0
+  RunsTable = RunsOn just_one
+
+abbrev pub ways_of : {V C L S : Type 0} → Meaning C L → Opening V → Ways V (Numbered (Seat C L)) (Trace (Entry C V) S)
 ways_of s opening = (way_of s.shares, use_of_party s, last opening)

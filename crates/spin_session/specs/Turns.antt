@@ -20,7 +20,7 @@ use Rattle.spin_core.specs.Spots as spots
 use Rattle.spin_core.specs.Spots.{Stepped, HasCalled, IsIn}
 use Rattle.spin_core.specs.Values.{IsLast}
 use Rattle.spin_core.specs.declared.tie.Opening.{Opening}
-use Rattle.spin_session.specs.Meaning.{Meaning, Finds, use_at, rests_at, seat_now, seat_after, words_of, model_at}
+use Rattle.spin_session.specs.Meaning.{Meaning, Words, Peeks, FindsAt, use_at, rests_at, seat_now, seat_after, words_of, model_at}
 use Rattle.spin_session.specs.declared.session.Session.{Session}
 
 abbrev pub outcome_of : {L V : Type 0} → Next L (Answer V) → Ending V
@@ -41,13 +41,13 @@ abbrev pub has_begun : {C L : Type 0} → Option (Seat C L) → Bool
 has_begun (Some (Calling c l h)) = true
 has_begun _ = false
 
-module _ {W V C L : Type 0} (t : Table W V C L (Answer V)) (bounds : ℕ → Type 0) where
+module _ {W V C L : Type 0} (t : Table W V C L (Answer V)) (s : Meaning C L) where
   abbrev pub Says : Type 1
   Says = passes.Says V C (Answer V) (Seat C L)
 
   -- the step of the call c at this point; it is the call's first if `goes_on` is false
   abbrev pub turn : Bool → C → L → Option Hold → Says
-  turn goes_on c l h mine outs n v = step_by goes_on c (λ k. outcome_of (next_of t c l h k)) (λ k. seat_after c h (next_of t c l h k)) mine outs n v × bounds n
+  turn goes_on c l h mine outs n v = step_by goes_on c (λ k. outcome_of (next_of t c l h k)) (λ k. seat_after c h (next_of t c l h k)) mine outs n v × FindsAt s (t.word l) n
 
   -- the next step of a party in a call; a party in no call begins the call c
   abbrev pub turn_from : C → Seat C L → Says
@@ -66,6 +66,10 @@ module _ {W V C L : Type 0} (t : Table W V C L (Answer V)) (bounds : ℕ → Typ
   turn_by true (Some c) view = gives_up (λ x. Unit {0}) c view
   turn_by false (Some c) view = turn_from c (seat_now view)
 
+  -- a load at place 1 that is no step
+  abbrev pub peeks : {S : Type 0} → Words S → Seat C L → Says
+  peeks k seat own outs n v = ((v ≡ seat) × Peeks k s seat n) × (own ≡ []) × (outs ≡ [])
+
   abbrev pub Told : Says → Option (Numbered (Seat C L)) → List (Entry C V) → List (Entry C V) → ℕ → Numbered (Seat C L) → Type 0
   Told = own.Tells (machine_of t) (λ x. x) (words_of t)
 
@@ -82,8 +86,11 @@ abbrev pub spot : {V P C L S : Type 0} → Session V (Numbered (Seat C L)) (Entr
 spot it = (it.permit.key, it.permit.view, it.seen)
 
 module _ {W V C L : Type 0} (t : V → Table W V C L (Answer V)) where
-  abbrev pub TurnTold : (ℕ → Type 0) → Bool → Option C → Opening V → Option (Numbered (Seat C L)) → List (Entry C V) → List (Entry C V) → ℕ → Numbered (Seat C L) → Type 0
-  TurnTold bounds gives c key before = Told (t key.value) bounds (turn_by (t key.value) bounds gives c (what before)) before
+  abbrev pub TurnTold : Meaning C L → Bool → Option C → Opening V → Option (Numbered (Seat C L)) → List (Entry C V) → List (Entry C V) → ℕ → Numbered (Seat C L) → Type 0
+  TurnTold s gives c key before = Told (t key.value) s (turn_by (t key.value) s gives c (what before)) before
+
+  abbrev pub PeekTold : {S : Type 0} → Words S → Meaning C L → Opening V → Option (Numbered (Seat C L)) → List (Entry C V) → List (Entry C V) → ℕ → Numbered (Seat C L) → Type 0
+  PeekTold k s key before = Told (t key.value) s (peeks (t key.value) s k (seat_now (what before))) before
 
   abbrev pub IsAt : C → L → Option Hold → Opening V → Option (Seat C L) → Type 0
   IsAt c l h key = IsAtPoint (t key.value) c l h
@@ -133,11 +140,11 @@ module _ {W V C L : Type 0} (t : V → Table W V C L (Answer V)) (s : Meaning C 
 
   -- so the party has been answered, by a step that found this number, and holds `after`
   abbrev pub Ended : C → Option Hold → Answer (Unit {0}) → Option Hold → Spot V C L → Spot V C L → Type 0
-  Ended c h a after p q = Calls t c a p q × (seat_now (what q.1) ≡ resting after) × ((l : L) × (n : ℕ) × (next_of (t p.0.value) c l h n ≡ Answers (with_value a None) after) × Finds s n)
+  Ended c h a after p q = Calls t c a p q × (seat_now (what q.1) ≡ resting after) × ((l : L) × (n : ℕ) × (next_of (t p.0.value) c l h n ≡ Answers (with_value a None) after) × FindsAt s ((t p.0.value).word l) n)
 
   -- the step of this call at this point found this number, which is in bounds, and so the call goes on so
   abbrev pub GoesBy : C → L → Option Hold → ℕ → Next L (Answer (Unit {0})) → Opening V → Type 0
-  GoesBy c l h n next key = (filled None next ≡ next_of (t key.value) c l h n) × Finds s n
+  GoesBy c l h n next key = (filled None next ≡ next_of (t key.value) c l h n) × FindsAt s ((t key.value).word l) n
 
   -- from p to q the party has begun this call, and made steps of it, after which the call goes on so
   abbrev pub Comes : C → Option Hold → Next L (Answer (Unit {0})) → Spot V C L → Spot V C L → Type 0
@@ -149,7 +156,7 @@ module _ {W V C L : Type 0} (t : V → Table W V C L (Answer V)) (s : Meaning C 
 
   -- the first step of this call has this answer, for some word that is in bounds; the party holds the same
   abbrev pub Tells : C → Option Hold → Answer (Unit {0}) → Opening V → Type 0
-  Tells c h a key = (n : ℕ) × (next_of (t key.value) c ((t key.value).start c h) h n ≡ Answers (with_value a None) h) × Finds s n
+  Tells c h a key = (n : ℕ) × (next_of (t key.value) c ((t key.value).start c h) h n ≡ Answers (with_value a None) h) × FindsAt s ((t key.value).word ((t key.value).start c h)) n
 
 module _ {W V C L : Type 0} (t : V → Table W V C L (Answer V)) where
   -- the party's call goes on, after a step at this point that found this number
@@ -169,9 +176,13 @@ module _ {W V C L : Type 0} (t : V → Table W V C L (Answer V)) where
   abbrev pub IsAnsweredAtOnce : C → Option Hold → Answer (Unit {0}) → Option Hold → Opening V → Type 0
   IsAnsweredAtOnce c h a after key = (n : ℕ) → next_of (t key.value) c ((t key.value).start c h) h n ≡ Answers (with_value a None) after
 
-  -- the first step of the call answers it
+  -- the third step of the call answers it, or an earlier one
   abbrev pub IsAnswered : C → Option Hold → Opening V → Type 0
-  IsAnswered c h key = (n : ℕ) (l : L) → next_of (t key.value) c ((t key.value).start c h) h n ≡ Continue l → ⊥
+  IsAnswered c h key = (n m j : ℕ) (l k i : L) → next_of (t key.value) c ((t key.value).start c h) h n ≡ Continue l → next_of (t key.value) c l h m ≡ Continue k → next_of (t key.value) c k h j ≡ Continue i → ⊥
+
+  -- after each answer of the call, its party holds the same as before
+  abbrev pub LeavesHold : C → Option Hold → Opening V → Type 0
+  LeavesHold c h key = (l : L) (n : ℕ) (b : Answer V) (k : Option Hold) → next_of (t key.value) c l h n ≡ Answers b k → k ≡ h
 
   -- the first step of the call answers it, and its party holds the same as before
   abbrev pub IsLook : C → Option Hold → Opening V → Type 0

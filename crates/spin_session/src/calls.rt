@@ -1,9 +1,9 @@
 //! The calls of a session: each is made by the steps of the lock's table. Begin with [`wait_for`].
 ghost use Rattle.std.specs.Prelude.{◌≡◌, true, None, Some, Option, IfOk, IfErr, length};
-ghost use Rattle.spin_core.specs.Cell.{writes, Moved, Keeps};
+ghost use Rattle.spin_core.specs.Cell.{writes, use_of, Moved, Keeps};
 ghost use Rattle.spin_core.specs.Own.{what};
-ghost use Rattle.spin_core.specs.Passes.{IsOut, mark_of};
-ghost use Rattle.spin_core.specs.Spots.{Releases};
+ghost use Rattle.spin_core.specs.Passes.{IsOut, Nothing, mark_of};
+ghost use Rattle.spin_core.specs.Spots.{Releases, Since};
 ghost use Rattle.spin_core.specs.Traced.{Found, MayKnow, Named, Watches};
 ghost use Rattle.spin_step.specs.Schedules.{may_write};
 ghost use Rattle.spin_step.specs.declared.place.Seat.{Seat};
@@ -11,14 +11,15 @@ ghost use Rattle.spin_step.specs.declared.place.Seat.TheVariants.{Idle, Holding}
 ghost use Rattle.spin_step.specs.declared.answer.Answer.{Answer as AnAnswer};
 ghost use Rattle.spin_step.specs.declared.answer.Answer.TheVariants.{Granted, Refused, Done};
 ghost use Rattle.spin_step.specs.declared.place.Hold.{Hold as AHold};
-ghost use Rattle.spin_session.specs.Meaning.{Finds, seat_after, use_at, model_at};
+ghost use Rattle.spin_session.specs.Meaning.{Peeks, seat_after, use_at, model_at};
 ghost use Rattle.spin_session.specs.Operating.{Operates};
-ghost use Rattle.spin_session.specs.Turns.{TurnTold, SeesLast, Frees, IsAt, Knows, Quiet, StaysQuiet, Stands, MayBegin, Ended, Comes, GoesBy, GoesOn, Waits, Under, IsAnsweredBy, IsAnswered, IsAnsweredAtOnce, IsTry, IsLook, Tells, Calls, Spot, spot, is_granted};
+ghost use Rattle.spin_session.specs.Turns.{TurnTold, SeesLast, Frees, IsAt, Knows, Quiet, StaysQuiet, Stands, MayBegin, Ended, Comes, GoesBy, GoesOn, Waits, Under, IsAnsweredBy, IsAnswered, IsAnsweredAtOnce, IsTry, IsLook, LeavesHold, Tells, Calls, Spot, spot, is_granted};
 
+use crate::second::Word;
 use crate::session::Session;
-use crate::table::{CallOf, Entry, Party, Runs, Turn};
+use crate::table::{CallOf, Entry, Party, Peek, Runs, Turn};
 use spin_core::cell::{Permit, WritePermit};
-use spin_core::relax::{MAX_HINTS, RelaxStrategy, Strategy};
+use spin_core::relax::{RelaxStrategy, Strategy};
 use spin_core::trace::Watch;
 use spin_step::{Answer, Hold, Next, Operation, Steps};
 use std::marker::Brand;
@@ -33,8 +34,8 @@ pub type SessionOf<'a, T, P> = Session<
     P,
 >;
 
-/// Makes a call that waits, and is always answered so. It pauses before each round but the first. A round is one step,
-/// and after a load also the step that the load found possible.
+/// Makes a call that waits, and is always answered so. It makes its steps in rounds, and pauses between them. A round is
+/// the steps up to the first after which the call pauses (see [`Runs::pause`]), but at most three.
 ///
 /// # Contract
 /// The party has made exactly this call, with this answer, and holds `after`. Whether and when the call returns is not
@@ -49,10 +50,10 @@ pub fn wait_for<'a, T, P: Runs<T>, R: RelaxStrategy, W: Wait>(
     rt: &W,
 ) -> SessionOf<'a, T, P>
     requires stands { Stands holds session }
-    requires may { MayBegin (P.Table.table P.its) P.meaning call holds session.permit.key }
-    requires answers { IsAnsweredBy (P.Table.table P.its) call holds answer after session.permit.key }
+    requires may { MayBegin (P.Table.table (P.its session.permit.key.start)) P.meaning call holds session.permit.key }
+    requires answers { IsAnsweredBy (P.Table.table (P.its session.permit.key.start)) call holds answer after session.permit.key }
     ensures stands { Stands after result }
-    ensures calls { Calls (P.Table.table P.its) call answer (spot session.entry) (spot result) }
+    ensures calls { Calls (P.Table.table (P.its session.entry.permit.key.start)) call answer (spot session.entry) (spot result) }
     ensures last { SeesLast result }
 {
     let _ = (answer, after, strategy);
@@ -78,10 +79,10 @@ pub fn begin<'a, T, P: Runs<T>>(
     after: Option<Hold>,
 ) -> Result<SessionOf<'a, T, P>, (P::Point, u64, SessionOf<'a, T, P>)>
     requires stands { Stands holds session }
-    requires may { MayBegin (P.Table.table P.its) P.meaning call holds session.permit.key }
-    requires answers { IsAnsweredBy (P.Table.table P.its) call holds answer after session.permit.key }
-    ensures ended { IfOk result (λ now. Stands after now × SeesLast now × Calls (P.Table.table P.its) call answer (spot session.entry) (spot now)) }
-    ensures waits { IfErr result (λ on. Waits (P.Table.table P.its) P.meaning call on.0 holds on.1 (spot session.entry) (spot on.2)) }
+    requires may { MayBegin (P.Table.table (P.its session.permit.key.start)) P.meaning call holds session.permit.key }
+    requires answers { IsAnsweredBy (P.Table.table (P.its session.permit.key.start)) call holds answer after session.permit.key }
+    ensures ended { IfOk result (λ now. Stands after now × SeesLast now × Calls (P.Table.table (P.its session.entry.permit.key.start)) call answer (spot session.entry) (spot now)) }
+    ensures waits { IfErr result (λ on. Waits (P.Table.table (P.its session.entry.permit.key.start)) P.meaning call on.0 holds on.1 (spot session.entry) (spot on.2)) }
 {
     let _ = (answer, after);
     let point = point_of(&session, call, holds);
@@ -108,12 +109,62 @@ pub fn go_on<'a, T, P: Runs<T>, R: RelaxStrategy, W: Wait>(
     rt: &W,
 ) -> SessionOf<'a, T, P>
     requires knows { Knows P.meaning (spot on.2) }
-    requires goes { GoesOn (P.Table.table P.its) call on.0 holds on.1 on.2.permit.key (what on.2.permit.view) }
+    requires goes { GoesOn (P.Table.table (P.its on.2.permit.key.start)) call on.0 holds on.1 on.2.permit.key (what on.2.permit.view) }
     requires quiet { StaysQuiet P.meaning call holds }
-    ensures calls { (p : Spot T P.Call P.Point) → Waits (P.Table.table P.its) P.meaning call on.entry.0 holds on.entry.1 p (spot on.entry.2) → IsAnsweredBy (P.Table.table P.its) call holds answer after p.0 → Stands after result × Calls (P.Table.table P.its) call answer p (spot result) }
+    ensures calls { (p : Spot T P.Call P.Point) → Waits (P.Table.table (P.its on.entry.2.permit.key.start)) P.meaning call on.entry.0 holds on.entry.1 p (spot on.entry.2) → IsAnsweredBy (P.Table.table (P.its on.entry.2.permit.key.start)) call holds answer after p.0 → Stands after result × Calls (P.Table.table (P.its on.entry.2.permit.key.start)) call answer p (spot result) }
     ensures last { SeesLast result }
 {
     let _ = (answer, after, strategy);
+    let (point, found, session) = on;
+    wait::<T, P, R, W>(session, call, point, holds, found, rt)
+}
+
+/// Makes the first round of a call that waits, whatever its answer is and what the party then holds. This function does
+/// not wait: if it returns `Err`, the caller calls [`wait_on`].
+///
+/// # Contract
+/// With `Ok` the party has made exactly this call, and has been answered as the table says (`ended`). With `Err` it waits
+/// in the call.
+#[inline(always)]
+pub fn first_round<'a, T, P: Runs<T>>(
+    session: SessionOf<'a, T, P>,
+    call: P::Call,
+    holds: Option<Hold>,
+) -> Result<SessionOf<'a, T, P>, (P::Point, u64, SessionOf<'a, T, P>)>
+    requires stands { Stands holds session }
+    requires may { MayBegin (P.Table.table (P.its session.permit.key.start)) P.meaning call holds session.permit.key }
+    ensures ended { IfOk result (λ now. (a : AnAnswer (Unit {0})) × (after : Option AHold) × Ended (P.Table.table (P.its session.entry.permit.key.start)) P.meaning call holds a after (spot session.entry) (spot now)) }
+    ensures knows { IfOk result (λ now. Knows P.meaning (spot now) × SeesLast now) }
+    ensures waits { IfErr result (λ on. Waits (P.Table.table (P.its session.entry.permit.key.start)) P.meaning call on.0 holds on.1 (spot session.entry) (spot on.2)) }
+{
+    let point = point_of(&session, call, holds);
+    let (next, point, found, session) = round(session, call, point, holds);
+    match next {
+        Next::Answers(_, _) => Ok(session),
+        Next::Continue(_) => Err((point, found, session)),
+    }
+}
+
+/// Goes on with a call that waits from where [`first_round`] left it.
+///
+/// # Contract
+/// The party has been answered as the table says (`ended`). Whether and when the call returns is not promised.
+#[inline(always)]
+pub fn wait_on<'a, T, P: Runs<T>, R: RelaxStrategy, W: Wait>(
+    on: (P::Point, u64, SessionOf<'a, T, P>),
+    call: P::Call,
+    holds: Option<Hold>,
+    strategy: Strategy<R>,
+    rt: &W,
+) -> SessionOf<'a, T, P>
+    requires knows { Knows P.meaning (spot on.2) }
+    requires goes { GoesOn (P.Table.table (P.its on.2.permit.key.start)) call on.0 holds on.1 on.2.permit.key (what on.2.permit.view) }
+    requires quiet { StaysQuiet P.meaning call holds }
+    ensures knows { Knows P.meaning (spot result) }
+    ensures ended { (p : Spot T P.Call P.Point) → Under (P.Table.table (P.its on.entry.2.permit.key.start)) P.meaning call p (spot on.entry.2) → (a : AnAnswer (Unit {0})) × (after : Option AHold) × Ended (P.Table.table (P.its on.entry.2.permit.key.start)) P.meaning call holds a after p (spot result) }
+    ensures last { SeesLast result }
+{
+    let _ = strategy;
     let (point, found, session) = on;
     wait::<T, P, R, W>(session, call, point, holds, found, rt)
 }
@@ -131,10 +182,10 @@ pub fn try_for<'a, T, P: Runs<T>, W: Wait>(
     rt: &W,
 ) -> Result<SessionOf<'a, T, P>, SessionOf<'a, T, P>>
     requires stands { Stands holds session }
-    requires may { MayBegin (P.Table.table P.its) P.meaning call holds session.permit.key }
-    requires tries { IsTry (P.Table.table P.its) call holds after session.permit.key }
-    ensures granted { IfOk result (λ now. Stands after now × SeesLast now × Calls (P.Table.table P.its) call Granted (spot session.entry) (spot now)) }
-    ensures refused { IfErr result (λ now. Stands holds now × Calls (P.Table.table P.its) call Refused (spot session.entry) (spot now)) }
+    requires may { MayBegin (P.Table.table (P.its session.permit.key.start)) P.meaning call holds session.permit.key }
+    requires tries { IsTry (P.Table.table (P.its session.permit.key.start)) call holds after session.permit.key }
+    ensures granted { IfOk result (λ now. Stands after now × SeesLast now × Calls (P.Table.table (P.its session.entry.permit.key.start)) call Granted (spot session.entry) (spot now)) }
+    ensures refused { IfErr result (λ now. Stands holds now × Calls (P.Table.table (P.its session.entry.permit.key.start)) call Refused (spot session.entry) (spot now)) }
 {
     let _ = after;
     let mut at = point_of(&session, call, holds);
@@ -157,10 +208,11 @@ pub fn try_for<'a, T, P: Runs<T>, W: Wait>(
     unreachable!()
 }
 
-/// Makes a call that either gets a hold or is refused, in one step.
+/// Makes a call that either gets a hold or is refused, in at most three steps.
 ///
 /// # Contract
 /// The party has made exactly this call. If the call was granted it holds `after`, else it holds what it held before.
+#[inline(always)]
 pub fn attempt<'a, T, P: Runs<T>>(
     session: SessionOf<'a, T, P>,
     call: P::Call,
@@ -168,24 +220,18 @@ pub fn attempt<'a, T, P: Runs<T>>(
     after: Option<Hold>,
 ) -> Result<SessionOf<'a, T, P>, SessionOf<'a, T, P>>
     requires stands { Stands holds session }
-    requires may { MayBegin (P.Table.table P.its) P.meaning call holds session.permit.key }
-    requires tries { IsTry (P.Table.table P.its) call holds after session.permit.key }
-    requires once { IsAnswered (P.Table.table P.its) call holds session.permit.key }
-    ensures granted { IfOk result (λ now. Stands after now × SeesLast now × Calls (P.Table.table P.its) call Granted (spot session.entry) (spot now)) }
-    ensures refused { IfErr result (λ now. Stands holds now × Calls (P.Table.table P.its) call Refused (spot session.entry) (spot now)) }
+    requires may { MayBegin (P.Table.table (P.its session.permit.key.start)) P.meaning call holds session.permit.key }
+    requires tries { IsTry (P.Table.table (P.its session.permit.key.start)) call holds after session.permit.key }
+    requires once { IsAnswered (P.Table.table (P.its session.permit.key.start)) call holds session.permit.key }
+    ensures granted { IfOk result (λ now. Stands after now × SeesLast now × Calls (P.Table.table (P.its session.entry.permit.key.start)) call Granted (spot session.entry) (spot now)) }
+    ensures refused { IfErr result (λ now. Stands holds now × Calls (P.Table.table (P.its session.entry.permit.key.start)) call Refused (spot session.entry) (spot now)) }
 {
     let _ = after;
-    let point = point_of(&session, call, holds);
-    let (next, _, further) = step(session, call, point, holds);
-    match next {
-        Next::Answers(answer, _) => {
-            if is_granted(answer) {
-                Ok(further)
-            } else {
-                Err(further)
-            }
-        }
-        Next::Continue(_) => unreachable!(),
+    let (answer, _, session) = in_three(session, call, holds);
+    if is_granted(answer) {
+        Ok(session)
+    } else {
+        Err(session)
     }
 }
 
@@ -201,10 +247,10 @@ pub fn make<'a, T, P: Runs<T>>(
     after: Option<Hold>,
 ) -> SessionOf<'a, T, P>
     requires stands { Stands holds session }
-    requires may { MayBegin (P.Table.table P.its) P.meaning call holds session.permit.key }
-    requires answers { IsAnsweredAtOnce (P.Table.table P.its) call holds answer after session.permit.key }
+    requires may { MayBegin (P.Table.table (P.its session.permit.key.start)) P.meaning call holds session.permit.key }
+    requires answers { IsAnsweredAtOnce (P.Table.table (P.its session.permit.key.start)) call holds answer after session.permit.key }
     ensures stands { Stands after result }
-    ensures calls { Calls (P.Table.table P.its) call answer (spot session.entry) (spot result) }
+    ensures calls { Calls (P.Table.table (P.its session.entry.permit.key.start)) call answer (spot session.entry) (spot result) }
     ensures last { SeesLast result }
 {
     let _ = (answer, after);
@@ -224,11 +270,11 @@ pub fn ask<'a, T, P: Runs<T>>(
     holds: Option<Hold>,
 ) -> (Answer<()>, SessionOf<'a, T, P>)
     requires stands { Stands holds session }
-    requires may { MayBegin (P.Table.table P.its) P.meaning call holds session.permit.key }
-    requires looks { IsLook (P.Table.table P.its) call holds session.permit.key }
+    requires may { MayBegin (P.Table.table (P.its session.permit.key.start)) P.meaning call holds session.permit.key }
+    requires looks { IsLook (P.Table.table (P.its session.permit.key.start)) call holds session.permit.key }
     ensures stands { Stands holds result.1 }
-    ensures calls { Calls (P.Table.table P.its) call result.0 (spot session.entry) (spot result.1) }
-    ensures found { Tells (P.Table.table P.its) P.meaning call holds result.0 session.entry.permit.key }
+    ensures calls { Calls (P.Table.table (P.its session.entry.permit.key.start)) call result.0 (spot session.entry) (spot result.1) }
+    ensures found { Tells (P.Table.table (P.its session.entry.permit.key.start)) P.meaning call holds result.0 session.entry.permit.key }
 {
     let point = point_of(&session, call, holds);
     let (next, _, session) = step(session, call, point, holds);
@@ -236,6 +282,27 @@ pub fn ask<'a, T, P: Runs<T>>(
         Next::Answers(answer, _) => (answer, session),
         Next::Continue(_) => unreachable!(),
     }
+}
+
+/// Makes a call of at most three steps, which leaves to the party what it holds.
+///
+/// # Contract
+/// The party has made exactly this call, with the returned answer.
+#[inline(always)]
+pub fn look<'a, T, P: Runs<T>>(
+    session: SessionOf<'a, T, P>,
+    call: P::Call,
+    holds: Option<Hold>,
+) -> (Answer<()>, SessionOf<'a, T, P>)
+    requires stands { Stands holds session }
+    requires may { MayBegin (P.Table.table (P.its session.permit.key.start)) P.meaning call holds session.permit.key }
+    requires leaves { LeavesHold (P.Table.table (P.its session.permit.key.start)) call holds session.permit.key }
+    requires once { IsAnswered (P.Table.table (P.its session.permit.key.start)) call holds session.permit.key }
+    ensures stands { Stands holds result.1 }
+    ensures calls { Calls (P.Table.table (P.its session.entry.permit.key.start)) call result.0 (spot session.entry) (spot result.1) }
+{
+    let (answer, _, session) = in_three(session, call, holds);
+    (answer, session)
 }
 
 /// Returns the permit of a party that writes the value, and what the party knows.
@@ -259,6 +326,57 @@ pub fn writer<'a, T, P: Runs<T>>(
     (permit.into_writer(), seen)
 }
 
+/// Returns the permit of a party that writes the value, whatever it holds, and what the party knows.
+pub fn writing<'a, T, P: Runs<T>>(
+    session: SessionOf<'a, T, P>,
+) -> (
+    WritePermit<'a, T, Party<P::Call, P::Point>, P>,
+    Watch<Entry<P::Call, T>>,
+)
+    requires { use_of (use_at P.meaning) (what session.permit.view) ≡ writes }
+    ensures same { (Some result.0.view ≡ session.entry.permit.view) × (Some result.0.value ≡ session.entry.permit.value) }
+    ensures key { result.0.key ≡ session.entry.permit.key }
+    ensures seen { result.1 ≡ session.entry.seen }
+{
+    P::laws();
+    let Session { permit, seen } = session;
+    (permit.into_writer(), seen)
+}
+
+/// Loads the word at place 1, for a holder that writes. The load is no step of a call.
+///
+/// # Contract
+/// The number found is the word of a lock in which the party has the part of its seat (`finds`). The party and its value
+/// stay as they are, and it makes no move.
+#[inline(always)]
+pub fn peek<'a, T, P: Runs<T>>(
+    writer: WritePermit<'a, T, Party<P::Call, P::Point>, P>,
+    seen: Watch<Entry<P::Call, T>>,
+) -> (
+    u64,
+    WritePermit<'a, T, Party<P::Call, P::Point>, P>,
+    Watch<Entry<P::Call, T>>,
+)
+    requires knows { MayKnow (P.holds writer.key) (P.ways writer.key) seen }
+    ensures seat { result.1.view.0 ≡ writer.entry.view.0 }
+    ensures writes { use_at P.meaning writer.entry.view.0 ≡ writes }
+    ensures value { result.1.value ≡ writer.entry.value }
+    ensures key { result.1.key ≡ writer.entry.key }
+    ensures finds { Peeks P.Word.words P.meaning writer.entry.view.0 result.0 }
+    ensures since { writer.entry.key.name ≡ seen.name → writer.entry.view.2 ≡ length seen.entries → (Since (model_at (P.Table.table (P.its writer.entry.key.start))) Nothing (writer.entry.key, Some writer.entry.view, seen) (result.1.key, Some result.1.view, result.2)) × (result.1.view.2 ≡ length result.2.entries) }
+{
+    P::laws();
+    let permit = writer.into_permit();
+    let (number, permit, seen) = P::Word::load::<
+        T,
+        Party<P::Call, P::Point>,
+        Entry<P::Call, T>,
+        P,
+        Peek<P>,
+    >(permit, seen);
+    (number, permit.into_writer(), seen)
+}
+
 /// Makes a call of one step of a holder that writes, which then holds nothing. The holder first writes its value.
 ///
 /// # Contract
@@ -271,14 +389,14 @@ pub fn free<'a, T, P: Runs<T>>(
     holds: Hold,
 ) -> SessionOf<'a, T, P>
     requires knows { MayKnow (P.holds writer.key) (P.ways writer.key) seen }
-    requires alone { (seat : Seat P.Call P.Point) → use_at P.meaning seat ≡ writes → seat ≡ Holding holds }
-    requires begins { (((P.Table.table P.its) writer.key.value).asks call (Some holds)).begins (Some holds) ≡ true }
+    requires alone { use_at P.meaning writer.view.0 ≡ writes → writer.view.0 ≡ Holding holds }
+    requires begins { (((P.Table.table (P.its writer.key.start)) writer.key.value).asks call (Some holds)).begins (Some holds) ≡ true }
     requires held { (may_write holds ≡ true) × (use_at P.meaning (Holding holds) ≡ writes) }
-    requires frees { Frees (P.Table.table P.its) call holds writer.key }
+    requires frees { Frees (P.Table.table (P.its writer.key.start)) call holds writer.key }
     ensures out { IsOut Idle (what result.permit.view) }
     ensures knows { mark_of result.permit.view ≡ length result.seen.entries }
     ensures key { result.permit.key ≡ writer.entry.key }
-    ensures releases { writer.entry.key.name ≡ seen.name → writer.entry.view.2 ≡ length seen.entries → Releases (model_at (P.Table.table P.its)) (λ o. o) call Done writer.entry.value (writer.entry.key, Some writer.entry.view, seen) (spot result) }
+    ensures releases { writer.entry.key.name ≡ seen.name → writer.entry.view.2 ≡ length seen.entries → Releases (model_at (P.Table.table (P.its writer.entry.key.start))) (λ o. o) call Done writer.entry.value (writer.entry.key, Some writer.entry.view, seen) (spot result) }
 {
     P::laws();
     let permit = writer.into_permit();
@@ -288,8 +406,9 @@ pub fn free<'a, T, P: Runs<T>>(
         Some(point) => point,
         None => unreachable!(),
     };
+    let place = table.place(point);
     let operation = table.operation(call, point, hold);
-    let (_, permit, seen) = operate::<T, P, Brand>(permit, operation, seen, call);
+    let (_, permit, seen) = operate::<T, P, Brand>(permit, place, operation, seen, call);
     Session { permit, seen }
 }
 
@@ -309,20 +428,21 @@ fn point_of<'a, T, P: Runs<T>>(
     holds: Option<Hold>,
 ) -> P::Point
     requires stands { Stands holds session.now }
-    requires may { MayBegin (P.Table.table P.its) P.meaning call holds session.now.permit.key }
-    ensures start { result ≡ ((P.Table.table P.its) session.now.permit.key.value).start call holds }
+    requires may { MayBegin (P.Table.table (P.its session.now.permit.key.start)) P.meaning call holds session.now.permit.key }
+    ensures start { result ≡ ((P.Table.table (P.its session.now.permit.key.start)) session.now.permit.key.value).start call holds }
     ensures knows { Knows P.meaning (spot session.now) }
-    ensures at { IsAt (P.Table.table P.its) call result holds session.now.permit.key (what session.now.permit.view) }
-    ensures under { Under (P.Table.table P.its) P.meaning call (spot session.now) (spot session.now) }
+    ensures at { IsAt (P.Table.table (P.its session.now.permit.key.start)) call result holds session.now.permit.key (what session.now.permit.view) }
+    ensures under { Under (P.Table.table (P.its session.now.permit.key.start)) P.meaning call (spot session.now) (spot session.now) }
 {
     let _ = session;
+    P::laws();
     match P::table().start(call, holds) {
         Some(point) => point,
         None => unreachable!(),
     }
 }
 
-// Takes rounds of a call that waits, with pauses that grow, until it is answered. The call's last step was at `point`,
+// Takes rounds of a call that waits, with pauses between them, until it is answered. The call's last step was at `point`,
 // and found this number: so a caller whose call is answered at once does not compute how it would go on.
 #[cold]
 #[inline(never)]
@@ -335,26 +455,33 @@ fn wait<'a, T, P: Runs<T>, R: RelaxStrategy, W: Wait>(
     rt: &W,
 ) -> SessionOf<'a, T, P>
     requires knows { Knows P.meaning (spot session) }
-    requires goes { GoesOn (P.Table.table P.its) call point holds found session.permit.key (what session.permit.view) }
+    requires goes { GoesOn (P.Table.table (P.its session.permit.key.start)) call point holds found session.permit.key (what session.permit.view) }
     requires quiet { StaysQuiet P.meaning call holds }
     ensures knows { Knows P.meaning (spot result) }
-    ensures ended { (p : Spot T P.Call P.Point) → Under (P.Table.table P.its) P.meaning call p (spot session.entry) → (a : AnAnswer (Unit {0})) × (after : Option AHold) × Ended (P.Table.table P.its) P.meaning call holds a after p (spot result) }
+    ensures ended { (p : Spot T P.Call P.Point) → Under (P.Table.table (P.its session.entry.permit.key.start)) P.meaning call p (spot session.entry) → (a : AnAnswer (Unit {0})) × (after : Option AHold) × Ended (P.Table.table (P.its session.entry.permit.key.start)) P.meaning call holds a after p (spot result) }
     ensures last { SeesLast result }
 {
-    let mut hints = 1;
+    let mut last = 0;
+    let mut from = point;
+    let mut number = found;
     let mut at = point_after::<T, P>(&session, call, point, holds, found);
     let mut party = session;
     for _ in rt.forever() {
-        R::bounded_pause(rt, hints);
-        let (next, _, _, further) = round(party, call, at, holds);
+        let hints = P::pause(call, from, at, holds, number, last);
+        if hints > 0 {
+            R::bounded_pause(rt, hints);
+            last = hints;
+        }
+        let (next, point, found, further) = round(party, call, at, holds);
         match next {
             Next::Answers(_, _) => return further,
-            Next::Continue(point) => {
-                at = point;
+            Next::Continue(to) => {
+                from = point;
+                number = found;
+                at = to;
                 party = further;
             }
         }
-        hints = hints.saturating_mul(2).min(MAX_HINTS);
     }
     unreachable!()
 }
@@ -367,18 +494,20 @@ fn point_after<T, P: Runs<T>>(
     holds: Option<Hold>,
     found: u64,
 ) -> P::Point
-    requires { GoesOn (P.Table.table P.its) call point holds found session.now.permit.key (what session.now.permit.view) }
-    ensures { IsAt (P.Table.table P.its) call result holds session.now.permit.key (what session.now.permit.view) }
+    requires { GoesOn (P.Table.table (P.its session.now.permit.key.start)) call point holds found session.now.permit.key (what session.now.permit.view) }
+    ensures { IsAt (P.Table.table (P.its session.now.permit.key.start)) call result holds session.now.permit.key (what session.now.permit.view) }
 {
     let _ = session;
+    P::laws();
     match P::table().next(call, point, holds, found) {
         Next::Continue(point) => point,
         Next::Answers(_, _) => unreachable!(),
     }
 }
 
-// Makes a step, and after a load also the step that the load found possible. Returns the point of the last step, and
-// the number that it found.
+// Makes the steps of the call from `point` up to the first after which it pauses, but at most three. Returns the point of
+// the last step, and the number that it found.
+#[inline(always)]
 fn round<'a, T, P: Runs<T>>(
     session: SessionOf<'a, T, P>,
     call: P::Call,
@@ -391,26 +520,95 @@ fn round<'a, T, P: Runs<T>>(
     SessionOf<'a, T, P>,
 )
     requires knows { Knows P.meaning (spot session) }
-    requires at { IsAt (P.Table.table P.its) call point holds session.permit.key (what session.permit.view) }
+    requires at { IsAt (P.Table.table (P.its session.permit.key.start)) call point holds session.permit.key (what session.permit.view) }
     requires quiet { StaysQuiet P.meaning call holds }
     ensures knows { Knows P.meaning (spot result.3) }
     ensures key { result.3.permit.key ≡ session.entry.permit.key }
     ensures seat { what result.3.permit.view ≡ Some (seat_after call holds result.0) }
-    ensures comes { (p : Spot T P.Call P.Point) → Under (P.Table.table P.its) P.meaning call p (spot session.entry) → Comes (P.Table.table P.its) P.meaning call holds result.0 p (spot result.3) }
-    ensures goes { GoesBy (P.Table.table P.its) P.meaning call result.1 holds result.2 result.0 session.entry.permit.key }
+    ensures comes { (p : Spot T P.Call P.Point) → Under (P.Table.table (P.its session.entry.permit.key.start)) P.meaning call p (spot session.entry) → Comes (P.Table.table (P.its session.entry.permit.key.start)) P.meaning call holds result.0 p (spot result.3) }
+    ensures goes { GoesBy (P.Table.table (P.its session.entry.permit.key.start)) P.meaning call result.1 holds result.2 result.0 session.entry.permit.key }
     ensures last { SeesLast result.3 }
 {
     let (next, found, session) = step(session, call, point, holds);
+    let (next, point, found, session) = further((next, point, found, session), call, holds);
+    further((next, point, found, session), call, holds)
+}
+
+// Makes one more step of the call, unless the call is answered or pauses.
+#[inline(always)]
+fn further<'a, T, P: Runs<T>>(
+    made: (
+        Next<P::Point, Answer<()>>,
+        P::Point,
+        u64,
+        SessionOf<'a, T, P>,
+    ),
+    call: P::Call,
+    holds: Option<Hold>,
+) -> (
+    Next<P::Point, Answer<()>>,
+    P::Point,
+    u64,
+    SessionOf<'a, T, P>,
+)
+    requires knows { Knows P.meaning (spot made.3) }
+    requires seat { what made.3.permit.view ≡ Some (seat_after call holds made.0) }
+    requires quiet { StaysQuiet P.meaning call holds }
+    requires goes { GoesBy (P.Table.table (P.its made.3.permit.key.start)) P.meaning call made.1 holds made.2 made.0 made.3.permit.key }
+    requires last { SeesLast made.3 }
+    ensures knows { Knows P.meaning (spot result.3) }
+    ensures key { result.3.permit.key ≡ made.entry.3.permit.key }
+    ensures seat { what result.3.permit.view ≡ Some (seat_after call holds result.0) }
+    ensures comes { (p : Spot T P.Call P.Point) → Comes (P.Table.table (P.its made.entry.3.permit.key.start)) P.meaning call holds made.entry.0 p (spot made.entry.3) → Comes (P.Table.table (P.its made.entry.3.permit.key.start)) P.meaning call holds result.0 p (spot result.3) }
+    ensures goes { GoesBy (P.Table.table (P.its made.entry.3.permit.key.start)) P.meaning call result.1 holds result.2 result.0 made.entry.3.permit.key }
+    ensures last { SeesLast result.3 }
+{
+    let (next, from, found, session) = made;
     match next {
-        Next::Answers(answer, after) => (Next::Answers(answer, after), point, found, session),
+        Next::Answers(answer, after) => (Next::Answers(answer, after), from, found, session),
         Next::Continue(to) => {
-            let looked = is_load(P::table().operation(call, point, holds));
-            let looks = is_load(P::table().operation(call, to, holds));
-            if looked && !looks {
+            if P::pause(call, from, to, holds, found, 0) > 0 {
+                (Next::Continue(to), from, found, session)
+            } else {
                 let (next, found, session) = step(session, call, to, holds);
                 (next, to, found, session)
-            } else {
-                (Next::Continue(to), point, found, session)
+            }
+        }
+    }
+}
+
+/// Makes a call that is answered by its third step at the latest. Returns the answer, and what the party then holds.
+///
+/// # Contract
+/// The party has made exactly this call, and has been answered as the table says (`ended`).
+#[inline(always)]
+pub fn in_three<'a, T, P: Runs<T>>(
+    session: SessionOf<'a, T, P>,
+    call: P::Call,
+    holds: Option<Hold>,
+) -> (Answer<()>, Option<Hold>, SessionOf<'a, T, P>)
+    requires stands { Stands holds session }
+    requires may { MayBegin (P.Table.table (P.its session.permit.key.start)) P.meaning call holds session.permit.key }
+    requires once { IsAnswered (P.Table.table (P.its session.permit.key.start)) call holds session.permit.key }
+    ensures knows { Knows P.meaning (spot result.2) }
+    ensures ended { Ended (P.Table.table (P.its session.entry.permit.key.start)) P.meaning call holds result.0 result.1 (spot session.entry) (spot result.2) }
+    ensures last { SeesLast result.2 }
+{
+    let first = point_of(&session, call, holds);
+    let (next, _, session) = step(session, call, first, holds);
+    match next {
+        Next::Answers(answer, after) => (answer, after, session),
+        Next::Continue(second) => {
+            let (next, _, session) = step(session, call, second, holds);
+            match next {
+                Next::Answers(answer, after) => (answer, after, session),
+                Next::Continue(third) => {
+                    let (next, _, session) = step(session, call, third, holds);
+                    match next {
+                        Next::Answers(answer, after) => (answer, after, session),
+                        Next::Continue(_) => unreachable!(),
+                    }
+                }
             }
         }
     }
@@ -422,10 +620,6 @@ fn is_granted(answer: Answer<()>) -> bool
     matches!(answer, Answer::Granted)
 }
 
-fn is_load(operation: Operation) -> bool {
-    matches!(operation, Operation::Load)
-}
-
 // Makes the step of the call at `point`, or begins the call there. Returns the number found, too.
 fn step<'a, T, P: Runs<T>>(
     session: SessionOf<'a, T, P>,
@@ -434,20 +628,21 @@ fn step<'a, T, P: Runs<T>>(
     holds: Option<Hold>,
 ) -> (Next<P::Point, Answer<()>>, u64, SessionOf<'a, T, P>)
     requires knows { Knows P.meaning (spot session) }
-    requires at { IsAt (P.Table.table P.its) call point holds session.permit.key (what session.permit.view) }
+    requires at { IsAt (P.Table.table (P.its session.permit.key.start)) call point holds session.permit.key (what session.permit.view) }
     requires quiet { StaysQuiet P.meaning call holds }
     ensures knows { Knows P.meaning (spot result.2) }
     ensures key { result.2.permit.key ≡ session.entry.permit.key }
     ensures seat { what result.2.permit.view ≡ Some (seat_after call holds result.0) }
-    ensures comes { (p : Spot T P.Call P.Point) → Under (P.Table.table P.its) P.meaning call p (spot session.entry) → Comes (P.Table.table P.its) P.meaning call holds result.0 p (spot result.2) }
-    ensures goes { GoesBy (P.Table.table P.its) P.meaning call point holds result.1 result.0 session.entry.permit.key }
+    ensures comes { (p : Spot T P.Call P.Point) → Under (P.Table.table (P.its session.entry.permit.key.start)) P.meaning call p (spot session.entry) → Comes (P.Table.table (P.its session.entry.permit.key.start)) P.meaning call holds result.0 p (spot result.2) }
+    ensures goes { GoesBy (P.Table.table (P.its session.entry.permit.key.start)) P.meaning call point holds result.1 result.0 session.entry.permit.key }
     ensures last { SeesLast result.2 }
 {
     P::laws();
     let table = P::table();
+    let place = table.place(point);
     let operation = table.operation(call, point, holds);
     let Session { permit, seen } = session;
-    let (found, permit, seen) = operate::<T, P, Brand>(permit, operation, seen, call);
+    let (found, permit, seen) = operate::<T, P, Brand>(permit, place, operation, seen, call);
     (
         table.next(call, point, holds, found),
         found,
@@ -455,9 +650,10 @@ fn step<'a, T, P: Runs<T>>(
     )
 }
 
-// Makes one operation of the call. Returns the number found; a store finds 0.
+// Makes one operation of the call, on the word at this place. Returns the number found; a store finds 0.
 fn operate<'a, T, P: Runs<T>, K: CallOf<P::Call>>(
     permit: Permit<'a, T, Party<P::Call, P::Point>, P>,
+    place: usize,
     operation: Operation,
     seen: Watch<Entry<P::Call, T>>,
     call: P::Call,
@@ -467,13 +663,35 @@ fn operate<'a, T, P: Runs<T>, K: CallOf<P::Call>>(
     Watch<Entry<P::Call, T>>,
 )
     requires knows { MayKnow (P.holds permit.key) (P.ways permit.key) seen }
-    requires keeps { Operates (P.holds permit.key) (P.ways permit.key) permit.view permit.value operation (TurnTold (P.Table.table P.its) (Finds P.meaning) K.gives K.call permit.key permit.view) }
-    ensures moved { Moved (Watches (Named (P.holds permit.entry.key) (P.ways permit.entry.key) seen.name) seen result.2 (TurnTold (P.Table.table P.its) (Finds P.meaning) K.gives K.call permit.entry.key permit.entry.view) result.0) result.1.view }
+    requires keeps { Operates P.Word.words (P.holds permit.key) (P.ways permit.key) permit.view permit.value place operation (TurnTold (P.Table.table (P.its permit.key.start)) P.meaning K.gives K.call permit.key permit.view) }
+    ensures moved { Moved (Watches (Named (P.holds permit.entry.key) (P.ways permit.entry.key) seen.name) seen result.2 (TurnTold (P.Table.table (P.its permit.entry.key.start)) P.meaning K.gives K.call permit.entry.key permit.entry.view) result.0) result.1.view }
     ensures kept { Keeps (P.ways permit.entry.key) permit.entry.view result.1.view permit.entry.value result.1.value }
     ensures found { Found (P.ways permit.entry.key) permit.entry.view result.1.view permit.entry.value result.1.value result.2 }
     ensures key { result.1.key ≡ permit.entry.key }
 {
     let _ = call;
+    if place > 0 {
+        return match operation {
+            Operation::Load => P::Word::load::<
+                T,
+                Party<P::Call, P::Point>,
+                Entry<P::Call, T>,
+                P,
+                Turn<P, K>,
+            >(permit, seen),
+            Operation::Store(to) => {
+                let (permit, seen) = P::Word::store::<
+                    T,
+                    Party<P::Call, P::Point>,
+                    Entry<P::Call, T>,
+                    P,
+                    Turn<P, K>,
+                >(permit, to, seen);
+                (0, permit, seen)
+            }
+            _ => unreachable!(),
+        };
+    }
     match operation {
         Operation::Load => permit.load::<Turn<P, K>>(seen),
         Operation::Exchange(old, new) => permit.exchange::<Turn<P, K>>(old, new, seen),

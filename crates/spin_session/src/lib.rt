@@ -2,5 +2,6 @@
 #![tactic(auto)]
 
 pub mod calls;
+pub mod second;
 pub mod session;
 pub mod table;

@@ -1,17 +1,9 @@
-use Rattle.std.proofs.Common.{subst}
+use Rattle.std.proofs.Common.{ℕ, ap, ◌∙◌, subst}
 use Rattle.spin_session.specs.Turns.{spot, Comes}
-use Rattle.spin_session.proofs.Course.{under}
 use Rattle.spin_session.proofs.calls.round.Goals as goal
 
-pub returns-in-Answers-clause-comes : goal.returns-in-Answers-clause-comes
-returns-in-Answers-clause-comes g c p on =
-    let a = c.args in let f = c.step-next in subst (λ x. Comes (g.P.Table.Steps.table g.P.Runs.its) g.P.Runs.meaning a.call a.holds x p (spot f.result.2)) c.in-Answers.is (f.ensures.comes p on)
-
-pub returns-then-not-looks-clause-comes : goal.returns-then-not-looks-clause-comes
-returns-then-not-looks-clause-comes g c p on =
-    let a = c.args in let f = c.step-next in
-    c.step-next-then-not-looks.ensures.comes p (under (g.P.Table.Steps.table g.P.Runs.its) g.P.Runs.meaning a.call a.holds p (spot f.result.2) f.result.0 (f.ensures.comes p on) c.in-Continue.to c.in-Continue.is)
-
-pub returns-else-looked-clause-comes : goal.returns-else-looked-clause-comes
-returns-else-looked-clause-comes g c p on =
-    let a = c.args in let f = c.step-next in subst (λ x. Comes (g.P.Table.Steps.table g.P.Runs.its) g.P.Runs.meaning a.call a.holds x p (spot f.result.2)) c.in-Continue.is (f.ensures.comes p on)
+pub returns-clause-comes : goal.returns-clause-comes
+returns-clause-comes g c p on =
+    let a = c.args in let s = g.P.Runs.meaning in let tab = λ (n : ℕ). g.P.Table.Steps.table (g.P.Runs.its n) in let x = c.step-next in let y = c.further-next in let z = c.further in
+    let second = subst (λ n. Comes (tab n) s a.call a.holds x.result.0 p (spot x.result.2) → Comes (tab n) s a.call a.holds y.result.0 p (spot y.result.3)) (ap (λ k. k.start) x.ensures.key) (y.ensures.comes p) (x.ensures.comes p on) in
+    subst (λ n. Comes (tab n) s a.call a.holds y.result.0 p (spot y.result.3) → Comes (tab n) s a.call a.holds z.result.0 p (spot z.result.3)) (ap (λ k. k.start) (y.ensures.key ∙ x.ensures.key)) (z.ensures.comes p) second

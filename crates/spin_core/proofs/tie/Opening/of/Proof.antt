@@ -1,5 +1,5 @@
 use Rattle.spin_core.proofs.TraceWalk.{◌≡◌, [], ◌∷◌, refl, a_type, named, inst_fn, ‵, ◌$◌, !, by, keep, fjoin, use0, no_more, and_then, returns, alloc_all, pass_all, free_all, look_at, get, sets, agg, tables, RattleType, nothing, param, layouts, token, Token, token_made}
-use Rattle.std.proofs.Common.{true}
+use Rattle.std.proofs.Common.{true, zero}
 use Rattle.spin_core.specs.contracts.trace.Trace as trace
 use Rattle.spin_core.specs.contracts.tie.Opening.of.{ended, clauses}
 use Rattle.spin_core.proofs.tie.Opening.of.Statement.{statement}
@@ -16,5 +16,5 @@ of_spec 𝓤 𝓛 𝓜 𝓡 wired T E S L LE LS =
     keep ! (0 ∷ []) $ alloc_all ! (λ l. pass_all ! refl ((tt, tt), ((tt, tt), tt)) $
     nothing ! $ use0 𝓛 (‵ ((Token T').own_val (record {}, tt) (token ∷ []))) (token_made T' 𝓛) $ fjoin ! $
     sets ! (agg ! (no_more !)) refl (tt, tt) $ sets ! (agg ! (and_then ! (get ! refl) (no_more !))) refl (tt, (tt, tt)) $
-    says ! ((a.0.now.name ≡ a.0.now.name) × (a.1.0.now ≡ a.1.0.now) × (true ≡ true)) (refl, refl, refl) $
-    returns ! (look_at ! 0 refl) $ free_all ! refl $ keep ! (2 ∷ 1 ∷ 0 ∷ []) $ by ! (out token (record { marker = record {}; name = a.0.now.name; value = a.1.0.now; told = true }))))
+    says ! ((a.0.now.name ≡ a.0.now.name) × (a.1.0.now ≡ a.1.0.now) × (true ≡ true) × (zero ≡ 0)) (refl, refl, refl, refl) $
+    returns ! (look_at ! 0 refl) $ free_all ! refl $ keep ! (2 ∷ 1 ∷ 0 ∷ []) $ by ! (out token (record { marker = record {}; name = a.0.now.name; value = a.1.0.now; told = true; start = 0 }))))
