@@ -26,7 +26,7 @@ abbrev pub held_at : Hold → Part
 held_at hold = elim hold [ Write ↦ holds writing | _ ↦ idle ]
 
 abbrev pub flag_meaning : Meaning FlagCall FlagPoint
-flag_meaning = record { cap = 0; word = flag_word; bounds = λ n. Unit {0}; shares = false; part = part_at; held = held_at }
+flag_meaning = record { cap = 0; word = flag_word; second = λ s. 0; bounds = λ n. Unit {0}; shares = false; part = part_at; held = held_at }
 
 -- what a party is to the lock: where it is in a call, or what it holds
 abbrev pub View : Type 0

@@ -21,4 +21,4 @@ part_with h = elim h [ hold.Read ↦ holds reading | _ ↦ idle ]
 
 -- The bound on the word is the lock's own: a plain lock in order may have one holder even if its cap is 0.
 abbrev pub seats_meaning : ℕ → Meaning SeatsCall SeatsPoint
-seats_meaning n = record { cap = seats n; word = seats_word; bounds = λ w. w ≤ seats n; shares = true; part = part_in_call; held = part_with }
+seats_meaning n = record { cap = seats n; word = seats_word; second = λ s. 0; bounds = λ w. w ≤ seats n; shares = true; part = part_in_call; held = part_with }

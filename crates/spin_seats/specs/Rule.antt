@@ -36,7 +36,7 @@ abbrev pub part : ℕ → View → Part
 part n = session.part_of (seats_meaning n)
 
 abbrev pub IsWord : ℕ → ℕ → Unit {0} → List View → Type 0
-IsWord n = session.IsWord (seats_meaning n)
+IsWord n = session.AreWords session.just_one (seats_meaning n)
 
 abbrev pub IsSeats : ℕ → Opening (Unit {0}) → ℕ → Trace Done (Unit {0}) → List (Numbered View) → Type 0
 IsSeats n = session.RunsTable (table_of n) (seats_meaning n)

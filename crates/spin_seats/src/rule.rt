@@ -35,11 +35,13 @@ impl<const N: usize> Rule<(), Party> for SeatsRule<N> {
 impl<const N: usize> Runs<()> for SeatsRule<N> {
     type Call = SeatsCall;
 
+    type Word = ();
+
     type Point = SeatsPoint;
 
     type Table = SeatsTable;
 
-    ghost its = { record { seats = N } };
+    ghost its = { λ first. record { seats = N } };
 
     ghost meaning = { seats_meaning N };
 

@@ -44,11 +44,13 @@ impl<T> Rule<T, Party> for FlagRule {
 impl<T> Runs<T> for FlagRule {
     type Call = FlagCall;
 
+    type Word = ();
+
     type Point = FlagPoint;
 
     type Table = FlagTable;
 
-    ghost its = { record {} };
+    ghost its = { λ first. record {} };
 
     ghost meaning = { flag_meaning };
 

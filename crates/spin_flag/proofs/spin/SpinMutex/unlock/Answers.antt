@@ -13,7 +13,7 @@ use Rattle.spin_flag.proofs.spin.SpinMutex.unlock.Goals as goal
 pub free-requires : goal.free-requires
 free-requires g c = let w = c.into_writer-writer in record {
   knows = inr ((executes flag_table flag_meaning flag_refines).named w.result.key c.args.seen.name (ap (λ p. p.key.name) w.ensures ∙ c.requires.0));
-  alone = holding_of;
+  alone = holding_of w.result.view.0;
   begins = refl;
   held = (refl, refl);
   frees = λ n. refl;

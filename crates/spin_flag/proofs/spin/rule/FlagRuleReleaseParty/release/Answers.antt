@@ -5,7 +5,7 @@ use Rattle.spin_flag.proofs.spin.rule.FlagRuleReleaseParty.release.Goals as goal
 pub free-requires : goal.free-requires
 free-requires g c = record {
   knows = inl c.nothing.ensures;
-  alone = holding_of;
+  alone = holding_of c.args.writer.view.0;
   begins = refl;
   held = (refl, refl);
   frees = λ n. refl;

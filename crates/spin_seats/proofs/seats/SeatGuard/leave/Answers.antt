@@ -1,0 +1,9 @@
+use Rattle.std.proofs.Common.{subst, sym}
+use Rattle.spin_session.specs.Turns.{spot}
+use Rattle.spin_step.specs.declared.answer.Answer.TheVariants.{Done}
+use Rattle.spin_seats.specs.Passes.{Calls}
+use Rattle.spin_seats.specs.declared.calls.SeatsCall.TheVariants.{Leave}
+use Rattle.spin_seats.proofs.seats.SeatGuard.leave.Goals as goal
+
+pub returns : goal.returns
+returns g c = subst (λ p. Calls g.row.N Leave Done p (spot c.make.result)) c.self.view_is c.make.ensures.calls
