@@ -1,8 +1,9 @@
-use Rattle.std.proofs.Common.{Some, ap, ◌∙◌, subst, refl, inr}
+use Rattle.std.proofs.Common.{None, Some, ap, ◌∙◌, subst, refl, inr}
 use Rattle.spin_core.specs.Spots.{Releases}
 use Rattle.spin_step.specs.FlagCalls.{flag_table}
 use Rattle.spin_step.specs.declared.answer.Answer.TheVariants.{Done}
 use Rattle.spin_step.specs.declared.flag_calls.FlagCall.TheVariants.{Release}
+use Rattle.spin_step.specs.declared.stepped.Next.TheVariants.{Answers}
 use Rattle.spin_session.specs.Meaning.{model_at}
 use Rattle.spin_session.specs.Turns.{spot}
 use Rattle.spin_session.proofs.Executing.{executes}
@@ -16,7 +17,7 @@ free-requires g c = let w = c.into_writer-writer in record {
   alone = holding_of;
   begins = refl;
   held = (refl, refl);
-  frees = λ n. refl;
+  frees = λ n. refl {a = Answers Done None};
 }
 
 pub returns : goal.returns
