@@ -1,4 +1,4 @@
-use Rattle.std.proofs.Common.{None, Some, ap, ◌∙◌, subst, refl, inr}
+use Rattle.std.proofs.Common.{true, None, Some, ap, ◌∙◌, subst, refl, inr}
 use Rattle.spin_core.specs.Spots.{Releases}
 use Rattle.spin_step.specs.FlagCalls.{flag_table}
 use Rattle.spin_step.specs.declared.answer.Answer.TheVariants.{Done}
@@ -15,7 +15,7 @@ pub free-requires : goal.free-requires
 free-requires g c = let w = c.into_writer-writer in record {
   knows = inr ((executes flag_table flag_meaning flag_refines).named w.result.key c.args.seen.name (ap (λ p. p.key.name) w.ensures ∙ c.requires.0));
   alone = holding_of;
-  begins = refl;
+  begins = refl {a = true};
   held = (refl, refl);
   frees = λ n. refl {a = Answers Done None};
 }
