@@ -1,10 +1,11 @@
 //! Laws that an answer was right at some moment of its call. Each law is the contract of a function that does nothing.
 //! A caller that calls this function learns what the law states.
 //!
-//! Each law speaks of every pass that has made one call and got one answer, as the call's clause says (`Called`, or of
-//! `Seats` `Counted` or `WasRefused`). At some moment at which the pass was in that call, the plain lock was as the law
-//! says (`Found`, `FoundOnce`, `AtAMoment`). But the last law speaks of the moment just after the step that answered
-//! the call. The test `is_held` says that a party holds the lock, or is in its queue. [`crate::uses`] has callers.
+//! Each law speaks of every pass that has made one call and got one answer, as the call's clause says (`Called` or
+//! `Calls`, or of `Seats` `Counted` or `WasRefused`). At some moment at which the pass was in that call, the plain lock
+//! was as the law says (`Found`, `FoundOnce`, `AtAMoment`). But the last law speaks of the moment just after the step
+//! that answered the call. The test `is_held` says that a party holds the lock, or is in its queue. [`crate::uses`] has
+//! callers.
 ghost use Rattle.std.specs.Prelude.{◌≡◌, ◌⊎◌, ◌<◌, ◌≤◌, ℕ, Bool, true, false, length};
 ghost use Rattle.spin_fair.specs.Fair as fair_mutex;
 ghost use Rattle.spin_fair.specs.declared.fair.rule.View.{View as FairMutexView};

@@ -1,8 +1,9 @@
-use Rattle.std.proofs.Common.{Some, ap, ◌∙◌, subst, refl, inr}
+use Rattle.std.proofs.Common.{true, None, Some, ap, ◌∙◌, subst, refl, inr}
 use Rattle.spin_core.specs.Spots.{Releases}
 use Rattle.spin_step.specs.FlagCalls.{flag_table}
 use Rattle.spin_step.specs.declared.answer.Answer.TheVariants.{Done}
 use Rattle.spin_step.specs.declared.flag_calls.FlagCall.TheVariants.{Release}
+use Rattle.spin_step.specs.declared.stepped.Next.TheVariants.{Answers}
 use Rattle.spin_session.specs.Meaning.{model_at}
 use Rattle.spin_session.specs.Turns.{spot}
 use Rattle.spin_session.proofs.Executing.{executes}
@@ -14,9 +15,9 @@ pub free-requires : goal.free-requires
 free-requires g c = let w = c.into_writer-writer in record {
   knows = inr ((executes flag_table flag_meaning flag_refines).named w.result.key c.args.seen.name (ap (λ p. p.key.name) w.ensures ∙ c.requires.0));
   alone = holding_of w.result.view.0;
-  begins = refl;
+  begins = refl {a = true};
   held = (refl, refl);
-  frees = λ n. refl;
+  frees = λ n. refl {a = Answers Done None};
 }
 
 pub returns : goal.returns
