@@ -12,6 +12,17 @@ use crate::words::Words;
 ///
 /// # Contract
 /// The step has to be possible at these words. The table has no answer `Value`. The outcome is that of the table.
+///
+/// # Examples
+/// ```
+/// use spin_step::stepping::stepped;
+/// use spin_step::{FlagCall, FlagPoint, FlagTable, Next, Stepped};
+///
+/// let (call, point) = (FlagCall::TryLock, FlagPoint::First);
+/// let made: Stepped<bool, u64, _, _> = stepped(&FlagTable, false, call, point, None);
+/// assert!(rt; made.words);
+/// assert!(rt; matches!(made.next, Next::Answers(_, Some(_))));
+/// ```
 pub fn stepped<T: Copy, C: Copy, L: Copy, S: Steps<T, C, L>>(
     steps: &S,
     words: S::Words,
