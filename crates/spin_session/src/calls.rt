@@ -296,7 +296,7 @@ pub fn look<'a, T, P: Runs<T>>(
 ) -> (Answer<()>, SessionOf<'a, T, P>)
     requires stands { Stands holds session }
     requires may { MayBegin (P.Table.table (P.its session.permit.key.start)) P.meaning call holds session.permit.key }
-    requires leaves { LeavesHold (P.Table.table (P.its session.permit.key.start)) call holds session.permit.key }
+    requires leaves { LeavesHold (P.Table.table (P.its session.permit.key.start)) P.meaning call holds session.permit.key }
     requires once { IsAnswered (P.Table.table (P.its session.permit.key.start)) call holds session.permit.key }
     ensures stands { Stands holds result.1 }
     ensures calls { Calls (P.Table.table (P.its session.entry.permit.key.start)) call result.0 (spot session.entry) (spot result.1) }
