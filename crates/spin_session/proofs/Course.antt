@@ -15,7 +15,7 @@ use Rattle.spin_step.specs.declared.place.Seat.TheVariants.{Calling, Holding}
 use Rattle.spin_step.specs.declared.stepped.Next.{Next}
 use Rattle.spin_step.specs.declared.stepped.Next.TheVariants.{Continue, Answers}
 use Rattle.spin_session.specs.Meaning.{FindsAt, Meaning, model_at, seat_after, seat_now, use_at, rests_at}
-use Rattle.spin_session.specs.Turns.{outcome_of, has_begun, Spot, Comes, GoesBy, GoesOn, Under, Ended, Quiet, StaysQuiet, IsAtPoint, Knows, StandsAt, IsAnsweredBy, IsAnswered, IsTry, IsLook, Tells, AnswersWith, is_granted}
+use Rattle.spin_session.specs.Turns.{MayFind, IsReached, outcome_of, has_begun, Spot, Comes, GoesBy, GoesOn, Under, Ended, Quiet, StaysQuiet, IsAtPoint, Knows, StandsAt, IsAnsweredBy, IsAnswered, IsTry, IsLook, Tells, AnswersWith, is_granted}
 use Rattle.spin_session.proofs.Refining.{not_begun}
 
 -- the seat of a party does not depend on what its answer says
@@ -44,7 +44,7 @@ module _ {W V C L : Type 0} (t : Table W V C L (Answer V)) (s : Meaning C L) (c 
 module _ {W V C L : Type 0} (t : V → Table W V C L (Answer V)) (s : Meaning C L) (c : C) (l : L) (h : Option Hold) (p q r : Spot V C L) where
   -- from q to r the party made one step of the call, which found this number
   abbrev pub Made : Next L (Answer V) → Type 0
-  Made next = (n : ℕ) × (next ≡ next_of (t q.0.value) c l h n) × FindsAt s ((t q.0.value).word l) n × Stepped (model_at t) (has_begun (what q.1)) c (outcome_of next) (seat_after c h next) q r
+  Made next = (n : ℕ) × (next ≡ next_of (t q.0.value) c l h n) × MayFind t s c l h n q.0 × Stepped (model_at t) (has_begun (what q.1)) c (outcome_of next) (seat_after c h next) q r
 
   seat_of_rest : (after : Option Hold) → what r.1 ≡ Some (resting after) → seat_now (what r.1) ≡ resting after
   seat_of_rest after is = ap seat_now is
@@ -55,14 +55,14 @@ module _ {W V C L : Type 0} (t : V → Table W V C L (Answer V)) (s : Meaning C 
   comes (inl (is_in, begun)) (Answers a after) (n, which, fine, (since, sits)) = (
     is_answered (model_at t) c p q r is_in (with_value a None) (rw begun at since),
     seat_of_rest after sits,
-    (l, n, ap (λ k. next_of (t k.value) c l h n) (sym is_in.2) ∙ sym which, subst (λ k. FindsAt s ((t k.value).word l) n) is_in.2 fine),
+    (l, n, ap (λ k. next_of (t k.value) c l h n) (sym is_in.2) ∙ sym which, subst (λ k. MayFind t s c l h n k) is_in.2 fine),
   )
   comes (inr (same, not)) (Continue k) (n, which, fine, (since, sits)) =
       (subst (λ x. IsIn (model_at t) c x r) same (comes_in (model_at t) c q r (rw not at since)), sits)
   comes (inr (same, not)) (Answers a after) (n, which, fine, (since, sits)) = (
     subst (λ x. HasCalled (model_at t) c (with_value a None) x r) same (in_one (model_at t) c q r (with_value a None) (rw not at since)),
     seat_of_rest after sits,
-    (l, n, ap (λ x. next_of (t x.0.value) c l h n) (sym same) ∙ sym which, subst (λ x. FindsAt s ((t x.0.value).word l) n) same fine),
+    (l, n, ap (λ x. next_of (t x.0.value) c l h n) (sym same) ∙ sym which, subst (λ x. MayFind t s c l h n x.0) same fine),
   )
 
 module _ {W V C L : Type 0} (t : V → Table W V C L (Answer V)) (s : Meaning C L) (c : C) (h : Option Hold) where
@@ -123,6 +123,11 @@ module _ {W V C L : Type 0} (t : V → Table W V C L (Answer V)) (s : Meaning C 
   pub answered_on : (key : Opening V) → IsAnswered t c h key → (n m j : ℕ) (l k : L) (x y z : Next L (Answer (Unit {0}))) → GoesBy t s c ((t key.value).start c h) h n x key → x ≡ Continue l → GoesBy t s c l h m y key → y ≡ Continue k
       → GoesBy t s c k h j z key → (i : L) → z ≡ Continue i → ⊥
   answered_on key once n m j l k x y z first is second is' third i is'' = once n m j l k i (sym (rw is at first.0)) (sym (rw is' at second.0)) (sym (rw is'' at third.0))
+
+-- the point at which a party makes a step of its call
+pub reached : {W V C L : Type 0} (t : V → Table W V C L (Answer V)) (s : Meaning C L) (c : C) (l : L) (h : Option Hold) (key : Opening V) (view : Option (Seat C L)) → IsAtPoint (t key.value) c l h view → rests_at s (seat_now view) ≡ true → IsReached t s c l h key
+reached t s c l h key view (inl is) rests = inl (subst (λ o. rests_at s (seat_now o) ≡ true) is rests)
+reached t s c l h key view (inr (point, is, may)) rests = inr point
 
 -- a party that holds has a seat
 pub holder_sits : {C L : Type 0} (view : Option (Seat C L)) (h : Hold) → seat_now view ≡ resting (Some h) → view ≡ Some (Holding h)

@@ -1,8 +1,8 @@
 -- A step of a table keeps the rule of its cell, and is the step of the model.
-use Rattle.std.proofs.Common.{◌≡◌, ℕ, zero, suc, [], ◌∷◌, Bool, true, false, List, Option, Some, None, is_some, unwrap_or, refl, sym, ap, ◌∙◌, subst, arith, inl, inr}
+use Rattle.std.proofs.Common.{◌≡◌, ◌≤◌, ℕ, zero, suc, [], ◌∷◌, Bool, true, false, List, Option, Some, None, is_some, unwrap_or, refl, sym, ap, ◌∙◌, subst, arith, inl, inr}
 use mathlib.Core.Logic.{◌⊎◌}
 use Rattle.std.specs.List.{list_all}
-use Rattle.spin_step.specs.Plain.{Plain, fresh}
+use Rattle.spin_step.specs.Plain.{Plain, fresh, ticket_limit}
 use Rattle.spin_step.specs.Orders.{IsInOrder}
 use Rattle.spin_step.specs.Acts.{Table, Act, step_at, step_by, change_at, operation_by, next_of, number_at, is_section, place_of, machine_of, begin_of}
 use Rattle.spin_step.specs.Operations.{performed, wrapped}
@@ -451,9 +451,9 @@ module _ {W V C L S : Type 0} (k : Words S) (t : Table W V C L (Answer V)) (s : 
   leaves (Some v) out = rests (machine_of t) (λ x. x) (words_in t k) (AreWords k s) opening.name V (way_of s.shares) (use_at s) (last opening) v out (also v.0 (idle_rests lock v.0 out))
 
   -- a new cell
-  pub starts_on : (x : Trace (Entry C V) S) → x.name ≡ opening.name → x.entries ≡ [] → x.word ≡ k.of (s.second (fresh s.cap 0 d.first)) → Meets Rule own_ways (s.word (fresh s.cap 0 d.first)) x []
-  starts_on x named empty word =
-      let n = s.word (fresh s.cap 0 d.first) in let begun = plays.begins lock 0 d.first n x.word d.is_number refl word in
+  pub starts_on : d.first ≤ ticket_limit → (x : Trace (Entry C V) S) → x.name ≡ opening.name → x.entries ≡ [] → x.word ≡ k.of (s.second (fresh s.cap 0 d.first)) → Meets Rule own_ways (s.word (fresh s.cap 0 d.first)) x []
+  starts_on small x named empty word =
+      let n = s.word (fresh s.cap 0 d.first) in let begun = plays.begins lock 0 d.first n x.word small refl word in
       opens (machine_of t) (λ z. z) (words_in t k) (AreWords k s) opening.name V (way_of s.shares) (use_at s) (last opening) n x named empty (ap (λ m. (n, m)) word ∙ sym d.opens_at.0)
       (as_meets V s.shares (use_at s) (AreWords k s) n x.word ((begun.0, d.opens_at.1), begun.1))
 
@@ -470,7 +470,6 @@ module _ {W V C L : Type 0} (t : Table W V C L (Answer V)) (s : Meaning C L) (d 
     operates = d.operates;
     writes_words = λ c l h w. rw (d.one_word l) (ap (λ n. (n, tt)) (d.writes_word c l h w));
     first = 0;
-    is_number = omega arith;
     opens_at = (ap (λ n. (n, tt)) (d.opens_at.0 ∙ sym d.opens_at.1), rw (d.opens_at.1) d.bounds_opening);
     empty = λ l. rw (d.one_word l) (d.bounds_opening, (fresh s.cap 0 0, refl, in_order-fresh s.cap 0 0 (omega arith), sym d.opens_at.1));
     nobody = (d.nobody, no_word-up);
@@ -483,4 +482,4 @@ module _ {W V C L : Type 0} (t : Table W V C L (Answer V)) (s : Meaning C L) (d 
   pub starts : (opening : Opening V) (x : Trace (Entry C V) (Unit {0})) → x.name ≡ opening.name → x.entries ≡ [] → Meets (Rule just_one t s refines_on opening) (own_ways just_one t s refines_on opening) 0 x []
   unfolding refines_on
   starts opening x named empty =
-      subst (λ n. Meets (Rule just_one t s refines_on opening) (own_ways just_one t s refines_on opening) n x []) d.opens_at.1 (starts_on just_one t s refines_on opening x named empty refl)
+      subst (λ n. Meets (Rule just_one t s refines_on opening) (own_ways just_one t s refines_on opening) n x []) d.opens_at.1 (starts_on just_one t s refines_on opening (omega arith) x named empty refl)

@@ -1,7 +1,7 @@
 -- What a lock's table means in the plain lock, and what has to be shown of a table that a cell runs.
-use Rattle.std.specs.Prelude.{◌≡◌, refl, ℕ, zero, suc, ◌≤◌, ◌+◌, ◌-◌, ◌%◌, ◌^◌, ◌==◌, ◌⊎◌, Bool, true, false, Option, Some, is_some, if◌then◌else◌, bit_or, List}
+use Rattle.std.specs.Prelude.{◌≡◌, refl, ℕ, zero, suc, ◌+◌, ◌-◌, ◌%◌, ◌^◌, ◌==◌, ◌⊎◌, Bool, true, false, Option, Some, is_some, if◌then◌else◌, bit_or, List}
 use Rattle.std.specs.Option.{unwrap_or}
-use Rattle.spin_step.specs.Plain.{Plain, fresh, ticket_limit}
+use Rattle.spin_step.specs.Plain.{Plain, fresh}
 use Rattle.spin_step.specs.Parties.{IsOpenStep, apply_some, entries_after}
 use Rattle.spin_step.specs.Orders.{IsInOrder}
 use Rattle.spin_step.specs.Operations.{performed}
@@ -192,7 +192,6 @@ module _ {W V C L A : Type 0} (t : Table W V C L A) where
     pub writes_words : (c : C) (l : L) (h : Option Hold) (w : W)
         → words_in k (step_by {V = V} t.memory (t.word l) (t.act c l h) w).words ≡ put_in k (t.word l) (performed (operation_by (t.act c l h)) (number_in k (t.word l) (words_in k w))) (words_in k w)
     pub first : ℕ
-    pub is_number : first ≤ ticket_limit
     pub opens_at : (words_in k t.words ≡ (s.word (fresh s.cap 0 first), k.of (s.second (fresh s.cap 0 first)))) × s.bounds (s.word (fresh s.cap 0 first))
     -- a word may be 0: a store tells as if it had found 0
     pub empty : (l : L) → FindsAt s (t.word l) 0

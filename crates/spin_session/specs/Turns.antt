@@ -138,9 +138,21 @@ module _ {W V C L : Type 0} (t : V → Table W V C L (Answer V)) (s : Meaning C 
   abbrev pub MayBegin : C → Option Hold → Opening V → Type 0
   MayBegin c h key = (((t key.value).asks c h).begins h ≡ true) × StaysQuiet s c h
 
+  -- the call rests at this point, or begins there
+  abbrev pub IsReached : C → L → Option Hold → Opening V → Type 0
+  IsReached c l h key = (rests_at s (Calling c l h) ≡ true) ⊎ (l ≡ (t key.value).start c h)
+
+  -- a step of this call at this point may find this number
+  abbrev pub MayFind : C → L → Option Hold → ℕ → Opening V → Type 0
+  MayFind c l h n key = FindsAt s ((t key.value).word l) n × IsReached c l h key
+
+  -- after each answer of the call, its party holds the same as before
+  abbrev pub LeavesHold : C → Option Hold → Opening V → Type 0
+  LeavesHold c h key = (l : L) (n : ℕ) (b : Answer V) (k : Option Hold) → IsReached c l h key → next_of (t key.value) c l h n ≡ Answers b k → k ≡ h
+
   -- so the party has been answered, by a step that found this number, and holds `after`
   abbrev pub Ended : C → Option Hold → Answer (Unit {0}) → Option Hold → Spot V C L → Spot V C L → Type 0
-  Ended c h a after p q = Calls t c a p q × (seat_now (what q.1) ≡ resting after) × ((l : L) × (n : ℕ) × (next_of (t p.0.value) c l h n ≡ Answers (with_value a None) after) × FindsAt s ((t p.0.value).word l) n)
+  Ended c h a after p q = Calls t c a p q × (seat_now (what q.1) ≡ resting after) × ((l : L) × (n : ℕ) × (next_of (t p.0.value) c l h n ≡ Answers (with_value a None) after) × MayFind c l h n p.0)
 
   -- the step of this call at this point found this number, which is in bounds, and so the call goes on so
   abbrev pub GoesBy : C → L → Option Hold → ℕ → Next L (Answer (Unit {0})) → Opening V → Type 0
@@ -179,10 +191,6 @@ module _ {W V C L : Type 0} (t : V → Table W V C L (Answer V)) where
   -- the third step of the call answers it, or an earlier one
   abbrev pub IsAnswered : C → Option Hold → Opening V → Type 0
   IsAnswered c h key = (n m j : ℕ) (l k i : L) → next_of (t key.value) c ((t key.value).start c h) h n ≡ Continue l → next_of (t key.value) c l h m ≡ Continue k → next_of (t key.value) c k h j ≡ Continue i → ⊥
-
-  -- after each answer of the call, its party holds the same as before
-  abbrev pub LeavesHold : C → Option Hold → Opening V → Type 0
-  LeavesHold c h key = (l : L) (n : ℕ) (b : Answer V) (k : Option Hold) → next_of (t key.value) c l h n ≡ Answers b k → k ≡ h
 
   -- the first step of the call answers it, and its party holds the same as before
   abbrev pub IsLook : C → Option Hold → Opening V → Type 0

@@ -227,7 +227,7 @@ pub fn attempt<'a, T, P: Runs<T>>(
     ensures refused { IfErr result (λ now. Stands holds now × Calls (P.Table.table (P.its session.entry.permit.key.start)) call Refused (spot session.entry) (spot now)) }
 {
     let _ = after;
-    let (answer, _, session) = in_three(session, call, holds);
+    let (answer, _, session, _) = in_three(session, call, holds);
     if is_granted(answer) {
         Ok(session)
     } else {
@@ -296,12 +296,12 @@ pub fn look<'a, T, P: Runs<T>>(
 ) -> (Answer<()>, SessionOf<'a, T, P>)
     requires stands { Stands holds session }
     requires may { MayBegin (P.Table.table (P.its session.permit.key.start)) P.meaning call holds session.permit.key }
-    requires leaves { LeavesHold (P.Table.table (P.its session.permit.key.start)) call holds session.permit.key }
+    requires leaves { LeavesHold (P.Table.table (P.its session.permit.key.start)) P.meaning call holds session.permit.key }
     requires once { IsAnswered (P.Table.table (P.its session.permit.key.start)) call holds session.permit.key }
     ensures stands { Stands holds result.1 }
     ensures calls { Calls (P.Table.table (P.its session.entry.permit.key.start)) call result.0 (spot session.entry) (spot result.1) }
 {
-    let (answer, _, session) = in_three(session, call, holds);
+    let (answer, _, session, _) = in_three(session, call, holds);
     (answer, session)
 }
 
@@ -577,7 +577,8 @@ fn further<'a, T, P: Runs<T>>(
     }
 }
 
-/// Makes a call that is answered by its third step at the latest. Returns the answer, and what the party then holds.
+/// Makes a call that is answered by its third step at the latest. Returns the answer, what the party then
+/// holds, and the number that the last step found.
 ///
 /// # Contract
 /// The party has made exactly this call, and has been answered as the table says (`ended`).
@@ -586,7 +587,7 @@ pub fn in_three<'a, T, P: Runs<T>>(
     session: SessionOf<'a, T, P>,
     call: P::Call,
     holds: Option<Hold>,
-) -> (Answer<()>, Option<Hold>, SessionOf<'a, T, P>)
+) -> (Answer<()>, Option<Hold>, SessionOf<'a, T, P>, u64)
     requires stands { Stands holds session }
     requires may { MayBegin (P.Table.table (P.its session.permit.key.start)) P.meaning call holds session.permit.key }
     requires once { IsAnswered (P.Table.table (P.its session.permit.key.start)) call holds session.permit.key }
@@ -595,17 +596,17 @@ pub fn in_three<'a, T, P: Runs<T>>(
     ensures last { SeesLast result.2 }
 {
     let first = point_of(&session, call, holds);
-    let (next, _, session) = step(session, call, first, holds);
+    let (next, found, session) = step(session, call, first, holds);
     match next {
-        Next::Answers(answer, after) => (answer, after, session),
+        Next::Answers(answer, after) => (answer, after, session, found),
         Next::Continue(second) => {
-            let (next, _, session) = step(session, call, second, holds);
+            let (next, found, session) = step(session, call, second, holds);
             match next {
-                Next::Answers(answer, after) => (answer, after, session),
+                Next::Answers(answer, after) => (answer, after, session, found),
                 Next::Continue(third) => {
-                    let (next, _, session) = step(session, call, third, holds);
+                    let (next, found, session) = step(session, call, third, holds);
                     match next {
-                        Next::Answers(answer, after) => (answer, after, session),
+                        Next::Answers(answer, after) => (answer, after, session, found),
                         Next::Continue(_) => unreachable!(),
                     }
                 }

@@ -1,4 +1,5 @@
-pub mod Queue
+pub mod Shapes
+pub mod TicketRefines
 pub mod TicketQueue
+pub mod Granted
 pub mod Rows
-pub mod Accounts

@@ -10,27 +10,29 @@ use denote.Struct.Tuple.{Tuple, tuple_laws}
 use Rattle.spin_core.proofs.TieLaws.{numbered, numbered_laws, opened, opening_laws, traced_over, trace_over_laws}
 use Rattle.spin_step.specs.contracts.ticket_calls.TicketCall as call
 use Rattle.spin_step.proofs.ticket_calls.TicketCall.TheLaws as calls
-use Rattle.spin_ticket.specs.contracts.ticket.rule.View as view
-use Rattle.spin_ticket.proofs.ticket.rule.View.TheLaws as views
+use Rattle.spin_step.specs.contracts.ticket_calls.TicketPoint as point
+use Rattle.spin_step.proofs.ticket_calls.TicketPoint.TheLaws as points
+use Rattle.spin_step.specs.contracts.place.Seat as seat
+use Rattle.spin_step.proofs.place.Seat.TheLaws as seats
 
 abbrev words : Laws u64
 words = of_field u64-field u64-laws refl (copy_shared u64-field u64-copy)
 
 -- the types of a party, of the rule's key, and of the second word
 abbrev pub Party : RattleType
-Party = numbered view.the_row
+Party = numbered (seat.the_row call.the_row point.the_row)
 
 abbrev pub Key : RattleType → RattleType
-Key T = Tuple (opened T ∷ u64 ∷ [])
+Key T = opened T
 
 abbrev pub Second : RattleType → RattleType
 Second T = traced_over call.the_row T u64
 
 abbrev pub party_laws : Laws Party
-party_laws = numbered_laws view.the_row views.the_row_laws
+party_laws = numbered_laws (seat.the_row call.the_row point.the_row) (seats.the_row_laws call.the_row point.the_row calls.the_row_laws points.the_row_laws)
 
 abbrev pub key_laws : (T : RattleType) → Laws T → Laws (Key T)
-key_laws T laws = tuple_laws (opened T ∷ u64 ∷ []) (opening_laws T laws, (words, tt))
+key_laws T laws = opening_laws T laws
 
 abbrev pub second_laws : (T : RattleType) → Laws T → Laws (Second T)
 second_laws T laws = trace_over_laws call.the_row T u64 calls.the_row_laws laws words

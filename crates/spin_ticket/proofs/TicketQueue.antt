@@ -6,15 +6,18 @@ use Rattle.spin_core.specs.Views.{entries_of}
 use Rattle.spin_core.proofs.Owners.{exactly}
 use Rattle.spin_step.proofs.Tickets.{one_if, has_number, count-lower, count-upper, count-between, entered_is_served}
 use Rattle.spin_core.proofs.Views.{part-there, part-beyond}
-use Rattle.spin_ticket.specs.declared.ticket.rule.View.{View}
-use Rattle.spin_ticket.specs.declared.ticket.rule.View.TheVariants.{Waiting, Entered}
-use Rattle.spin_ticket.specs.Queue.{part, Word}
+use Rattle.std.specs.Prelude.{None}
+use Rattle.spin_step.specs.declared.place.Hold.TheVariants as hold
+use Rattle.spin_step.specs.declared.place.Seat.TheVariants.{Calling, Holding}
+use Rattle.spin_step.specs.declared.ticket_calls.TicketCall.TheVariants.{Lock}
+use Rattle.spin_step.specs.declared.ticket_calls.TicketPoint.TheVariants.{Await}
+use Rattle.spin_ticket.specs.Queue.{View, part, Word}
 use Rattle.spin_ticket.specs.TicketQueue.{tickets_of, IsPlainQueue, stands_with, IsInTurn}
 
 standing : (id : ℕ) (v : View) → (entries_of id (part v)).tickets ≡ tickets_of id v
-standing id (Waiting n) = refl
-standing id (Entered n) = refl
-standing id _ = refl
+standing id (Calling Lock (Await n) None) = refl
+standing id (Holding (hold.Ticket n)) = refl
+standing id v = grind arith
 
 pub plain_queue : (next serving : ℕ) (vs : List View) (is : Word next serving vs) → IsPlainQueue is.0 next serving vs
 plain_queue next serving vs is = record {
@@ -27,9 +30,9 @@ plain_queue next serving vs is = record {
 }
 
 stands : (t p : ℕ) (v : View) → one_if (stands_with t v) ≡ sum_by (has_number t) (entries_of p (part v)).tickets
-stands t p (Waiting n) = omega arith
-stands t p (Entered n) = omega arith
-stands t p _ = refl
+stands t p (Calling Lock (Await n) None) = omega arith
+stands t p (Holding (hold.Ticket n)) = omega arith
+stands t p v = grind arith
 
 pub in_turn : (next serving : ℕ) (vs : List View) → Word next serving vs → IsInTurn next serving vs
 in_turn next serving vs is = let s = is.0 in let order = is.2 in
@@ -43,5 +46,5 @@ in_turn next serving vs is = let s = is.0 in let order = is.2 in
       one_each = λ t low high. count t ∙ count-between t (serving_word s) s.tickets order.numbered.1 (omega (arith, low, is.5)) (omega (arith, high, is.4, order.numbered.0));
       none_served = λ t low. count t ∙ count-lower t (serving_word s) s.tickets order.numbered.1 (omega (arith, low, is.5));
       none_untaken = λ t high. count t ∙ count-upper t (serving_word s) s.tickets order.numbered.1 (omega (arith, high, is.4, order.numbered.0));
-      in_turn = λ id t at. sym (entered_is_served s id t order.numbered order.exclusive.one_entered (plain.parties id (Entered t) at)).1 ∙ sym is.5;
+      in_turn = λ id t at. sym (entered_is_served s id t order.numbered order.exclusive.one_entered (plain.parties id (Holding (hold.Ticket t)) at)).1 ∙ sym is.5;
     }

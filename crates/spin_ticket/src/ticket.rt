@@ -1,9 +1,11 @@
 //! A spinning mutex that serves the threads in the order of their tickets. Begin at [`TicketMutex::lock`].
-ghost use Rattle.std.specs.Prelude.{◌≡◌, ◌≤◌, Option, IfSome, true};
+ghost use Rattle.std.specs.Prelude.{Option, IfSome};
 ghost use Rattle.std.specs.Fmt.{DisplaysOnOk};
 ghost use Rattle.spin_core.specs.Guard.{IsHolder};
 ghost use Rattle.spin_core.specs.Texts.{lock_text};
+ghost use Rattle.spin_session.specs.Turns.{IsNew, spot};
 ghost use Rattle.spin_ticket.specs.Queue.{use_of_party};
+ghost use Rattle.spin_ticket.specs.TicketPasses.{OpensWith, opening};
 
 use spin_core::cell::Cell;
 use spin_core::guard::{self, Guard};
@@ -12,16 +14,16 @@ use spin_core::relax::{RelaxStrategy, Spin, Strategy};
 use spin_core::texts::write_lock;
 use spin_core::tie::Opening;
 use spin_core::trace::Trace;
+use spin_session::calls::SessionOf;
+use spin_session::session::Session;
 use std::fmt::{self, Debug, Formatter};
 use std::sync::Wait;
 
-mod account;
 mod pass;
 mod rule;
-mod waiting;
 
 pub use self::pass::Pass;
-pub use self::rule::{Entry, Party, TicketRule, View};
+pub use self::rule::{Entry, Party, TicketRule};
 pub use spin_core::laws::{a_guard_reads_the_last_value_written, two_guards_read_one_value};
 
 /// A mutual exclusion lock that serves its threads in the order of their tickets, and on which a waiting thread spins.
@@ -74,23 +76,32 @@ impl<T, R> TicketMutex<T, R> {
     /// # Contract
     /// The lock's history begins with this value (`opens`). The call returns.
     pub const fn new(value: T) -> Self
-        ensures opens { (result.cell.0.value ≡ value) × (result.cell.0.told ≡ true) }
+        ensures opens { OpensWith value result }
     {
         Self::starting_at(value, 0)
     }
 
     // Creates an unlocked mutex whose first ticket has the number `first`.
     pub(crate) const fn starting_at(value: T, first: u64) -> Self
-        ensures opens { (result.cell.0.value ≡ value) × (result.cell.0.told ≡ true) }
+        ensures opens { OpensWith value result }
     {
         let trace = Trace::new(first);
-        let start = (Opening::of(&trace, &value), first);
-        let cell = Cell::new(value, first, trace, &start);
-        let (opening, _) = start;
+        let opening = Opening::starting_at(&trace, &value, &first);
+        let cell = Cell::new(value, first, trace, &opening);
         opening.end();
         TicketMutex {
             cell,
             strategy: Strategy::named(),
+        }
+    }
+
+    // Returns a party that has made no call.
+    fn session(&self) -> SessionOf<'_, T, TicketRule>
+        ensures { IsNew (opening self.now) (spot result) }
+    {
+        Session {
+            permit: self.cell.enter(),
+            seen: self.cell.watch(),
         }
     }
 
@@ -177,14 +188,6 @@ impl<T, R> TicketMutex<T, R> {
     /// Only that the call returns.
     pub fn get_mut(&mut self) -> &mut T {
         self.cell.get_mut()
-    }
-
-    // Makes the steps of `is_locked`. Returns the served number and the next number.
-    pub(crate) fn look(&self) -> (u64, u64)
-        ensures { result.0 ≤ result.1 }
-    {
-        let (serving, next, _) = self.pass().look();
-        (serving, next)
     }
 }
 

@@ -20,7 +20,7 @@ use crate::ticket::TicketMutex;
 /// assert_eq!(rt; next(&lock), 2);
 /// ```
 pub fn next<T, R>(lock: &TicketMutex<T, R>) -> u64 {
-    lock.look().1
+    lock.pass().next_number()
 }
 
 /// Creates an unlocked mutex whose first ticket has the number `first`.

@@ -10,7 +10,7 @@ use Rattle.spin_session.specs.Operating.{Operates}
 use Rattle.spin_session.specs.Meaning.{rests_at, seat_now, seat_after, model_at}
 use Rattle.spin_session.specs.Turns.{TurnTold, outcome_of, has_begun, Spot, spot}
 use Rattle.spin_session.proofs.Turned.{turned, in_bounds}
-use Rattle.spin_session.proofs.Course.{quiet_at, comes, same_seat}
+use Rattle.spin_session.proofs.Course.{reached, quiet_at, comes, same_seat}
 use Rattle.spin_session.proofs.calls.step.Goals as goal
 
 pub operate-found-requires-clause-keeps : goal.operate-found-requires-clause-keeps
@@ -54,7 +54,7 @@ returns-clause-comes g c p on =
     let next = went ∙ (c.laws.ensures.alike k.key.value k.key.start).goes a.call a.point a.holds f.result.0 in
     let now : Spot g.row.T.Denot g.row.P-Call.Denot g.row.P-Point.Denot = (f.result.1.key, f.result.1.view, f.result.2) in
     comes t s a.call a.point a.holds p (spot it) now on c.next.result
-    (f.result.0, next, fine, subst (λ x. Stepped (model_at t) (has_begun (what k.view)) a.call (outcome_of x) (seat_after a.call a.holds x) (spot it) now) (sym next) ((all.made, all.named, f.ensures.key), all.is))
+    (f.result.0, next, (fine, reached t s a.call a.point a.holds k.key (what k.view) c.requires.at c.requires.knows.2), subst (λ x. Stepped (model_at t) (has_begun (what k.view)) a.call (outcome_of x) (seat_after a.call a.holds x) (spot it) now) (sym next) ((all.made, all.named, f.ensures.key), all.is))
 
 pub returns-clause-goes : goal.returns-clause-goes
 returns-clause-goes g c =

@@ -1,8 +1,26 @@
-use Rattle.spin_ticket.specs.Accounts.{here}
+use Rattle.std.proofs.Common.{None, ap, ◌∙◌, subst, sym}
+use Rattle.spin_core.specs.Spots.{HasCalled}
+use Rattle.spin_step.specs.Acts.{with_value}
+use Rattle.spin_step.specs.declared.answer.Answer.TheVariants.{Granted, Refused}
 use Rattle.spin_step.specs.declared.ticket_calls.TicketCall.TheVariants.{TryLock}
+use Rattle.spin_session.specs.Turns.{spot}
+use Rattle.spin_ticket.specs.Queue.{model}
+use Rattle.spin_ticket.specs.TicketPasses.{Calls, Grants}
+use Rattle.spin_ticket.proofs.Granted.{tried, granted, was_granted}
+use Rattle.spin_ticket.proofs.TicketRefines.{try_refuses}
 use Rattle.spin_ticket.proofs.ticket.pass.Pass.try_lock.Goals as goal
 
-pub returns-in-Ok : goal.returns-in-Ok
-returns-in-Ok g c =
-    let got = c.into_guard.ensures TryLock (here c.args.self.account) c.in-Ok.ensures.0 in
-    record { holder = (got.0, got.1); same = (got.2, got.3); found = got.4; granted = got.5; refused = tt }
+pub returns-in-Granted-clause-granted : goal.returns-in-Granted-clause-granted
+returns-in-Granted-clause-granted g c =
+    let from = spot c.self.inside.session in let f = c.in_three-answer in let q = c.guarded in
+    let (uses, calls) = tried from (spot f.result.2) f.result.0 f.result.1 c.in-Granted.is f.ensures.ended in
+    subst (λ b. Grants TryLock b q.result.0 q.result.1) c.self.view_is
+    (granted TryLock from (spot f.result.2) f.result.2.permit.value q.result.0 q.result.1 q.ensures.spot q.ensures.value f.ensures.knows uses f.ensures.last calls)
+
+pub returns-in_default : goal.returns-in_default
+returns-in_default g c =
+    let from = spot c.self.inside.session in let f = c.in_three-answer in let e = f.ensures.ended in let (l, n, is, fine) = e.2 in
+    let (same, after) = try_refuses from.0 (with_value f.result.0 None) f.result.1 l n fine.1 is (λ so. c.in_default.not-Granted (was_granted f.result.0 so)) in record {
+      granted = tt;
+      refused = subst (λ b. Calls TryLock Refused b (spot f.result.2)) c.self.view_is (subst (λ x. HasCalled model TryLock x from (spot f.result.2)) same e.0);
+    }

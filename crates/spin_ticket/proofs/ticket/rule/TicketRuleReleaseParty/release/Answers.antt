@@ -1,19 +1,14 @@
-use Rattle.std.proofs.Common.{ap, ◌∙◌}
-use mathlib.Core.Logic.{inl}
-use Rattle.spin_core.specs.Cell.{use_of}
-use Rattle.spin_core.proofs.Mutexes.{rests}
-use Rattle.spin_ticket.specs.Queue.{use_of_party}
-use Rattle.spin_ticket.proofs.Queue.{mutex}
+use Rattle.std.proofs.Common.{true, refl, inl, sym, subst}
+use Rattle.spin_session.specs.Meaning.{Peeks, with_second}
+use Rattle.spin_ticket.specs.Queue.{ticket_meaning}
+use Rattle.spin_ticket.proofs.TicketRefines.{peeked_seat}
 use Rattle.spin_ticket.proofs.ticket.rule.TicketRuleReleaseParty.release.Goals as goal
 
-pub find_own-number-requires : goal.find_own-number-requires
-find_own-number-requires g c =
-    let it = c.into_permit.ensures in record { uses = ap (use_of use_of_party) it.same.0 ∙ it.use_of_view; may = inl c.nothing.ensures }
-
-pub serve-permit-requires : goal.serve-permit-requires
-serve-permit-requires g c =
-    let value = c.args.writer.value in
-    record { holds = (value, c.find_own-number.ensures.holds value c.into_permit.ensures.same.1); may = inl c.nothing-2.ensures }
-
-pub leave-requires : goal.leave-requires
-leave-requires g c = let s = c.serve-permit in rests (mutex s.result.0.key) s.result.0.view s.ensures.out
+pub free-requires : goal.free-requires
+free-requires g c = let k = c.peek-number in let w = k.result.1 in record {
+  knows = inl c.nothing-2.ensures;
+  alone = λ uses. peeked_seat w.view.0 k.result.0 uses (subst (λ v. Peeks with_second ticket_meaning v k.result.0) (sym k.ensures.seat) k.ensures.finds);
+  begins = refl {a = true};
+  held = (refl, refl);
+  frees = λ n. refl;
+}

@@ -1,4 +1,0 @@
-use Rattle.spin_ticket.proofs.ticket.TicketMutex.pass.Given as goal
-
-abbrev pub ghost-watch : goal.ghost-watch
-ghost-watch g a = a.self.now.0.name
