@@ -1,10 +1,9 @@
 -- The table of tickets can be executed by a cell of two words.
-use Rattle.std.proofs.Common.{◌≡◌, ◌≤◌, ◌<◌, ◌+◌, ◌-◌, ◌%◌, ◌^◌, ◌==◌, ◌&&◌, nat_lt, ℕ, suc, [], ◌∷◌, ◌++◌, Bool, true, false, Option, Some, None, is_some, List, length, refl, ap, sym, ◌∙◌, arith, subst, inl, inr}
+use Rattle.std.proofs.Common.{◌≡◌, ◌≤◌, ◌<◌, ◌+◌, ◌-◌, ◌%◌, ◌^◌, ◌==◌, ℕ, [], Bool, true, false, Option, Some, None, is_some, List, refl, ap, sym, ◌∙◌, arith, subst, inl, inr}
 use Rattle.std.proofs.lemmas.Bool.{eqb-true, and_parts}
 use Rattle.std.specs.Prelude.{◌⊎◌, not}
-use Rattle.spin_step.specs.Plain.{Plain, ticket_limit, fresh, gets, serves, apply, to_take_ticket, to_take_and_enter, to_enter, is_first, next_word, serving_word}
-use Rattle.spin_step.specs.Parties.{entries_after}
-use Rattle.spin_step.specs.Steps.{Decides, Gives}
+use Rattle.spin_step.specs.Plain.{Plain, ticket_limit, fresh, gets, serves, to_take_ticket, to_take_and_enter, to_enter, is_first, next_word, serving_word}
+use Rattle.spin_step.specs.Steps.{Decides}
 use Rattle.spin_step.specs.Orders.{IsInOrder}
 use Rattle.spin_step.specs.Tickets.{take, served}
 use Rattle.spin_step.specs.Operations.{performed}
@@ -18,7 +17,7 @@ use Rattle.spin_step.specs.declared.answer.Answer.{Answer}
 use Rattle.spin_step.specs.declared.answer.Answer.TheVariants.{Granted, Refused, Done, Is}
 use Rattle.spin_step.specs.declared.place.Hold.{Hold}
 use Rattle.spin_step.specs.declared.place.Hold.TheVariants as hold
-use Rattle.spin_step.specs.declared.place.Seat.TheVariants.{Idle, Calling, Holding}
+use Rattle.spin_step.specs.declared.place.Seat.TheVariants.{Calling, Holding}
 use Rattle.spin_step.specs.declared.stepped.Next.{Next}
 use Rattle.spin_step.specs.declared.stepped.Next.TheVariants.{Continue, Answers}
 use Rattle.spin_step.specs.declared.ticket_calls.TicketCall.{TicketCall}
