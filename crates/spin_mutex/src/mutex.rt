@@ -1,6 +1,6 @@
 //! `Mutex`, which uses only the contract of an inner lock. Begin at [`Mutex::lock`].
 ghost use Rattle.std.specs.Prelude.{◌≡◌, Some, None, [], IfSome, true};
-ghost use Rattle.spin_ticket.specs.TicketPasses.{history, party, lock_of, name_of, opening, opening_of};
+ghost use Rattle.spin_ticket.specs.TicketPasses.{history, party, lock_of, name_of, opening, opening_of, OpensWith};
 ghost use Rattle.spin_mutex.specs.MutexGuard.{value_of, holds, held_value};
 
 use spin_core::lock::{Lock, with_guard};
@@ -96,7 +96,7 @@ impl<T, R> Mutex<T, R> {
     /// # Contract
     /// The lock's history begins with this value (`opens`). The call returns.
     pub const fn new(value: T) -> Self
-        ensures opens { ((opening result.inner).0.value ≡ value) × ((opening result.inner).0.told ≡ true) }
+        ensures opens { OpensWith value result.inner }
     {
         Self::over(TicketMutex::new(value))
     }

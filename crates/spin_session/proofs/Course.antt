@@ -14,7 +14,7 @@ use Rattle.spin_step.specs.declared.place.Seat.{Seat}
 use Rattle.spin_step.specs.declared.place.Seat.TheVariants.{Calling, Holding}
 use Rattle.spin_step.specs.declared.stepped.Next.{Next}
 use Rattle.spin_step.specs.declared.stepped.Next.TheVariants.{Continue, Answers}
-use Rattle.spin_session.specs.Meaning.{FindsAt, Meaning, model_at, seat_after, seat_now, use_at, rests_at}
+use Rattle.spin_session.specs.Meaning.{Meaning, model_at, seat_after, seat_now, use_at, rests_at}
 use Rattle.spin_session.specs.Turns.{MayFind, IsReached, outcome_of, has_begun, Spot, Comes, GoesBy, GoesOn, Under, Ended, Quiet, StaysQuiet, IsAtPoint, Knows, StandsAt, IsAnsweredBy, IsAnswered, IsTry, IsLook, Tells, AnswersWith, is_granted}
 use Rattle.spin_session.proofs.Refining.{not_begun}
 

@@ -3,7 +3,7 @@ use Rattle.std.proofs.Common.{◌≡◌, ℕ, true, Option, Some, None, arith, s
 use Rattle.std.specs.Prelude.{Result, Ok, Err, IfOk, IfErr}
 use Rattle.std.specs.Option.{IfSome}
 use Rattle.spin_core.specs.Cell.{writes, use_of}
-use Rattle.spin_core.specs.Guard.{guard_view, guard_key, guard_value}
+use Rattle.spin_core.specs.Guard.{guard_value}
 use Rattle.spin_core.specs.Own.{Numbered, what}
 use Rattle.spin_core.specs.Spots.{Since, Releases, HasCalled}
 use Rattle.spin_core.specs.Passes.{Course, Nothing, WritesSome, IsCall}

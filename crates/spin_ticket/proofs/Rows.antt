@@ -1,12 +1,11 @@
 -- The types that the guard of a lock of tickets uses, with their laws. A walk over the guard cites them.
-use Rattle.std.proofs.Common.{[], ◌∷◌, refl}
+use Rattle.std.proofs.Common.{refl}
 use denote.Builtin.{u64}
 use denote.RattleType.{RattleType}
 use denote.Param.Laws.{Laws, of_field}
 use denote.Param.Shared.{copy_shared}
 use denote.Struct.Field.{u64-field}
 use denote.Struct.Laws.{u64-laws, u64-copy}
-use denote.Struct.Tuple.{Tuple, tuple_laws}
 use Rattle.spin_core.proofs.TieLaws.{numbered, numbered_laws, opened, opening_laws, traced_over, trace_over_laws}
 use Rattle.spin_step.specs.contracts.ticket_calls.TicketCall as call
 use Rattle.spin_step.proofs.ticket_calls.TicketCall.TheLaws as calls

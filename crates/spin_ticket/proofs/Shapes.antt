@@ -1,14 +1,12 @@
 -- What a table of two words shows of a step, by the step's shape.
-use Rattle.std.proofs.Common.{◌≡◌, ℕ, zero, suc, ◌==◌, Bool, true, false, Option, Some, None, is_some, unwrap_or, refl, sym, ap, ◌∙◌, subst, eq-eqb, ne_eqb}
+use Rattle.std.proofs.Common.{◌≡◌, ℕ, zero, suc, Bool, true, false, Option, Some, None, refl, sym, ◌∙◌, eq-eqb, ne_eqb}
 use mathlib.Core.Logic.{dite}
 use native.Mathlib.Decide.{ℕ_discrete}
-use Rattle.spin_step.specs.Plain.{Plain, Ask, Change, gets, apply, is_open}
-use Rattle.spin_step.specs.Parties.{IsOpenStep, party_of, entries_after}
-use Rattle.spin_step.specs.Steps.{Decides}
-use Rattle.spin_step.specs.Acts.{Memory, Act, load, load_if, load_for, enter, attempt, retry, store, swap, either, becomes, retried, passing}
+use Rattle.spin_step.specs.Plain.{Plain, Change, apply, is_open}
+use Rattle.spin_step.specs.Parties.{party_of, entries_after}
+use Rattle.spin_step.specs.Acts.{Memory, Act, load, load_if, load_for, enter, attempt, retry, store, either, becomes, retried}
 use Rattle.spin_step.specs.Operations.{performed}
 use Rattle.spin_step.specs.declared.table.Operation.{Operation}
-use Rattle.spin_step.specs.Acts.{operation_by}
 use Rattle.spin_step.specs.declared.stepped.Next.{Next}
 use Rattle.spin_core.specs.Views.{Part, entries_of, Knows}
 use Rattle.spin_session.specs.Meaning.{SoundOn, worked, number_in, put_in, with_second}

@@ -1,10 +1,9 @@
 -- The table of tickets can be executed by a cell of two words.
-use Rattle.std.proofs.Common.{◌≡◌, ◌≤◌, ◌<◌, ◌+◌, ◌-◌, ◌%◌, ◌^◌, ◌==◌, ◌&&◌, nat_lt, ℕ, suc, [], ◌∷◌, ◌++◌, Bool, true, false, Option, Some, None, is_some, List, length, refl, ap, sym, ◌∙◌, arith, subst, inl, inr}
+use Rattle.std.proofs.Common.{◌≡◌, ◌≤◌, ◌<◌, ◌+◌, ◌-◌, ◌%◌, ◌^◌, ◌==◌, ℕ, [], true, false, Option, Some, None, is_some, List, refl, ap, sym, ◌∙◌, arith, subst, inl, inr}
 use Rattle.std.proofs.lemmas.Bool.{eqb-true, and_parts}
 use Rattle.std.specs.Prelude.{◌⊎◌, not}
-use Rattle.spin_step.specs.Plain.{Plain, ticket_limit, fresh, gets, serves, apply, to_take_ticket, to_take_and_enter, to_enter, is_first, next_word, serving_word}
-use Rattle.spin_step.specs.Parties.{entries_after}
-use Rattle.spin_step.specs.Steps.{Decides, Gives}
+use Rattle.spin_step.specs.Plain.{Plain, ticket_limit, fresh, gets, serves, to_take_ticket, to_take_and_enter, to_enter, is_first, next_word, serving_word}
+use Rattle.spin_step.specs.Steps.{Decides}
 use Rattle.spin_step.specs.Orders.{IsInOrder}
 use Rattle.spin_step.specs.Tickets.{take, served}
 use Rattle.spin_step.specs.Operations.{performed}
@@ -18,7 +17,7 @@ use Rattle.spin_step.specs.declared.answer.Answer.{Answer}
 use Rattle.spin_step.specs.declared.answer.Answer.TheVariants.{Granted, Refused, Done, Is}
 use Rattle.spin_step.specs.declared.place.Hold.{Hold}
 use Rattle.spin_step.specs.declared.place.Hold.TheVariants as hold
-use Rattle.spin_step.specs.declared.place.Seat.TheVariants.{Idle, Calling, Holding}
+use Rattle.spin_step.specs.declared.place.Seat.TheVariants.{Calling, Holding}
 use Rattle.spin_step.specs.declared.stepped.Next.{Next}
 use Rattle.spin_step.specs.declared.stepped.Next.TheVariants.{Continue, Answers}
 use Rattle.spin_step.specs.declared.ticket_calls.TicketCall.{TicketCall}
@@ -36,7 +35,7 @@ use Rattle.spin_core.specs.Cell.{reads, writes, Meets}
 use Rattle.spin_core.specs.declared.tie.Opening.{Opening}
 use Rattle.spin_core.specs.declared.trace.Trace.{Trace}
 use Rattle.spin_session.specs.Operating.{Executes, SameSteps}
-use Rattle.spin_session.specs.Turns.{IsReached, IsAnswered, LeavesHold}
+use Rattle.spin_session.specs.Turns.{IsReached}
 use Rattle.spin_session.proofs.Executing.{executes_on}
 use Rattle.spin_session.proofs.Refining.{starts_on}
 use Rattle.spin_ticket.specs.Queue.{View, Made, IsQueue, table, part, ticket_meaning}
@@ -272,20 +271,3 @@ module _ {T : Type 0} (key : Opening T) where
   try_refuses a after TryLoadNext n at is other = absurd (grind (arith, is))
   try_refuses a after (TryLoadServing k) n at is other = grind (arith, is, other)
   try_refuses a after l n at is other = absurd (grind (arith, at))
-
-  pub look_leaves : LeavesHold (table key) ticket_meaning IsLocked None key
-  look_leaves (LookNext k) n a after at is = grind (arith, is)
-  look_leaves LookServing n a after at is = absurd (grind (arith, is))
-  look_leaves l n a after at is = absurd (grind (arith, at))
-
-  pub look_tells : (a : Answer T) (after : Option Hold) (l : TicketPoint) (n : ℕ) → IsReached (table key) ticket_meaning IsLocked l None key → next IsLocked l n ≡ Answers a after → (b : Bool) × (a ≡ Is b)
-  look_tells a after (LookNext k) n at is = (not (n == k), grind (arith, is))
-  look_tells a after LookServing n at is = absurd (grind (arith, is))
-  look_tells a after l n at is = absurd (grind (arith, at))
-
-  -- a try and a look are answered by their third step
-  pub try_in_three : IsAnswered (table key) TryLock None key
-  try_in_three n m j l k i first second third = grind (arith, first, second, third)
-
-  pub look_in_three : IsAnswered (table key) IsLocked None key
-  look_in_three n m j l k i first second third = grind (arith, first, second, third)

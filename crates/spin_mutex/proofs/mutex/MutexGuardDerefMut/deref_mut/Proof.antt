@@ -25,7 +25,7 @@ use Rattle.spin_core.specs.Guard.{guard_value, guard_with}
 use Rattle.spin_core.specs.contracts.guard.Guard as Inner
 use Rattle.spin_core.specs.contracts.guard.GuardDerefMut.deref_mut as callee
 use Rattle.spin_core.proofs.guard.GuardDerefMut.deref_mut.Met.{met}
-use Rattle.spin_core.proofs.TieLaws.{trace_within, key_within}
+use Rattle.spin_core.proofs.TieLaws.{trace_within, permit_within}
 use Rattle.spin_ticket.proofs.Rows.{Party, Key, Second, party_laws, key_laws, second_laws}
 use Rattle.spin_ticket.specs.contracts.ticket.rule.TicketRule as F
 use Rattle.spin_ticket.proofs.ticket.rule.TicketRule.TheLaws as FL
@@ -111,7 +111,7 @@ deref_mut_spec {M} 𝓤 𝓛 𝓜 𝓡 wired T S LT LS =
     move ! (1 ∷ 0 ∷ []) $ fjoin ! $ move ! (4 ∷ 0 ∷ []) $ fjoin ! $ move ! (2 ∷ 0 ∷ []) $ fjoin ! $ join ! $
     -- context: [tokens and argument; what follows; T lives; S lives; ..]
     move ! (2 ∷ []) $ heard ! (Incl life T.lives) (λ lives.
-    nothing ! $ says ! (Incl life N.lives) (trace_within life T.lives lives) $ join ! $ says ! (Incl life U.lives) (key_within life T.lives lives) $ join ! $
+    nothing ! $ says ! (Incl life N.lives) (trace_within life T.lives lives) $ join ! $ says ! (Incl life U.lives) (permit_within life T.lives lives) $ join ! $
     move ! (3 ∷ 0 ∷ []) $ join ! $ says ! (Incl [] Y.lives) (⊑_static []) $ join ! $ says ! (Incl [] W.lives) (⊑_static []) $ join ! $
     says ! (Incl life T.lives) lives $ join ! $ move ! (1 ∷ 0 ∷ []) $ join ! $ use1 𝓛 (raw (C.pre yc)) (id⊢ 𝓤 _) $
     sets ! (addr ! (through ! refl (fld ! refl (stop !)))) refl (tt, tt) $

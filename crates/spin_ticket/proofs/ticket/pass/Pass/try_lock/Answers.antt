@@ -1,7 +1,7 @@
-use Rattle.std.proofs.Common.{None, ap, ◌∙◌, subst, sym}
+use Rattle.std.proofs.Common.{None, subst}
 use Rattle.spin_core.specs.Spots.{HasCalled}
 use Rattle.spin_step.specs.Acts.{with_value}
-use Rattle.spin_step.specs.declared.answer.Answer.TheVariants.{Granted, Refused}
+use Rattle.spin_step.specs.declared.answer.Answer.TheVariants.{Refused}
 use Rattle.spin_step.specs.declared.ticket_calls.TicketCall.TheVariants.{TryLock}
 use Rattle.spin_session.specs.Turns.{spot}
 use Rattle.spin_ticket.specs.Queue.{model}
