@@ -622,6 +622,7 @@ fn is_granted(answer: Answer<()>) -> bool
 }
 
 // Makes the step of the call at `point`, or begins the call there. Returns the number found, too.
+#[inline(always)]
 fn step<'a, T, P: Runs<T>>(
     session: SessionOf<'a, T, P>,
     call: P::Call,
@@ -652,6 +653,7 @@ fn step<'a, T, P: Runs<T>>(
 }
 
 // Makes one operation of the call, on the word at this place. Returns the number found; a store finds 0.
+#[inline(always)]
 fn operate<'a, T, P: Runs<T>, K: CallOf<P::Call>>(
     permit: Permit<'a, T, Party<P::Call, P::Point>, P>,
     place: usize,

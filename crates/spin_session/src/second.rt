@@ -41,6 +41,7 @@ pub trait Word: Sized {
 impl Word for () {
     ghost words = { just_one };
 
+    #[inline(always)]
     fn load<'a, T, V, E, P: Rule<T, V, Second = Trace<E, ()>>, M: Play<P::Key, V, E>>(
         permit: Permit<'a, T, V, P>,
         seen: Watch<E>,
@@ -54,6 +55,7 @@ impl Word for () {
         permit.load::<M>(seen)
     }
 
+    #[inline(always)]
     fn store<'a, T, V, E, P: Rule<T, V, Second = Trace<E, ()>>, M: Play<P::Key, V, E>>(
         permit: Permit<'a, T, V, P>,
         new: u64,
@@ -72,6 +74,7 @@ impl Word for () {
 impl Word for u64 {
     ghost words = { with_second };
 
+    #[inline(always)]
     fn load<'a, T, V, E, P: Rule<T, V, Second = Trace<E, u64>>, M: Play<P::Key, V, E>>(
         permit: Permit<'a, T, V, P>,
         seen: Watch<E>,
@@ -85,6 +88,7 @@ impl Word for u64 {
         permit.load_second::<M>(seen)
     }
 
+    #[inline(always)]
     fn store<'a, T, V, E, P: Rule<T, V, Second = Trace<E, u64>>, M: Play<P::Key, V, E>>(
         permit: Permit<'a, T, V, P>,
         new: u64,
