@@ -64,7 +64,3 @@ module _ (κ l : Lft) (within : κ ⊑ l) where
 
   pub permit_within : κ ⊑ permit
   permit_within = search (within, ⊑_meet, ⊑_static) depth 20
-
-  -- the key of a ticket lock: its opening, and a number
-  pub key_within : κ ⊑ (permit ++ []) ++ (permit ++ [])
-  key_within = search (permit_within, ⊑_meet, ⊑_static) depth 20

@@ -4,12 +4,12 @@ use Rattle.spin_core.specs.Cell.{writes, use_of}
 use Rattle.spin_core.proofs.Ties as tie
 use Rattle.spin_step.specs.Acts.{Table}
 use Rattle.spin_step.specs.declared.answer.Answer.{Answer}
-use Rattle.spin_session.specs.Meaning.{Meaning, Words, just_one, use_at, use_of_party, Refines, RefinesOn, RunsOn, RunsTable, ways_of}
+use Rattle.spin_session.specs.Meaning.{Meaning, Beside, just_one, use_at, use_of_party, Refines, RefinesOn, RunsOn, RunsTable, ways_of}
 use Rattle.spin_session.specs.Operating.{Executes, SameSteps}
 use Rattle.spin_session.proofs.Refining as refining
 use Rattle.spin_session.proofs.Seen.{seen_last, left_last}
 
-pub executes_on : {W V C L S : Type 0} (k : Words S) (t : ℕ → V → Table W V C L (Answer V)) (s : Meaning C L) → ((value : V) (start : ℕ) → SameSteps (t 0 value) (t start value)) → ((start : ℕ) (value : V) → RefinesOn (t start value) k s)
+pub executes_on : {W V C L S : Type 0} (k : Beside S) (t : ℕ → V → Table W V C L (Answer V)) (s : Meaning C L) → ((value : V) (start : ℕ) → SameSteps (t 0 value) (t start value)) → ((start : ℕ) (value : V) → RefinesOn (t start value) k s)
     → Executes k t s (λ key. RunsOn (t key.start) s k key) (ways_of s)
 executes_on k t s alike d = record {
   alike = alike;

@@ -35,7 +35,7 @@ use Rattle.spin_step.proofs.InOrder.{in_order-kept, in_order-fresh, cap-kept}
 use Rattle.spin_step.specs.Parties.{apply_some}
 use Rattle.spin_core.specs.Values.{left, last, Leaves}
 use Rattle.spin_step.specs.declared.schedule.Move.{Move}
-use Rattle.spin_session.specs.Meaning.{Meaning, Words, just_one, HasSecond, number_in, put_in, on_place, IsAccess, way_of, part_of, seat_now, rests_at, seat_after, use_at, words_in, worked, AreWords, Peeks, FindsAt, ComesFrom, Refines, RefinesOn}
+use Rattle.spin_session.specs.Meaning.{Meaning, Beside, just_one, HasSecond, number_in, put_in, on_place, IsAccess, way_of, part_of, seat_now, rests_at, seat_after, use_at, words_in, worked, AreWords, Peeks, FindsAt, ComesFrom, Refines, RefinesOn}
 use Rattle.spin_session.specs.Turns.{outcome_of, Says, turn, Quiet, Told, turn_by, gives_up, has_begun, IsAtPoint, peeks}
 use Rattle.spin_session.specs.Operating.{Operates}
 use Rattle.spin_step.specs.declared.table.Operation.{Operation}
@@ -115,7 +115,7 @@ leaves_none C writes shown = tt
 
 -- The numbers in a cell's words.
 
-module _ {S : Type 0} (k : Words S) where
+module _ {S : Type 0} (k : Beside S) where
   abbrev IsPlace : ℕ → Type 0
   IsPlace i = (i ≡ 0) ⊎ ((i ≡ 1) × HasSecond k)
 
@@ -149,7 +149,7 @@ module _ {S : Type 0} (k : Words S) where
 
 -- The moves of a step.
 
-module _ {W V C L S : Type 0} (k : Words S) (t : Table W V C L (Answer V)) (s : Meaning C L) (d : RefinesOn t k s) (opening : Opening V) where
+module _ {W V C L S : Type 0} (k : Beside S) (t : Table W V C L (Answer V)) (s : Meaning C L) (d : RefinesOn t k s) (opening : Opening V) where
   abbrev pub lock : Lock (Seat C L) S
   lock = record {
     part = part_of s;

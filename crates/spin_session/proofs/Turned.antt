@@ -11,7 +11,7 @@ use Rattle.spin_step.specs.Schedules.{Entry}
 use Rattle.spin_step.specs.declared.answer.Answer.{Answer}
 use Rattle.spin_step.specs.declared.place.Hold.{Hold}
 use Rattle.spin_step.specs.declared.place.Seat.{Seat}
-use Rattle.spin_session.specs.Meaning.{Meaning, Words, FindsAt, seat_now, seat_after, words_of}
+use Rattle.spin_session.specs.Meaning.{Meaning, Beside, FindsAt, seat_now, seat_after, words_of}
 use Rattle.spin_session.specs.Turns.{Says, Told, turn, turn_by, peeks, outcome_of, has_begun, IsAtPoint}
 use Rattle.spin_session.proofs.Refining.{by_turn}
 
@@ -38,7 +38,7 @@ module _ {W V C L : Type 0} (t : Table W V C L (Answer V)) (s : Meaning C L) (vi
       go (Some v) (same, (log, es, known, grew, (own, outs, mine, mark, none, alike, said))) = said.1
 
 -- a load that is no step
-module _ {W V C L S : Type 0} (k : Words S) (t : Table W V C L (Answer V)) (s : Meaning C L) (view : Option (Numbered (Seat C L))) (before now : Watch (Entry C V)) (named : Type 0) (found : ℕ) where
+module _ {W V C L S : Type 0} (k : Beside S) (t : Table W V C L (Answer V)) (s : Meaning C L) (view : Option (Numbered (Seat C L))) (before now : Watch (Entry C V)) (named : Type 0) (found : ℕ) where
   abbrev Peeked : Option (Numbered (Seat C L)) → Type 0
   Peeked view' = Moved (Watches named before now (Told t s (peeks t s k (seat_now (what view))) view) found) view'
 

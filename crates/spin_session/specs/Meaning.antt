@@ -34,19 +34,19 @@ worked (op.Subtract by) n = (n + (2 ^ 64 - by)) % 2 ^ 64
 worked op.SetLowestBit n = bit_or n 1
 
 -- How a cell keeps a number at place 1, in what stands beside its first word. A cell of one word has its first word at each place.
-pub record Words (S : Type 0) : Type 0 where
+pub record Beside (S : Type 0) : Type 0 where
   pub of : ℕ → S
   pub number : ℕ × S → ℕ
   pub put : ℕ → ℕ × S → ℕ × S
   pub kept : (s : ℕ × S) → put (number s) s ≡ s
 
-abbrev pub just_one : Words (Unit {0})
+abbrev pub just_one : Beside (Unit {0})
 just_one = record { of = λ n. tt; number = λ s. s.0; put = λ n s. (n, s.1); kept = λ s. refl }
 
-abbrev pub with_second : Words ℕ
+abbrev pub with_second : Beside ℕ
 with_second = record { of = λ n. n; number = λ s. s.1; put = λ n s. (s.0, n); kept = λ s. refl }
 
-module _ {S : Type 0} (k : Words S) where
+module _ {S : Type 0} (k : Beside S) where
   -- the number at this place of a cell
   abbrev pub number_in : ℕ → ℕ × S → ℕ
   number_in i s = elim i [ zero ↦ s.0 | suc j ↦ k.number s ]
@@ -106,7 +106,7 @@ module _ {C L : Type 0} where
   use_of_party s v = use_at s v.0
 
   -- what holds of the words and the parties: the words are those of a plain lock in order with these parties
-  abbrev pub AreWords : {S : Type 0} → Words S → Meaning C L → ℕ → S → List (Seat C L) → Type 0
+  abbrev pub AreWords : {S : Type 0} → Beside S → Meaning C L → ℕ → S → List (Seat C L) → Type 0
   AreWords k s n m vs = Encodes (part_of s) s.cap s.word (λ plain. k.of (s.second plain)) n m vs × s.bounds n
 
   -- the word of a plain lock in order
@@ -122,7 +122,7 @@ module _ {C L : Type 0} where
   FindsAt s i n = elim i [ zero ↦ Finds s n | suc j ↦ IsWordOf s s.second n ]
 
 -- the number n is at place 1 of a lock in order in which the party has the part of its seat
-abbrev pub Peeks : {C L S : Type 0} → Words S → Meaning C L → Seat C L → ℕ → Type 0
+abbrev pub Peeks : {C L S : Type 0} → Beside S → Meaning C L → Seat C L → ℕ → Type 0
 Peeks k s seat n = (plain : Plain) × (p : ℕ) × IsInOrder plain × HasPart plain p (part_of s seat) × (n ≡ k.number (s.word plain, k.of (s.second plain)))
 
 -- A step of this shape on the first word makes a step of the plain lock, or none, and its party gets the part `to` of how its call goes on. The
@@ -136,7 +136,7 @@ pub record SoundAct {W L A : Type 0} (m : Memory W) (w : W) (word : Plain → �
   pub bounded : bounds (worked (operation_by act) (word plain))
 
 -- the same of a step on the word at place i
-pub record SoundOn {W L A S : Type 0} (k : Words S) (m : Memory W) (w : W) (i : ℕ) (words : Plain → ℕ × S) (bounds : ℕ → Type 0) (act : Act W L A) (to : Next L A → Part) (p : ℕ) (plain : Plain) (from : Part) : Type 0 where
+pub record SoundOn {W L A S : Type 0} (k : Beside S) (m : Memory W) (w : W) (i : ℕ) (words : Plain → ℕ × S) (bounds : ℕ → Type 0) (act : Act W L A) (to : Next L A → Part) (p : ℕ) (plain : Plain) (from : Part) : Type 0 where
   pub opens : IsOpenStep plain p (change_at (number_in k i (words plain)) act p w)
   pub entries : entries_after plain (change_at (number_in k i (words plain)) act p w) (entries_of p from) ≡ entries_of p (to (step_at {V = Unit {0}} m 0 (number_in k i (words plain)) act w).next)
   pub knows : Knows (apply_some plain (change_at (number_in k i (words plain)) act p w)) (to (step_at {V = Unit {0}} m 0 (number_in k i (words plain)) act w).next)
@@ -153,7 +153,7 @@ IsAccess (suc j) o = ⊥
 
 module _ {W V C L A : Type 0} (t : Table W V C L A) where
   -- the words of a cell for these words of the model
-  abbrev pub words_in : {S : Type 0} → Words S → W → ℕ × S
+  abbrev pub words_in : {S : Type 0} → Beside S → W → ℕ × S
   words_in k w = (number_at t.memory 0 w, k.of (number_at t.memory 1 w))
 
   abbrev pub words_of : W → ℕ × Unit {0}
@@ -183,7 +183,7 @@ module _ {W V C L A : Type 0} (t : Table W V C L A) where
         → HasPart plain p from → Sound s c l h p plain from
 
   -- the same of a table whose words the cell keeps as `k` says
-  pub record RefinesOn {S : Type 0} (k : Words S) (s : Meaning C L) : Type 0 where
+  pub record RefinesOn {S : Type 0} (k : Beside S) (s : Meaning C L) : Type 0 where
     pub places : (c : C) (l : L) (h : Option Hold) → place_of (t.word l) (t.act c l h) ≡ t.word l
     -- each point is on the first word, or on the second of a cell that has one
     pub within : (l : L) → (t.word l ≡ 0) ⊎ ((t.word l ≡ 1) × HasSecond k)
@@ -210,7 +210,7 @@ module _ {W V C L : Type 0} (t : V → Table W V C L (Answer V)) where
 
 module _ {W V C L : Type 0} (t : V → Table W V C L (Answer V)) (s : Meaning C L) where
   -- the rule of a cell that keeps the table's words as `k` says
-  abbrev pub RunsOn : {S : Type 0} → Words S → Opening V → ℕ → Trace (Entry C V) S → List (Numbered (Seat C L)) → Type 0
+  abbrev pub RunsOn : {S : Type 0} → Beside S → Opening V → ℕ → Trace (Entry C V) S → List (Numbered (Seat C L)) → Type 0
   RunsOn k opening = Runs (machine_of (t opening.value)) (λ x. x) (words_in (t opening.value) k) (AreWords k s) opening.name
 
   abbrev pub RunsTable : Opening V → ℕ → Trace (Entry C V) (Unit {0}) → List (Numbered (Seat C L)) → Type 0

@@ -17,12 +17,12 @@ use Rattle.spin_step.specs.declared.answer.Answer.{Answer}
 use Rattle.spin_step.specs.declared.place.Hold.{Hold}
 use Rattle.spin_step.specs.declared.place.Seat.{Seat}
 use Rattle.spin_step.specs.declared.place.Seat.TheVariants.{Idle, Holding}
-use Rattle.spin_session.specs.Meaning.{Meaning, Words, on_place, use_at, rests_at, seat_now, seat_after}
+use Rattle.spin_session.specs.Meaning.{Meaning, Beside, on_place, use_at, rests_at, seat_now, seat_after}
 use Rattle.spin_session.specs.Turns.{TurnTold, PeekTold, IsAt, Quiet}
 use Rattle.spin_step.specs.declared.table.Operation.{Operation}
 use Rattle.spin_step.specs.declared.table.Operation.TheVariants as op
 
-module _ {X V E S : Type 0} (k : Words S) (holds : ℕ → Trace E S → List V → Type 0) (ways : Ways X V (Trace E S)) (view : Option V) (shown : Option X) where
+module _ {X V E S : Type 0} (k : Beside S) (holds : ℕ → Trace E S → List V → Type 0) (ways : Ways X V (Trace E S)) (view : Option V) (shown : Option X) where
   -- a store tells as if it had found 0
   abbrev pub Operates : ℕ → Operation → (List E → List E → ℕ → V → Type 0) → Type 0
   Operates zero op.Load told = Traces holds ways view shown (λ n. n) told
@@ -43,7 +43,7 @@ pub record SameSteps {W V C L A : Type 0} (r t : Table W V C L A) : Type 0 where
   pub goes : (c : C) (l : L) (h : Option Hold) (n : ℕ) → next_of r c l h n ≡ next_of t c l h n
 
 -- what generic code knows of a rule whose cell runs this table; its words open with the number `start` of the cell's opening
-pub record Executes {W V C L S : Type 0} (k : Words S) (t : ℕ → V → Table W V C L (Answer V)) (s : Meaning C L)
+pub record Executes {W V C L S : Type 0} (k : Beside S) (t : ℕ → V → Table W V C L (Answer V)) (s : Meaning C L)
     (holds : Opening V → ℕ → Trace (Entry C V) S → List (Numbered (Seat C L)) → Type 0)
     (ways : Opening V → Ways V (Numbered (Seat C L)) (Trace (Entry C V) S)) : Type 0 where
   pub alike : (value : V) (start : ℕ) → SameSteps (t 0 value) (t start value)

@@ -20,7 +20,7 @@ use Rattle.spin_core.specs.Spots as spots
 use Rattle.spin_core.specs.Spots.{Stepped, HasCalled, IsIn}
 use Rattle.spin_core.specs.Values.{IsLast}
 use Rattle.spin_core.specs.declared.tie.Opening.{Opening}
-use Rattle.spin_session.specs.Meaning.{Meaning, Words, Peeks, FindsAt, use_at, rests_at, seat_now, seat_after, words_of, model_at}
+use Rattle.spin_session.specs.Meaning.{Meaning, Beside, Peeks, FindsAt, use_at, rests_at, seat_now, seat_after, words_of, model_at}
 use Rattle.spin_session.specs.declared.session.Session.{Session}
 
 abbrev pub outcome_of : {L V : Type 0} → Next L (Answer V) → Ending V
@@ -67,7 +67,7 @@ module _ {W V C L : Type 0} (t : Table W V C L (Answer V)) (s : Meaning C L) whe
   turn_by false (Some c) view = turn_from c (seat_now view)
 
   -- a load at place 1 that is no step
-  abbrev pub peeks : {S : Type 0} → Words S → Seat C L → Says
+  abbrev pub peeks : {S : Type 0} → Beside S → Seat C L → Says
   peeks k seat own outs n v = ((v ≡ seat) × Peeks k s seat n) × (own ≡ []) × (outs ≡ [])
 
   abbrev pub Told : Says → Option (Numbered (Seat C L)) → List (Entry C V) → List (Entry C V) → ℕ → Numbered (Seat C L) → Type 0
@@ -89,7 +89,7 @@ module _ {W V C L : Type 0} (t : V → Table W V C L (Answer V)) where
   abbrev pub TurnTold : Meaning C L → Bool → Option C → Opening V → Option (Numbered (Seat C L)) → List (Entry C V) → List (Entry C V) → ℕ → Numbered (Seat C L) → Type 0
   TurnTold s gives c key before = Told (t key.value) s (turn_by (t key.value) s gives c (what before)) before
 
-  abbrev pub PeekTold : {S : Type 0} → Words S → Meaning C L → Opening V → Option (Numbered (Seat C L)) → List (Entry C V) → List (Entry C V) → ℕ → Numbered (Seat C L) → Type 0
+  abbrev pub PeekTold : {S : Type 0} → Beside S → Meaning C L → Opening V → Option (Numbered (Seat C L)) → List (Entry C V) → List (Entry C V) → ℕ → Numbered (Seat C L) → Type 0
   PeekTold k s key before = Told (t key.value) s (peeks (t key.value) s k (seat_now (what before))) before
 
   abbrev pub IsAt : C → L → Option Hold → Opening V → Option (Seat C L) → Type 0
@@ -145,10 +145,6 @@ module _ {W V C L : Type 0} (t : V → Table W V C L (Answer V)) (s : Meaning C 
   -- a step of this call at this point may find this number
   abbrev pub MayFind : C → L → Option Hold → ℕ → Opening V → Type 0
   MayFind c l h n key = FindsAt s ((t key.value).word l) n × IsReached c l h key
-
-  -- after each answer of the call, its party holds the same as before
-  abbrev pub LeavesHold : C → Option Hold → Opening V → Type 0
-  LeavesHold c h key = (l : L) (n : ℕ) (b : Answer V) (k : Option Hold) → IsReached c l h key → next_of (t key.value) c l h n ≡ Answers b k → k ≡ h
 
   -- so the party has been answered, by a step that found this number, and holds `after`
   abbrev pub Ended : C → Option Hold → Answer (Unit {0}) → Option Hold → Spot V C L → Spot V C L → Type 0

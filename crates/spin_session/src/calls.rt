@@ -13,7 +13,7 @@ ghost use Rattle.spin_step.specs.declared.answer.Answer.TheVariants.{Granted, Re
 ghost use Rattle.spin_step.specs.declared.place.Hold.{Hold as AHold};
 ghost use Rattle.spin_session.specs.Meaning.{Peeks, seat_after, use_at, model_at};
 ghost use Rattle.spin_session.specs.Operating.{Operates};
-ghost use Rattle.spin_session.specs.Turns.{TurnTold, SeesLast, Frees, IsAt, Knows, Quiet, StaysQuiet, Stands, MayBegin, Ended, Comes, GoesBy, GoesOn, Waits, Under, IsAnsweredBy, IsAnswered, IsAnsweredAtOnce, IsTry, IsLook, LeavesHold, Tells, Calls, Spot, spot, is_granted};
+ghost use Rattle.spin_session.specs.Turns.{TurnTold, SeesLast, Frees, IsAt, Knows, Quiet, StaysQuiet, Stands, MayBegin, Ended, Comes, GoesBy, GoesOn, Waits, Under, IsAnsweredBy, IsAnswered, IsAnsweredAtOnce, IsTry, IsLook, Tells, Calls, Spot, spot, is_granted};
 
 use crate::second::Word;
 use crate::session::Session;
@@ -282,27 +282,6 @@ pub fn ask<'a, T, P: Runs<T>>(
         Next::Answers(answer, _) => (answer, session),
         Next::Continue(_) => unreachable!(),
     }
-}
-
-/// Makes a call of at most three steps, which leaves to the party what it holds.
-///
-/// # Contract
-/// The party has made exactly this call, with the returned answer.
-#[inline(always)]
-pub fn look<'a, T, P: Runs<T>>(
-    session: SessionOf<'a, T, P>,
-    call: P::Call,
-    holds: Option<Hold>,
-) -> (Answer<()>, SessionOf<'a, T, P>)
-    requires stands { Stands holds session }
-    requires may { MayBegin (P.Table.table (P.its session.permit.key.start)) P.meaning call holds session.permit.key }
-    requires leaves { LeavesHold (P.Table.table (P.its session.permit.key.start)) P.meaning call holds session.permit.key }
-    requires once { IsAnswered (P.Table.table (P.its session.permit.key.start)) call holds session.permit.key }
-    ensures stands { Stands holds result.1 }
-    ensures calls { Calls (P.Table.table (P.its session.entry.permit.key.start)) call result.0 (spot session.entry) (spot result.1) }
-{
-    let (answer, _, session, _) = in_three(session, call, holds);
-    (answer, session)
 }
 
 /// Returns the permit of a party that writes the value, and what the party knows.

@@ -2,7 +2,7 @@
 ghost use Rattle.std.specs.Prelude.{◌≡◌};
 ghost use Rattle.spin_core.specs.Cell.{Moved, Keeps};
 ghost use Rattle.spin_core.specs.Traced.{Found, MayKnow, Named, TracesTo, Watches};
-ghost use Rattle.spin_session.specs.Meaning.{Words, just_one, with_second, on_place};
+ghost use Rattle.spin_session.specs.Meaning.{Beside, just_one, with_second, on_place};
 
 use spin_core::cell::{Permit, Play, Rule};
 use spin_core::trace::{Trace, Watch};
@@ -12,7 +12,7 @@ use spin_core::trace::{Trace, Watch};
 /// # Contract
 /// `words` says which number is at place 1. A cell of one word has its first word there too.
 pub trait Word: Sized {
-    ghost words: { Words Self };
+    ghost words: { Beside Self };
 
     /// Loads the word at place 1.
     fn load<'a, T, V, E, P: Rule<T, V, Second = Trace<E, Self>>, M: Play<P::Key, V, E>>(

@@ -7,7 +7,8 @@ use Rattle.spin_core.specs.Run.{IsPlayed}
 use Rattle.spin_step.specs.declared.place.Hold.TheVariants.{Ticket}
 use Rattle.spin_step.specs.declared.place.Seat.TheVariants.{Holding}
 use Rattle.spin_step.specs.Schedules.{after, at_first}
-use Rattle.spin_ticket.specs.Queue.{Key, Made, model}
+use Rattle.spin_core.specs.declared.tie.Opening.{Opening}
+use Rattle.spin_ticket.specs.Queue.{Made, model}
 use Rattle.spin_world_core.specs.Runs.{opening}
 use Rattle.spin_world_core.specs.Users.{seen_after}
 use Rattle.spin_world.specs.Turns.{tickets_gone}
@@ -15,7 +16,7 @@ use Rattle.spin_world.specs.Turns.{tickets_gone}
 -- A party knew the history `old`. After that it has entered with a ticket. Now it knows the history `new` and has
 -- this view. Take any moment before it entered. From that moment until it entered, t - s tickets left the queue. Here
 -- t is the number of its ticket, and s is the number served at that moment.
-pub record EntersInTurn {X T : Type 0} (key : Key T) (view : Option (Numbered X)) (old new : List (Made T)) : Type 0 where
+pub record EntersInTurn {X T : Type 0} (key : Opening T) (view : Option (Numbered X)) (old new : List (Made T)) : Type 0 where
   pub party : ℕ
   pub is_number : IsNumber party view
   -- `new` is the history of a world with this many parties, and none of its moves is skipped

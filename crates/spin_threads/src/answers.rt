@@ -7,6 +7,7 @@
 //! that answered the call. The test `is_held` says that a party holds the lock, or is in its queue. [`crate::uses`] has
 //! callers.
 ghost use Rattle.std.specs.Prelude.{◌≡◌, ◌⊎◌, ◌<◌, ◌≤◌, ℕ, Bool, true, false, length};
+ghost use Rattle.spin_core.specs.declared.tie.Opening.{Opening};
 ghost use Rattle.spin_fair.specs.Fair as fair_mutex;
 ghost use Rattle.spin_fair.specs.declared.fair.rule.View.{View as FairMutexView};
 ghost use Rattle.spin_flag.specs.Flag as spin_mutex;
@@ -30,7 +31,7 @@ ghost use Rattle.spin_step_more.specs.Starvers.{most_starvers};
 ghost use Rattle.spin_step_more.specs.declared.fair_calls.FairCall.TheVariants as fair;
 ghost use Rattle.spin_step_more.specs.declared.rw_calls.RwCall.TheVariants as rw;
 ghost use Rattle.spin_ticket.specs.Queue as ticket_mutex;
-ghost use Rattle.spin_ticket.specs.declared.ticket.rule.View.{View as TicketMutexView};
+ghost use Rattle.spin_ticket.specs.Queue.{View as TicketMutexView};
 ghost use Rattle.spin_threads.specs.Moments.{AtAMoment, Was, Found};
 ghost use Rattle.spin_threads.specs.Onces.{FoundOnce, GaveOnce, has_value};
 
@@ -56,7 +57,7 @@ pub fn a_look_at_a_spin_mutex_was_so_at_a_moment<T>()
 /// # Contract
 /// `Found`: at a moment of the call the plain lock passed the test `is_held`, or no next number was left (`is_left`).
 pub fn a_refused_try_found_the_ticket_mutex_held_or_used_up<T>()
-    ensures { (key : ticket_mutex.Key T) → Found (ticket_mutex.model key) TicketMutexView ticket.TryLock Refused (λ s.
+    ensures { (key : Opening T) → Found (ticket_mutex.model key) TicketMutexView ticket.TryLock Refused (λ s.
         (is_held s ≡ true) ⊎ (is_left s.next ≡ false)) }
 {}
 
@@ -66,7 +67,7 @@ pub fn a_refused_try_found_the_ticket_mutex_held_or_used_up<T>()
 /// # Contract
 /// `Found`: at a moment of the call the test `is_held` of the plain lock gave the same answer as the call.
 pub fn a_look_at_a_ticket_mutex_was_so_at_a_moment<T>()
-    ensures { (key : ticket_mutex.Key T) (held : Bool) →
+    ensures { (key : Opening T) (held : Bool) →
         Found (ticket_mutex.model key) TicketMutexView ticket.IsLocked (Is held) (Was is_held held) }
 {}
 

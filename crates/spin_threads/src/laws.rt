@@ -20,7 +20,7 @@ ghost use Rattle.spin_rwlock.specs.Rw as rwlock;
 ghost use Rattle.spin_rwlock.specs.declared.rwlock.rule.View.{View as RwLockView};
 ghost use Rattle.spin_seats.specs.Rule as seats;
 ghost use Rattle.spin_ticket.specs.Queue as ticket_mutex;
-ghost use Rattle.spin_ticket.specs.declared.ticket.rule.View.{View as TicketMutexView};
+ghost use Rattle.spin_ticket.specs.Queue.{View as TicketMutexView};
 ghost use Rattle.spin_threads.specs.Between.{Between};
 ghost use Rattle.spin_world.specs.Fairness.{ComesAfterStarvers};
 
@@ -40,7 +40,7 @@ pub fn between_any_two_steps_of_a_spin_mutex<T>()
 /// # Contract
 /// `Between` says this of the words and the parties of the lock's cell, after the moves in the cell's trace.
 pub fn between_any_two_steps_of_a_ticket_mutex<T>()
-    ensures { (key : ticket_mutex.Key T) (next : ℕ) (trace : Trace (ticket_mutex.Made T) ℕ) (parties : List (Numbered TicketMutexView)) → ticket_mutex.IsQueue key next trace parties → Between (ticket_mutex.model key) ticket_mutex.seat_of ticket_mutex.words_of trace.entries (next, trace.word) parties }
+    ensures { (key : Opening T) (next : ℕ) (trace : Trace (ticket_mutex.Made T) ℕ) (parties : List (Numbered TicketMutexView)) → ticket_mutex.IsQueue key next trace parties → Between (ticket_mutex.model key) ticket_mutex.seat_of ticket_mutex.words_of trace.entries (next, trace.word) parties }
 {}
 
 /// Between any two steps of the threads that use a `FairMutex`, the lock's word encodes exactly its holders and its

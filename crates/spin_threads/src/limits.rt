@@ -6,6 +6,7 @@
 //! word by others during the call may raise this limit. The exchanges that the call repeats failed at most as often as
 //! others changed that word (`KeepsLimits`, `IsWithinLimit`). No limit bounds the looks of a call that waits.
 ghost use Rattle.std.specs.Prelude.{ℕ, Option, List};
+ghost use Rattle.spin_core.specs.declared.tie.Opening.{Opening};
 ghost use Rattle.spin_core.specs.Own.{Numbered};
 ghost use Rattle.spin_core.specs.Passes.{IsCall, Made};
 ghost use Rattle.spin_fair.specs.Fair as fair_mutex;
@@ -19,7 +20,7 @@ ghost use Rattle.spin_rwlock.specs.Rw as rwlock;
 ghost use Rattle.spin_rwlock.specs.declared.rwlock.rule.View.{View as RwLockView};
 ghost use Rattle.spin_seats.specs.Rule as seats;
 ghost use Rattle.spin_ticket.specs.Queue as ticket_mutex;
-ghost use Rattle.spin_ticket.specs.declared.ticket.rule.View.{View as TicketMutexView};
+ghost use Rattle.spin_ticket.specs.Queue.{View as TicketMutexView};
 ghost use Rattle.spin_threads.specs.Counts.{KeepsLimits, StepsOfCall, TakesTicketWithin, HasChanged};
 ghost use Rattle.spin_threads.specs.Turns.{EntersInTurn};
 
@@ -37,7 +38,7 @@ pub fn a_call_of_a_spin_mutex_keeps_its_limit<T>()
 /// # Contract
 /// `KeepsLimits` says that each call of a pass keeps its limit.
 pub fn a_call_of_a_ticket_mutex_keeps_its_limit<T>()
-    ensures { (key : ticket_mutex.Key T) → KeepsLimits (ticket_mutex.model key) TicketMutexView }
+    ensures { (key : Opening T) → KeepsLimits (ticket_mutex.model key) TicketMutexView }
 {}
 
 /// Of a pass of a `FairMutex`, a newcomer's try takes one step, and a starver's try at most two. `starve` takes at most
@@ -74,8 +75,8 @@ pub fn a_call_of_seats_keeps_its_limit()
 /// `StepsOfCall` says this of each step of the call but the last one, by which it acquires the lock
 /// (`TakesTicketWithin`).
 pub fn a_lock_of_a_ticket_mutex_has_its_ticket_in_time<T>()
-    ensures { (key : ticket_mutex.Key T) (before now : Option (Numbered TicketMutexView)) (old new : List (ticket_mutex.Made T)) →
-        ticket_mutex.Called key Lock Granted before old now new
+    ensures { (key : Opening T) (before now : Option (Numbered TicketMutexView)) (old new : List (ticket_mutex.Made T)) →
+        Made (ticket_mutex.model key) before old now new (IsCall Lock Granted)
         → StepsOfCall (ticket_mutex.model key) now old new (TakesTicketWithin 2 (ticket_mutex.model key).lock_kind) }
 {}
 
@@ -94,6 +95,6 @@ pub fn an_upgrade_of_a_rwlock_asks_by_its_first_step<T>()
 /// # Contract
 /// `EntersInTurn` says this by the history that the pass knows after the call.
 pub fn a_lock_of_a_ticket_mutex_enters_in_turn<T>()
-    ensures { (key : ticket_mutex.Key T) (before now : Option (Numbered TicketMutexView)) (old new : List (ticket_mutex.Made T)) →
-        ticket_mutex.Called key Lock Granted before old now new → EntersInTurn key now old new }
+    ensures { (key : Opening T) (before now : Option (Numbered TicketMutexView)) (old new : List (ticket_mutex.Made T)) →
+        Made (ticket_mutex.model key) before old now new (IsCall Lock Granted) → EntersInTurn key now old new }
 {}

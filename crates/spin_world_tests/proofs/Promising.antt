@@ -9,7 +9,7 @@ use Rattle.spin_seats.specs.Seats.{AllRead, seats, seats_word, entered}
 use Rattle.spin_seats.proofs.Taken.{open_is, enter-grants, leave-gives}
 use Rattle.spin_step.specs.declared.place.Hold.{Hold}
 use Rattle.spin_seats.specs.declared.calls.SeatsCall.{SeatsCall}
-use Rattle.spin_seats.specs.declared.calls.SeatsCall.TheVariants.{TryEnter, Enter}
+use Rattle.spin_seats.specs.declared.calls.SeatsCall.TheVariants.{TryEnter}
 use Rattle.spin_seats.specs.declared.calls.SeatsPoint.{SeatsPoint}
 use Rattle.spin_seats.specs.declared.calls.SeatsPoint.TheVariants.{Exchange}
 use Rattle.spin_step.specs.Acts.{begin_of}

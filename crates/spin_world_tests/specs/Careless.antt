@@ -1,20 +1,20 @@
 -- A lock of two seats of which three promises say too little. `enter` looks for ever, `try_enter` waits where it should
 -- be refused, and `count` answers 7.
-use Rattle.std.specs.Prelude.{ℕ, true, false, Option, List, [], ◌∷◌, Some}
+use Rattle.std.specs.Prelude.{ℕ, true, false, Option, List, [], ◌∷◌}
 use Rattle.spin_step.specs.Plain.{to_read}
 use Rattle.spin_step.specs.declared.place.Hold.{Hold}
 use Rattle.spin_step.specs.declared.stepped.Next.TheVariants.{Continue, Answers}
 use Rattle.spin_step.specs.declared.answer.Answer.{Answer}
 use Rattle.spin_step.specs.declared.answer.Answer.TheVariants.{Count}
-use Rattle.spin_step.specs.Calls.{Asked, LockKind, Said, granted, refused, counted, means, never, got, found, unlimited}
+use Rattle.spin_step.specs.Calls.{Asked, LockKind, counted, means, never, unlimited}
 use Rattle.spin_step.specs.Asks.{waits, tries, counts_readers, gives_back, is_read}
 use Rattle.spin_step.specs.Acts.{Act, load, machine_of}
 use Rattle.spin_seats.specs.Kind as kind
 use Rattle.spin_seats.specs.declared.calls.SeatsCall.{SeatsCall}
 use Rattle.spin_seats.specs.declared.calls.SeatsCall.TheVariants as call
 use Rattle.spin_seats.specs.declared.calls.SeatsPoint.{SeatsPoint}
-use Rattle.spin_seats.specs.declared.calls.SeatsPoint.TheVariants.{First, Exchange}
-use Rattle.spin_seats.specs.Table.{TableOfSeats, SeatsMachine, seats_table, act_of, asks_of, comes_by}
+use Rattle.spin_seats.specs.declared.calls.SeatsPoint.TheVariants.{First}
+use Rattle.spin_seats.specs.Table.{TableOfSeats, SeatsMachine, seats_table, act_of, comes_by}
 
 -- the call waits, and what it asks never counts as open
 abbrev pub enters_never : Asked

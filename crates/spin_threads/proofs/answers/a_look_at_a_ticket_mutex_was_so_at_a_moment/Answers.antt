@@ -7,4 +7,4 @@ use Rattle.spin_threads.proofs.answers.a_look_at_a_ticket_mutex_was_so_at_a_mome
 
 pub returns : goal.returns
 returns g c = λ key held.
-    found (ticket_facts key.0.value key.1) (λ p s. same held (is_held s)) (λ h. refl) (λ p l h seen call is. same_is (is_held seen.plain) held is)
+    found (ticket_facts key.value key.start) (λ p s. same held (is_held s)) (λ h. refl) (λ p l h seen call is. same_is (is_held seen.plain) held is)

@@ -11,4 +11,4 @@ kept_out s p closed = grind (arith, closed)
 
 pub returns : goal.returns
 returns g c = λ key.
-    found (ticket_facts key.0.value key.1) (λ p s. not (is_open_to s p to_take_and_enter)) (λ h. refl) (λ p l h seen call closed. kept_out seen.plain p closed)
+    found (ticket_facts key.value key.start) (λ p s. not (is_open_to s p to_take_and_enter)) (λ h. refl) (λ p l h seen call closed. kept_out seen.plain p closed)

@@ -5,4 +5,4 @@ use Rattle.spin_threads.proofs.Between.{between_strong}
 use Rattle.spin_threads.proofs.laws.between_any_two_steps_of_a_ticket_mutex.Goals as goal
 
 pub returns : goal.returns
-returns g c = λ key next trace parties is. between_strong seat_of words_of (ticket_facts key.0.value key.1) refl trace.entries (next, trace.word) parties is.2
+returns g c = λ key next trace parties is. between_strong seat_of words_of (ticket_facts key.value key.start) refl trace.entries (next, trace.word) parties is.2

@@ -15,7 +15,8 @@ use Rattle.spin_step.specs.declared.ticket_calls.TicketWords.{TicketWords}
 use Rattle.spin_step.specs.Schedules.{State, placed, goes_on, moves_at, after, at_first}
 use Rattle.spin_step.specs.declared.stepped.Next.TheVariants.{Answers}
 use Rattle.spin_step.proofs.Lists.{get-set_same}
-use Rattle.spin_ticket.specs.Queue.{Key, Made, model}
+use Rattle.spin_core.specs.declared.tie.Opening.{Opening}
+use Rattle.spin_ticket.specs.Queue.{Made, model}
 use Rattle.spin_world_core.specs.Runs.{Seen, opening}
 use Rattle.spin_world_core.proofs.Reached.{state_is}
 use Rattle.spin_world.proofs.TicketOwed.{ticket_notes, ticket_facts}
@@ -30,7 +31,7 @@ ticket_of (Await t) = t
 ticket_of (TryTake n) = n
 ticket_of _ = 0
 
-module _ {T : Type 0} (key : Key T) where
+module _ {T : Type 0} (key : Opening T) where
   grants : (w : TicketWords) (v : Option T) (s : State TicketWords T TicketCall TicketPoint) (p : ℕ) (l : TicketPoint) (h : Option Hold) → (goes_on {A = Answer T} s p Lock h ((model key).step w v Lock l h).next).outcome ≡ Answered Granted None
       → ((model key).step w v Lock l h).next ≡ Answers Granted (Some (hold.Ticket (ticket_of l)))
   grants w v s p l h is = grind (arith, is)
@@ -46,9 +47,9 @@ module _ {T : Type 0} (key : Key T) where
   seat_is s p l h there granted =
       subst (λ o. slice_get (moves_at (model key) s p Step o).next.seats p ≡ Some (Holding (hold.Ticket (ticket_of l)))) (sym there) (seat_by s p l h there (subst (λ o. (moves_at (model key) s p Step o).outcome ≡ Answered Granted None) there granted))
 
-  of_call : {X : Type 0} (view : Option (Numbered X)) (old new : List (Made T)) → Call (ticket_facts key.0.value key.1) Lock Granted view old new → EntersInTurn key view old new
+  of_call : {X : Type 0} (view : Option (Numbered X)) (old new : List (Made T)) → Call (ticket_facts key.value key.start) Lock Granted view old new → EntersInTurn key view old new
   of_call view old new call =
-      let m = model key in let k = ticket_notes key.0.value key.1 in let f = ticket_facts key.0.value key.1 in let it = call.answered in let p = call.party in let n = call.parties in
+      let m = model key in let k = ticket_notes key.value key.start in let f = ticket_facts key.value key.start in let it = call.answered in let p = call.party in let n = call.parties in
       let entered : List (Made T) = it.past ++ (p, Step) ∷ [] in
       let own = seat_is it.seen.state p it.point call.held it.there it.comes in
       let state = ap (λ (z : Seen TicketWords T TicketCall TicketPoint). z.state) (one_more f (opening m n) it.past (p, Step)) in
@@ -63,8 +64,8 @@ module _ {T : Type 0} (key : Key T) where
         before = it.before;
         number = ticket_of it.point;
         holds = there;
-        turn = λ past further is. (in_turn key.0.value key.1 n past further).holds p (ticket_of it.point) (subst (λ es. slice_get (after m (at_first m n) es).seats p ≡ Some (Holding (hold.Ticket (ticket_of it.point)))) is there);
+        turn = λ past further is. (in_turn key.value key.start n past further).holds p (ticket_of it.point) (subst (λ es. slice_get (after m (at_first m n) es).seats p ≡ Some (Holding (hold.Ticket (ticket_of it.point)))) is there);
       }
 
 pub returns : goal.returns
-returns g c = λ key view now old new made. of_call key now old new (call_of (ticket_facts key.0.value key.1) Lock Granted view now old new made)
+returns g c = λ key view now old new made. of_call key now old new (call_of (ticket_facts key.value key.start) Lock Granted view now old new made)

@@ -8,4 +8,4 @@ use Rattle.spin_threads.proofs.limits.a_lock_of_a_ticket_mutex_has_its_ticket_in
 
 pub returns : goal.returns
 returns g c = λ key view now old new made.
-    steps_of_call (ticket_facts key.0.value key.1) Lock Granted view now old new (TakesTicketWithin 2 (model key).lock_kind) (λ h p step older its within. within) made
+    steps_of_call (ticket_facts key.value key.start) Lock Granted view now old new (TakesTicketWithin 2 (model key).lock_kind) (λ h p step older its within. within) made
