@@ -35,7 +35,7 @@ pub type SessionOf<'a, T, P> = Session<
 >;
 
 /// Makes a call that waits, and is always answered so. It makes its steps in rounds, and pauses between them. A round is
-/// the steps up to the first after which the call pauses (see [`Runs::pause`]), but at most three.
+/// the steps up to the first after which the call pauses (see [`Runs::hints`]), but at most three.
 ///
 /// # Contract
 /// The party has made exactly this call, with this answer, and holds `after`. Whether and when the call returns is not
@@ -446,7 +446,7 @@ fn wait<'a, T, P: Runs<T>, R: RelaxStrategy, W: Wait>(
     let mut at = point_after::<T, P>(&session, call, point, holds, found);
     let mut party = session;
     for _ in rt.forever() {
-        let hints = P::pause(call, from, at, holds, number, last);
+        let hints = P::hints(call, from, at, holds, number, last);
         if hints > 0 {
             R::bounded_pause(rt, hints);
             last = hints;
@@ -546,7 +546,7 @@ fn further<'a, T, P: Runs<T>>(
     match next {
         Next::Answers(answer, after) => (Next::Answers(answer, after), from, found, session),
         Next::Continue(to) => {
-            if P::pause(call, from, to, holds, found, 0) > 0 {
+            if P::hints(call, from, to, holds, found, 0) > 0 {
                 (Next::Continue(to), from, found, session)
             } else {
                 let (next, found, session) = step(session, call, to, holds);

@@ -51,7 +51,7 @@ pub trait Runs<T>: Rule<
     ///
     /// By default a call does not pause after a load if its next step is none. Each other pause has twice as many hints
     /// as the last one.
-    fn pause(
+    fn hints(
         call: Self::Call,
         from: Self::Point,
         to: Self::Point,

@@ -63,7 +63,7 @@ impl<T> Runs<T> for TicketRule {
 
     // The thread that is next gives one hint. While others wait before it, a thread looks seldom, so that it does not
     // disturb them. A thread that found no ticket left looks seldom too. An exchange that failed is retried at once.
-    fn pause(
+    fn hints(
         call: TicketCall,
         from: TicketPoint,
         to: TicketPoint,
