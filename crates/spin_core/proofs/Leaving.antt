@@ -2,21 +2,18 @@
 use Rattle.std.proofs.Common.{◌≡◌, ℕ, suc, pred, cond, nat_lt, ◌+◌, ◌-◌, ◌==◌, not, ◌&&◌, List, [], ◌∷◌, ◌++◌, map, length, filter, Some, refl, sym, ap, ◌∙◌, arith}
 use Rattle.std.proofs.lemmas.List.{length-map}
 use Rattle.std.proofs.lemmas.List.Folds.{fold-map}
-use Rattle.spin_step.specs.Plain.{Plain, Kind, Holder, holder, Ticket, ticket, flag_word, fair_word, serving_word}
+use Rattle.spin_step.specs.Plain.{Plain, Kind, Holder, Ticket, flag_word, fair_word, serving_word}
 use Rattle.spin_step.specs.Parties.{Entries, entries, no_entries, none_entered}
 use Rattle.spin_step.specs.Tickets.{numbered_from}
 use Rattle.spin_step.proofs.Exclusive.{exclusive-like}
 use Rattle.spin_step.proofs.Sums.{sum_kinds}
 use Rattle.spin_core.specs.Cell.{Use, off, Rests}
-use Rattle.spin_core.specs.Views.{Part, entries_of, Knows, part_at, IsLockOf, Encodes, no_word}
+use Rattle.spin_core.specs.Views.{Part, entries_of, Knows, part_at, IsLockOf, Encodes, no_word, up, holder_up, ticket_up, moved_up, NamesNobody}
 use Rattle.spin_core.proofs.Runs.{get_seam}
 use Rattle.spin_core.proofs.Views.{part-there}
 use Rattle.spin_step.specs.Orders.{IsInOrder}
 
--- the new place of a party behind place k; `back`: the place that it had
-abbrev up : ℕ → ℕ → ℕ
-up k p = cond (nat_lt k p) (pred p) p
-
+-- the place that a party had which now has this one
 abbrev back : ℕ → ℕ → ℕ
 back k q = cond (nat_lt q k) q (suc q)
 
@@ -34,16 +31,6 @@ module _ {X : Type 0} (owner : X → ℕ) (rename : X → X) (k q : ℕ) (same :
   renames : (xs : List X) → of k xs ≡ [] → of q (map rename xs) ≡ map rename (of (back k q) xs)
   renames [] none = refl
   renames (x ∷ xs) none = grind (arith, same x, same_place k (owner x) q, renames xs)
-
-abbrev holder_up : ℕ → Holder → Holder
-holder_up k h = holder (up k h.party) h.kind
-
-abbrev ticket_up : ℕ → Ticket → Ticket
-ticket_up k t = ticket (up k t.party) t.number t.entered
-
--- the lock after all behind place k have moved up
-abbrev pub moved_up : ℕ → Plain → Plain
-moved_up k s = record s { holders = map (holder_up k) s.holders; tickets = map (ticket_up k) s.tickets; starvers = map (up k) s.starvers }
 
 abbrev entries_up : ℕ → Entries → Entries
 entries_up k e = record { holders = map (holder_up k) e.holders; tickets = map (ticket_up k) e.tickets; starvers = map (up k) e.starvers }
@@ -69,10 +56,6 @@ none_entered-up k (t ∷ ts) = ap (λ b. not t.entered && b) (none_entered-up k 
 numbered-up : (k n : ℕ) (ts : List Ticket) → numbered_from n ts → numbered_from n (map (ticket_up k) ts)
 numbered-up k n [] numbers = tt
 numbered-up k n (t ∷ ts) numbers = (numbers.0, numbered-up k (suc n) ts numbers.1)
-
--- a word does not depend on the parties' names
-abbrev pub NamesNobody : {S : Type 0} → (Plain → S) → Type 0
-NamesNobody word = (k : ℕ) (s : Plain) → word (moved_up k s) ≡ word s
 
 pub flag_word-up : NamesNobody flag_word
 flag_word-up k s = length-map s.holders (holder_up k)

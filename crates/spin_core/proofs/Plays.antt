@@ -8,9 +8,9 @@ use Rattle.spin_step.specs.Plain.{Plain, Change, Kind, Ask, gets, releases, appl
 use Rattle.spin_step.specs.Steps.{Decides}
 use Rattle.spin_step.specs.Parties.{party_of, apply_some, IsOpenStep, entries_after, no_entries}
 use Rattle.spin_core.specs.Cell.{Use, Way, Ways, no_fact, Limits, Going, Meets, OnWord, by_first, AllowsTo, Allows, Rests, after, readers_of, writers_of, off, words}
-use Rattle.spin_core.specs.Views.{Part, idle as nothing, holds, entries_of, Knows, HasPart, IsLockOf, Encodes}
+use Rattle.spin_core.specs.Views.{Part, idle as nothing, holds, entries_of, Knows, HasPart, IsLockOf, Encodes, NamesNobody}
 use Rattle.spin_step.specs.Orders.{IsInOrder}
-use Rattle.spin_core.proofs.Leaving.{NamesNobody, leaves}
+use Rattle.spin_core.proofs.Leaving.{leaves}
 use Rattle.spin_step.proofs.Holders.{is_holder-from_entries}
 use Rattle.spin_step.proofs.Sums.{sum_kinds, sum-less}
 use Rattle.spin_step.proofs.InOrder.{in_order-kept, in_order-fresh, cap-kept}

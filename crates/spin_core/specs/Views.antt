@@ -1,7 +1,7 @@
 -- The plain lock of a cell's parties. A party's view says what it is in the plain lock.
-use Rattle.std.specs.Prelude.{◌≡◌, ℕ, ◌≤◌, Bool, true, List, [], ◌∷◌, if◌then◌else◌, slice_get}
+use Rattle.std.specs.Prelude.{◌≡◌, ℕ, pred, cond, nat_lt, ◌≤◌, Bool, true, List, [], ◌∷◌, map, if◌then◌else◌, slice_get}
 use Rattle.std.specs.Option.{unwrap_or, option_map}
-use Rattle.spin_step.specs.Plain.{Plain, Kind, writing, is_reader, holder, ticket, serving_word}
+use Rattle.spin_step.specs.Plain.{Plain, Kind, writing, is_reader, Holder, holder, Ticket, ticket, serving_word}
 use Rattle.spin_step.specs.Parties.{Entries, entries, no_entries}
 use Rattle.spin_step.specs.Orders.{IsInOrder}
 use Rattle.spin_core.specs.Cell.{Use, off, reads, writes}
@@ -54,6 +54,24 @@ module _ {V : Type 0} (part : V → Part) where
   -- the words are those of a plain lock in order (`IsInOrder`), with these parties and this cap
   abbrev pub Encodes : {S : Type 0} → ℕ → (Plain → ℕ) → (Plain → S) → ℕ → S → List V → Type 0
   Encodes cap first second n m vs = (s : Plain) × (s.cap ≡ cap) × IsInOrder s × IsLockOf vs s × (n ≡ first s) × (m ≡ second s)
+
+-- the new place of a party, once the party at place k has left
+abbrev pub up : ℕ → ℕ → ℕ
+up k p = cond (nat_lt k p) (pred p) p
+
+abbrev pub holder_up : ℕ → Holder → Holder
+holder_up k h = holder (up k h.party) h.kind
+
+abbrev pub ticket_up : ℕ → Ticket → Ticket
+ticket_up k t = ticket (up k t.party) t.number t.entered
+
+-- the lock after all behind place k have moved up
+abbrev pub moved_up : ℕ → Plain → Plain
+moved_up k s = record s { holders = map (holder_up k) s.holders; tickets = map (ticket_up k) s.tickets; starvers = map (up k) s.starvers }
+
+-- a word does not depend on the places of the parties
+abbrev pub NamesNobody : {S : Type 0} → (Plain → S) → Type 0
+NamesNobody word = (k : ℕ) (s : Plain) → word (moved_up k s) ≡ word s
 
 -- for a lock of one word: it has no second word
 abbrev pub no_word : Plain → Unit {0}

@@ -10,10 +10,10 @@ use Rattle.spin_core.specs.Cell.{Ways, lends, no_fact, writes, Meets, Allows, Re
 use Rattle.spin_core.specs.Own.{Numbered, what}
 use Rattle.spin_core.specs.Run.{AreMoves, by_first, outcomes, alone, of_one, sits as seat_at}
 use Rattle.spin_core.specs.Traced.{Traces, Watches}
-use Rattle.spin_core.specs.Views.{holds, entries_of, part_at, idle, no_word}
+use Rattle.spin_core.specs.Views.{holds, entries_of, part_at, idle, no_word, NamesNobody}
 use Rattle.spin_core.specs.declared.trace.Trace.{Trace}
 use Rattle.spin_core.specs.declared.trace.Watch.{Watch}
-use Rattle.spin_core.proofs.Leaving.{sum-up, NamesNobody, no_word-up}
+use Rattle.spin_core.proofs.Leaving.{sum-up, no_word-up}
 use Rattle.spin_core.proofs.Owners.{OfReaders, readers_or_writer}
 use Rattle.spin_core.proofs.Plays as plays
 use Rattle.spin_core.proofs.Plays.{Lock, Grants, Weighs, less_by, ways, looks_at, exchanges_at, leaves_at, begins}

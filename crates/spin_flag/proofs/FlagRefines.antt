@@ -22,10 +22,10 @@ use Rattle.spin_core.specs.declared.trace.Trace.{Trace}
 use Rattle.spin_core.proofs.Leaving.{flag_word-up}
 use Rattle.spin_core.proofs.Owners.{OfHolders, one_holder}
 use Rattle.spin_core.proofs.Views.{release-own}
-use Rattle.spin_session.specs.Meaning.{part_of, use_at, Sound, ComesFrom, Refines, RunsTable, ways_of}
+use Rattle.spin_session.specs.Meaning.{part_of, use_at, Sound, ComesFrom, Refines, ways_of}
 use Rattle.spin_session.proofs.Refining as session
 use Rattle.spin_session.specs.Turns.{IsAnsweredBy, IsTry}
-use Rattle.spin_flag.specs.Flag.{flag_meaning, Done, View}
+use Rattle.spin_flag.specs.Flag.{flag_meaning, flag_tables, Done, IsFlag, View}
 
 kind : (v : Seat FlagCall FlagPoint) → OfHolders (part_of flag_meaning) v
 kind (Holding Write) = (refl, λ p. refl)
@@ -76,7 +76,7 @@ module _ {T : Type 0} (value : T) where
     sound = sound;
   }
 
-pub starts : {T : Type 0} (opening : Opening T) (trace : Trace (Done T) (Unit {0})) → trace.name ≡ opening.name → trace.entries ≡ [] → Meets (RunsTable flag_table flag_meaning opening) (ways_of flag_meaning opening) 0 trace []
+pub starts : {T : Type 0} (opening : Opening T) (trace : Trace (Done T) (Unit {0})) → trace.name ≡ opening.name → trace.entries ≡ [] → Meets (IsFlag opening) (ways_of flag_meaning opening) 0 trace []
 starts opening trace named empty = session.starts (flag_table opening.value) flag_meaning (flag_refines opening.value) opening trace named empty
 
 pub never_reads : (v : View) → use_at flag_meaning v ≡ reads → ⊥
@@ -90,10 +90,10 @@ holding_of (Holding Write) e = refl
 holding_of v e = grind (arith, e)
 
 -- how the calls that acquire the lock are answered
-pub lock_answers : {T : Type 0} (key : Opening T) → IsAnsweredBy flag_table Lock None Granted (Some Write) key
+pub lock_answers : {T : Type 0} (key : Opening T) → IsAnsweredBy flag_tables Lock None Granted (Some Write) key
 lock_answers key First n b k is = grind (arith, is)
 lock_answers key Second n b k is = grind (arith, is)
 
-pub try_answers : {T : Type 0} (key : Opening T) → IsTry flag_table TryLock None (Some Write) key
+pub try_answers : {T : Type 0} (key : Opening T) → IsTry flag_tables TryLock None (Some Write) key
 try_answers key First n b k is = grind (arith, is)
 try_answers key Second n b k is = grind (arith, is)

@@ -1,7 +1,9 @@
 -- What the word and the seats of a `SpinMutex` are in the plain lock, and what holds of its cell between any two steps.
 use Rattle.std.specs.Prelude.{ℕ, Bool, false, Option, Some, None, List}
 use Rattle.spin_step.specs.Plain.{flag_word, writing}
+use Rattle.spin_step.specs.Acts.{Table}
 use Rattle.spin_step.specs.Schedules.{Entry}
+use Rattle.spin_step.specs.declared.answer.Answer.{Answer}
 use Rattle.spin_step.specs.FlagCalls.{flag_table}
 use Rattle.spin_step.specs.declared.place.Hold.{Hold}
 use Rattle.spin_step.specs.declared.place.Hold.TheVariants.{Write}
@@ -42,9 +44,13 @@ words_of = session.words_of (flag_table {V = Unit {0}} tt)
 
 -- For a lock of values of type T
 
+-- the flag's table for each number with which the word opens; it opens with 0
+abbrev pub flag_tables : {T : Type 0} → ℕ → T → Table Bool T FlagCall FlagPoint (Answer T)
+flag_tables start = flag_table
+
 abbrev pub Done : Type 0 → Type 0
 Done T = Entry FlagCall T
 
 -- what holds of the first word, the trace and the parties of a lock with this opening
 abbrev pub IsFlag : {T : Type 0} → Opening T → ℕ → Trace (Done T) (Unit {0}) → List (Numbered View) → Type 0
-IsFlag = RunsTable flag_table flag_meaning
+IsFlag = RunsTable flag_tables flag_meaning

@@ -14,7 +14,7 @@ use spin_core::relax::{RelaxStrategy, Spin, Strategy};
 use spin_core::texts::write_lock;
 use spin_core::tie::Opening;
 use spin_core::trace::Trace;
-use spin_session::calls::{SessionOf, begin, go_on, writer};
+use spin_session::calls::{SessionOf, begin, go_on, guarded};
 use spin_session::session::Session;
 use spin_step::{Answer, FlagCall, Hold};
 use std::fmt;
@@ -99,7 +99,7 @@ impl<T, R> SpinMutex<T, R> {
     /// # Contract
     /// The lock's history begins with this value (`opens`). The call returns.
     pub const fn new(value: T) -> Self
-        ensures opens { OpensWith value result }
+        ensures opens { OpensWith value (opening result) }
     {
         let trace = Trace::new(());
         let opening = Opening::of(&trace, &value);
@@ -157,8 +157,8 @@ impl<T, R: RelaxStrategy> SpinMutex<T, R> {
                 go_on(on, call, None, Answer::Granted, write, by, rt)
             }
         };
-        let (permit, _) = writer(session, Hold::Write);
-        Guard::new(permit)
+        let (guard, _) = guarded(session);
+        guard
     }
 }
 

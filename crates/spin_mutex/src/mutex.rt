@@ -96,7 +96,7 @@ impl<T, R> Mutex<T, R> {
     /// # Contract
     /// The lock's history begins with this value (`opens`). The call returns.
     pub const fn new(value: T) -> Self
-        ensures opens { OpensWith value result.inner }
+        ensures opens { OpensWith value (opening result.inner) }
     {
         Self::over(TicketMutex::new(value))
     }

@@ -20,7 +20,7 @@ use Rattle.spin_step.specs.Acts.{is_section}
 use Rattle.spin_session.proofs.Word.{word_is}
 use Rattle.spin_session.proofs.Readers.{OnlyReads, all_read, as_many_hold, readers_fit}
 use Rattle.spin_seats.specs.Meaning.{seats_meaning}
-use Rattle.spin_seats.specs.Rule.{IsWord, View, part, seated, table_of}
+use Rattle.spin_seats.specs.Rule.{IsWord, View, part, seated, seats_tables}
 use Rattle.spin_seats.specs.Seats.{seats, seats_word, entered}
 use Rattle.spin_seats.specs.Table.{seats_table, act_of}
 use Rattle.spin_seats.specs.declared.calls.SeatsCall.{SeatsCall}
@@ -81,11 +81,11 @@ module _ (n : ℕ) where
   }
 
   -- how the calls that take a seat are answered
-  pub enter_answers : (key : Opening (Unit {0})) → IsAnsweredBy (table_of n) Enter None Granted (Some hold.Read) key
+  pub enter_answers : (key : Opening (Unit {0})) → IsAnsweredBy (seats_tables n) Enter None Granted (Some hold.Read) key
   enter_answers key First w b k is = grind (arith, is)
   enter_answers key (Exchange j) w b k is = grind (arith, is)
 
-  pub try_answers : (key : Opening (Unit {0})) → IsTry (table_of n) TryEnter None (Some hold.Read) key
+  pub try_answers : (key : Opening (Unit {0})) → IsTry (seats_tables n) TryEnter None (Some hold.Read) key
   try_answers key First w b k is = grind (arith, is)
   try_answers key (Exchange j) w b k is = grind (arith, is)
 

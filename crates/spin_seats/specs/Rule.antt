@@ -21,8 +21,9 @@ View = Seat SeatsCall SeatsPoint
 abbrev pub Done : Type 0
 Done = Entry SeatsCall (Unit {0})
 
-abbrev pub table_of : ℕ → Unit {0} → TableOfSeats
-table_of n value = seats_table n
+-- the table of a lock of n seats for each number with which the word opens; it opens with 0
+abbrev pub seats_tables : ℕ → ℕ → Unit {0} → TableOfSeats
+seats_tables n start value = seats_table n
 
 abbrev pub model : ℕ → SeatsMachine
 model = seats_machine
@@ -39,7 +40,7 @@ abbrev pub IsWord : ℕ → ℕ → Unit {0} → List View → Type 0
 IsWord n = session.AreWords session.just_one (seats_meaning n)
 
 abbrev pub IsSeats : ℕ → Opening (Unit {0}) → ℕ → Trace Done (Unit {0}) → List (Numbered View) → Type 0
-IsSeats n = session.RunsTable (table_of n) (seats_meaning n)
+IsSeats n = session.RunsTable (seats_tables n) (seats_meaning n)
 
 -- how many of the parties have a seat
 abbrev pub seated : List View → ℕ

@@ -2,7 +2,7 @@
 ghost use Rattle.spin_core.specs.Values.{untold};
 ghost use Rattle.spin_session.specs.Meaning.{ways_of};
 ghost use Rattle.spin_seats.specs.Meaning.{seats_meaning};
-ghost use Rattle.spin_seats.specs.Rule.{IsSeats};
+ghost use Rattle.spin_seats.specs.Rule.{IsSeats, seats_tables};
 
 use crate::calls::{SeatsCall, SeatsPoint, SeatsTable};
 use spin_core::cell::Rule;
@@ -41,7 +41,7 @@ impl<const N: usize> Runs<()> for SeatsRule<N> {
 
     type Table = SeatsTable;
 
-    ghost its = { λ first. record { seats = N } };
+    ghost tables = { seats_tables N };
 
     ghost meaning = { seats_meaning N };
 

@@ -4,29 +4,29 @@ use Rattle.spin_core.specs.Cell.{writes, use_of}
 use Rattle.spin_core.proofs.Ties as tie
 use Rattle.spin_step.specs.Acts.{Table}
 use Rattle.spin_step.specs.declared.answer.Answer.{Answer}
-use Rattle.spin_session.specs.Meaning.{Meaning, Beside, just_one, use_at, use_of_party, Refines, RefinesOn, RunsOn, RunsTable, ways_of}
+use Rattle.spin_session.specs.Meaning.{Meaning, Beside, just_one, table_at, use_at, use_of_party, Refines, RefinesOn, RunsOn, RunsTable, ways_of}
 use Rattle.spin_session.specs.Operating.{Executes, SameSteps}
 use Rattle.spin_session.proofs.Refining as refining
 use Rattle.spin_session.proofs.Seen.{seen_last, left_last}
 
 pub executes_on : {W V C L S : Type 0} (k : Beside S) (t : ℕ → V → Table W V C L (Answer V)) (s : Meaning C L) → ((value : V) (start : ℕ) → SameSteps (t 0 value) (t start value)) → ((start : ℕ) (value : V) → RefinesOn (t start value) k s)
-    → Executes k t s (λ key. RunsOn (t key.start) s k key) (ways_of s)
+    → Executes k t s (RunsOn t s k) (ways_of s)
 executes_on k t s alike d = record {
   alike = alike;
   uses = λ key view. sym (tie.same_use (use_at s) view);
   named = λ key name same n x vs meets. meets.0.0 ∙ same;
-  turns = λ key view shown c l h o is at rests quiet. refining.operates k (t key.start key.value) s (d key.start key.value) key view shown c l h o is at rests quiet;
-  gives = λ key view x c h o is at may able held. refining.operates_giving k (t key.start key.value) s (d key.start key.value) key view x c h at may able held o is;
-  peeks = λ key view shown. refining.keeps_peek k (t key.start key.value) s (d key.start key.value) key view shown;
+  turns = λ key view shown c l h o is at rests quiet. refining.operates k (table_at t key) s (d key.start key.value) key view shown c l h o is at rests quiet;
+  gives = λ key view x c h o is at may able held. refining.operates_giving k (table_at t key) s (d key.start key.value) key view x c h at may able held o is;
+  peeks = λ key view shown. refining.keeps_peek k (table_at t key) s (d key.start key.value) key view shown;
   lasts = λ key view view' before after seen kept known stops.
       let u = use_of (use_of_party s) view in let u' = use_of (use_of_party s) view' in
       let not : u ≡ writes → u' ≢ writes = λ e e'. stops (tie.same_use (use_at s) view ∙ e) (tie.same_use (use_at s) view' ∙ e') in
       (seen_last key seen.entries u u' before after known not kept.0, λ uses. left_last key seen.entries u u' before after known not kept.0 (λ e. uses (tie.same_use (use_at s) view ∙ e)));
-  goes = λ key view c l h n at rests. refining.rests_on k (t key.start key.value) s (d key.start key.value) key view c l h n at rests;
-  rests = λ key view out. refining.leaves k (t key.start key.value) s (d key.start key.value) key view out;
+  goes = λ key view c l h n at rests. refining.rests_on k (table_at t key) s (d key.start key.value) key view c l h n at rests;
+  rests = λ key view out. refining.leaves k (table_at t key) s (d key.start key.value) key view out;
 }
 
 -- the same for a table of one word
-pub executes : {W V C L : Type 0} (t : V → Table W V C L (Answer V)) (s : Meaning C L) → ((v : V) → Refines (t v) s) → Executes just_one (λ start. t) s (RunsTable t s) (ways_of s)
+pub executes : {W V C L : Type 0} (t : V → Table W V C L (Answer V)) (s : Meaning C L) → ((v : V) → Refines (t v) s) → Executes just_one (λ start. t) s (RunsTable (λ start. t) s) (ways_of s)
 executes t s d = executes_on just_one (λ start. t) s (λ value start. record { begins = λ c h. refl; places = λ l. refl; operations = λ c l h. refl; goes = λ c l h n. refl })
     (λ start v. refining.refines_on (t v) s (d v))

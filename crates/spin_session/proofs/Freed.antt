@@ -15,7 +15,7 @@ use Rattle.spin_step.specs.declared.answer.Answer.TheVariants.{Done}
 use Rattle.spin_step.specs.declared.place.Hold.{Hold}
 use Rattle.spin_step.specs.declared.place.Seat.{Seat}
 use Rattle.spin_step.specs.declared.place.Seat.TheVariants.{Idle, Holding}
-use Rattle.spin_session.specs.Meaning.{Meaning, use_at, model_at, words_of}
+use Rattle.spin_session.specs.Meaning.{Meaning, use_at, table_at, model_at, words_of}
 use Rattle.spin_session.specs.Turns.{Says, Told, Frees, Spot, gives_up, turn_by}
 
 -- a party that is out does not use the value
@@ -23,15 +23,15 @@ pub off_out : {C L : Type 0} (s : Meaning C L) (view : Option (Seat C L)) → Is
 off_out s None out = refl
 off_out s (Some x) out = ap (use_at s) out
 
-module _ {W V C L : Type 0} (t : V → Table W V C L (Answer V)) (s : Meaning C L) (c : C) (h : Hold) (p q : Spot V C L) (is : what p.1 ≡ Some (Holding h)) (frees : Frees t c h p.0) (named : Type 0) (n : ℕ) where
+module _ {W V C L : Type 0} (t : ℕ → V → Table W V C L (Answer V)) (s : Meaning C L) (c : C) (h : Hold) (p q : Spot V C L) (is : what p.1 ≡ Some (Holding h)) (frees : Frees t c h p.0) (named : Type 0) (n : ℕ) where
   abbrev Step : (V → Type 0) → Option (Numbered (Seat C L)) → Type 0
-  Step Q w = Moved (Watches named p.2 q.2 (Told (t p.0.value) s (gives_up (t p.0.value) s Q c (Some (Holding h))) p.1) n) w
+  Step Q w = Moved (Watches named p.2 q.2 (Told (table_at t p.0) s (gives_up (table_at t p.0) s Q c (Some (Holding h))) p.1) n) w
 
   abbrev Moves : Option (Numbered (Seat C L)) → Type 0
-  Moves w = Moved (Watches named p.2 q.2 (Told (t p.0.value) s (turn_by (t p.0.value) s true (Some c) (what p.1)) p.1) n) w
+  Moves w = Moved (Watches named p.2 q.2 (Told (table_at t p.0) s (turn_by (table_at t p.0) s true (Some c) (what p.1)) p.1) n) w
 
   as_step : (w : Option (Numbered (Seat C L))) → Moves w → Step (λ y. Unit {0}) w
-  as_step w moved = subst (λ o. Moved (Watches named p.2 q.2 (Told (t p.0.value) s (turn_by (t p.0.value) s true (Some c) o) p.1) n) w) is moved
+  as_step w moved = subst (λ o. Moved (Watches named p.2 q.2 (Told (table_at t p.0) s (turn_by (table_at t p.0) s true (Some c) o) p.1) n) w) is moved
 
   pub ends_out : (w : Option (Numbered (Seat C L))) → Moves w → IsOut Idle (what w)
   ends_out None moved = absurd moved
@@ -47,8 +47,8 @@ module _ {W V C L : Type 0} (t : V → Table W V C L (Answer V)) (s : Meaning C 
 
   pub releases : named → q.0 ≡ p.0 → mark_of p.1 ≡ length p.2.entries → (x : V) → IsLast p.0 q.2.entries x → Moves q.1 → Releases (model_at t) (λ o. o) c Done x p q
   releases is_named same knew x last moved =
-      let says : Says (t p.0.value) s = gives_up (t p.0.value) s (IsIt x) c (Some (Holding h)) in
-      let all = spots.took (model_at t) (λ z. z) (words_of (t p.0.value)) p q same knew is_named n says (λ k. Idle) (λ k. WritesSome (IsIt x) (IsCall c Done))
+      let says : Says (table_at t p.0) s = gives_up (table_at t p.0) s (IsIt x) c (Some (Holding h)) in
+      let all = spots.took (model_at t) (λ z. z) (words_of (table_at t p.0)) p q same knew is_named n says (λ k. Idle) (λ k. WritesSome (IsIt x) (IsCall c Done))
       (λ own outs k u (stays, (y, so, (rest, comes, is, are, s))). (rw (frees k) at stays, (y, so, (rest, comes, is, are, passes.whole c Done rest comes (rw (frees k) at s)))))
       (exactly q.1 (as_step q.1 moved)) in (all.0, last)
     where

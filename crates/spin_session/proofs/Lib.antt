@@ -6,3 +6,4 @@ pub mod Readers
 pub mod Word
 pub mod Seen
 pub mod Freed
+pub mod Granted

@@ -1,3 +1,4 @@
 pub mod Meaning
 pub mod Turns
 pub mod Operating
+pub mod Passes

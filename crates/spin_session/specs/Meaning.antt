@@ -19,8 +19,7 @@ use Rattle.spin_step.specs.declared.table.Operation.TheVariants as op
 use Rattle.spin_core.specs.Cell.{Use, Way, Ways, alone, lends, Limits, readers_of, writers_of, OnWord}
 use Rattle.spin_core.specs.Own.{Numbered, Runs}
 use Rattle.spin_core.specs.Values.{last}
-use Rattle.spin_core.specs.Views.{Part, idle, entries_of, Knows, HasPart, IsLockOf, Encodes, used_by}
-use Rattle.spin_core.proofs.Leaving.{NamesNobody}
+use Rattle.spin_core.specs.Views.{Part, idle, entries_of, Knows, HasPart, IsLockOf, Encodes, NamesNobody, used_by}
 use Rattle.spin_core.specs.declared.tie.Opening.{Opening}
 use Rattle.spin_core.specs.declared.trace.Trace.{Trace}
 
@@ -203,15 +202,19 @@ module _ {W V C L A : Type 0} (t : Table W V C L A) where
     pub sound : (c : C) (l : L) (h : Option Hold) (p : ℕ) (plain : Plain) (vs : List (Seat C L)) (from : Part) → ComesFrom s c l h from → plain.cap ≡ s.cap → IsInOrder plain → IsLockOf (part_of s) vs plain → s.bounds (s.word plain)
         → HasPart plain p from → SoundOn k t.memory t.words (t.word l) (λ x. (s.word x, k.of (s.second x))) s.bounds (t.act c l h) (λ next. part_of s (seat_after c h next)) p plain from
 
--- the rule of a cell that runs a table
-module _ {W V C L : Type 0} (t : V → Table W V C L (Answer V)) where
-  abbrev pub model_at : Opening V → Machine W V C L (Answer V)
-  model_at opening = machine_of (t opening.value)
+-- For the tables of a lock, by the number with which its words open and by its first value:
+module _ {W V C L : Type 0} (t : ℕ → V → Table W V C L (Answer V)) where
+  -- the table of a lock with this opening, and its model
+  abbrev pub table_at : Opening V → Table W V C L (Answer V)
+  table_at opening = t opening.start opening.value
 
-module _ {W V C L : Type 0} (t : V → Table W V C L (Answer V)) (s : Meaning C L) where
+  abbrev pub model_at : Opening V → Machine W V C L (Answer V)
+  model_at opening = machine_of (table_at opening)
+
+module _ {W V C L : Type 0} (t : ℕ → V → Table W V C L (Answer V)) (s : Meaning C L) where
   -- the rule of a cell that keeps the table's words as `k` says
   abbrev pub RunsOn : {S : Type 0} → Beside S → Opening V → ℕ → Trace (Entry C V) S → List (Numbered (Seat C L)) → Type 0
-  RunsOn k opening = Runs (machine_of (t opening.value)) (λ x. x) (words_in (t opening.value) k) (AreWords k s) opening.name
+  RunsOn k opening = Runs (model_at t opening) (λ x. x) (words_in (table_at t opening) k) (AreWords k s) opening.name
 
   abbrev pub RunsTable : Opening V → ℕ → Trace (Entry C V) (Unit {0}) → List (Numbered (Seat C L)) → Type 0
   RunsTable = RunsOn just_one

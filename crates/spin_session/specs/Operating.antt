@@ -17,7 +17,7 @@ use Rattle.spin_step.specs.declared.answer.Answer.{Answer}
 use Rattle.spin_step.specs.declared.place.Hold.{Hold}
 use Rattle.spin_step.specs.declared.place.Seat.{Seat}
 use Rattle.spin_step.specs.declared.place.Seat.TheVariants.{Idle, Holding}
-use Rattle.spin_session.specs.Meaning.{Meaning, Beside, on_place, use_at, rests_at, seat_now, seat_after}
+use Rattle.spin_session.specs.Meaning.{Meaning, Beside, table_at, on_place, use_at, rests_at, seat_now, seat_after}
 use Rattle.spin_session.specs.Turns.{TurnTold, PeekTold, IsAt, Quiet}
 use Rattle.spin_step.specs.declared.table.Operation.{Operation}
 use Rattle.spin_step.specs.declared.table.Operation.TheVariants as op
@@ -50,18 +50,18 @@ pub record Executes {W V C L S : Type 0} (k : Beside S) (t : ℕ → V → Table
   pub uses : (key : Opening V) (view : Option (Numbered (Seat C L))) → use_of (ways key).1 view ≡ use_of (use_at s) (what view)
   pub named : (key : Opening V) (name : ℕ) → key.name ≡ name → Named (holds key) (ways key) name
   pub turns : (key : Opening V) (view : Option (Numbered (Seat C L))) (shown : Option V) (c : C) (l : L) (h : Option Hold) (o : Operation)
-      → o ≡ wrapped (operation_by ((t key.start key.value).act c l h)) → IsAt (t key.start) c l h key (what view) → rests_at s (seat_now (what view)) ≡ true → Quiet s (what view)
-      → Operates k (holds key) (ways key) view shown ((t key.start key.value).word l) o (TurnTold (t key.start) s false (Some c) key view)
+      → o ≡ wrapped (operation_by ((table_at t key).act c l h)) → IsAt t c l h key (what view) → rests_at s (seat_now (what view)) ≡ true → Quiet s (what view)
+      → Operates k (holds key) (ways key) view shown ((table_at t key).word l) o (TurnTold t s false (Some c) key view)
   -- the first step of a call by a holder that writes, after which it does not
   pub gives : (key : Opening V) (view : Option (Numbered (Seat C L))) (x : V) (c : C) (h : Hold) (o : Operation)
-      → o ≡ wrapped (operation_by ((t key.start key.value).act c ((t key.start key.value).start c (Some h)) (Some h))) → what view ≡ Some (Holding h) → ((t key.start key.value).asks c (Some h)).begins (Some h) ≡ true
-      → may_write h ≡ true → use_at s (Holding h) ≡ writes → Operates k (holds key) (ways key) view (Some x) ((t key.start key.value).word ((t key.start key.value).start c (Some h))) o (TurnTold (t key.start) s true (Some c) key view)
+      → o ≡ wrapped (operation_by ((table_at t key).act c ((table_at t key).start c (Some h)) (Some h))) → what view ≡ Some (Holding h) → ((table_at t key).asks c (Some h)).begins (Some h) ≡ true
+      → may_write h ≡ true → use_at s (Holding h) ≡ writes → Operates k (holds key) (ways key) view (Some x) ((table_at t key).word ((table_at t key).start c (Some h))) o (TurnTold t s true (Some c) key view)
   -- a load at place 1 that is no step
-  pub peeks : (key : Opening V) (view : Option (Numbered (Seat C L))) (shown : Option V) → TracesTo (holds key) (ways key) view shown (on_place k 1 (λ n. n)) (PeekTold (t key.start) k s key view)
+  pub peeks : (key : Opening V) (view : Option (Numbered (Seat C L))) (shown : Option V) → TracesTo (holds key) (ways key) view shown (on_place k 1 (λ n. n)) (PeekTold t k s key view)
   -- a value that a party sees after a step is the one written last; so is one that it used before
   pub lasts : (key : Opening V) (view view' : Option (Numbered (Seat C L))) (before after : Option V) (seen : Watch (Entry C V)) → Keeps (ways key) view view' before after
       → Found (ways key) view view' before after seen → (use_of (use_at s) (what view) ≡ writes → use_of (use_at s) (what view') ≢ writes)
       → IfSome after (IsLast key seen.entries) × (use_of (use_at s) (what view) ≢ off → IfSome before (IsLast key seen.entries))
-  pub goes : (key : Opening V) (view : Option (Seat C L)) (c : C) (l : L) (h : Option Hold) (n : ℕ) → IsAt (t key.start) c l h key view → rests_at s (seat_now view) ≡ true
-      → rests_at s (seat_after c h (next_of (t key.start key.value) c l h n)) ≡ true
+  pub goes : (key : Opening V) (view : Option (Seat C L)) (c : C) (l : L) (h : Option Hold) (n : ℕ) → IsAt t c l h key view → rests_at s (seat_now view) ≡ true
+      → rests_at s (seat_after c h (next_of (table_at t key) c l h n)) ≡ true
   pub rests : (key : Opening V) (view : Option (Numbered (Seat C L))) → IsOut Idle (what view) → Rests (holds key) (ways key).1 view

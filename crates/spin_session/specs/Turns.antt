@@ -20,7 +20,7 @@ use Rattle.spin_core.specs.Spots as spots
 use Rattle.spin_core.specs.Spots.{Stepped, HasCalled, IsIn}
 use Rattle.spin_core.specs.Values.{IsLast}
 use Rattle.spin_core.specs.declared.tie.Opening.{Opening}
-use Rattle.spin_session.specs.Meaning.{Meaning, Beside, Peeks, FindsAt, use_at, rests_at, seat_now, seat_after, words_of, model_at}
+use Rattle.spin_session.specs.Meaning.{Meaning, Beside, Peeks, FindsAt, use_at, rests_at, seat_now, seat_after, words_of, table_at, model_at}
 use Rattle.spin_session.specs.declared.session.Session.{Session}
 
 abbrev pub outcome_of : {L V : Type 0} → Next L (Answer V) → Ending V
@@ -85,15 +85,15 @@ Spot V C L = spots.Spot (Opening V) (Seat C L) (Entry C V)
 abbrev pub spot : {V P C L S : Type 0} → Session V (Numbered (Seat C L)) (Entry C V) P (Opening V) S → Spot V C L
 spot it = (it.permit.key, it.permit.view, it.seen)
 
-module _ {W V C L : Type 0} (t : V → Table W V C L (Answer V)) where
+module _ {W V C L : Type 0} (t : ℕ → V → Table W V C L (Answer V)) where
   abbrev pub TurnTold : Meaning C L → Bool → Option C → Opening V → Option (Numbered (Seat C L)) → List (Entry C V) → List (Entry C V) → ℕ → Numbered (Seat C L) → Type 0
-  TurnTold s gives c key before = Told (t key.value) s (turn_by (t key.value) s gives c (what before)) before
+  TurnTold s gives c key before = Told (table_at t key) s (turn_by (table_at t key) s gives c (what before)) before
 
   abbrev pub PeekTold : {S : Type 0} → Beside S → Meaning C L → Opening V → Option (Numbered (Seat C L)) → List (Entry C V) → List (Entry C V) → ℕ → Numbered (Seat C L) → Type 0
-  PeekTold k s key before = Told (t key.value) s (peeks (t key.value) s k (seat_now (what before))) before
+  PeekTold k s key before = Told (table_at t key) s (peeks (table_at t key) s k (seat_now (what before))) before
 
   abbrev pub IsAt : C → L → Option Hold → Opening V → Option (Seat C L) → Type 0
-  IsAt c l h key = IsAtPoint (t key.value) c l h
+  IsAt c l h key = IsAtPoint (table_at t key) c l h
 
 -- the watch is of the party's lock and knows its trace up to the party's last step; the party may rest in its seat
 abbrev pub Knows : {V C L : Type 0} → Meaning C L → Spot V C L → Type 0
@@ -130,29 +130,29 @@ abbrev pub Stands : {V P C L S : Type 0} → Option Hold → Session V (Numbered
 Stands h it = StandsAt h (spot it)
 
 -- from `before` to `now` the party has made exactly this call, which had this answer
-abbrev pub Calls : {W V C L : Type 0} → (V → Table W V C L (Answer V)) → C → Answer (Unit {0}) → Spot V C L → Spot V C L → Type 0
+abbrev pub Calls : {W V C L : Type 0} → (ℕ → V → Table W V C L (Answer V)) → C → Answer (Unit {0}) → Spot V C L → Spot V C L → Type 0
 Calls t c a before now = HasCalled (model_at t) c (with_value a None) before now
 
-module _ {W V C L : Type 0} (t : V → Table W V C L (Answer V)) (s : Meaning C L) where
+module _ {W V C L : Type 0} (t : ℕ → V → Table W V C L (Answer V)) (s : Meaning C L) where
   -- the party may begin this call, and writes no value in it
   abbrev pub MayBegin : C → Option Hold → Opening V → Type 0
-  MayBegin c h key = (((t key.value).asks c h).begins h ≡ true) × StaysQuiet s c h
+  MayBegin c h key = (((table_at t key).asks c h).begins h ≡ true) × StaysQuiet s c h
 
   -- the call rests at this point, or begins there
   abbrev pub IsReached : C → L → Option Hold → Opening V → Type 0
-  IsReached c l h key = (rests_at s (Calling c l h) ≡ true) ⊎ (l ≡ (t key.value).start c h)
+  IsReached c l h key = (rests_at s (Calling c l h) ≡ true) ⊎ (l ≡ (table_at t key).start c h)
 
   -- a step of this call at this point may find this number
   abbrev pub MayFind : C → L → Option Hold → ℕ → Opening V → Type 0
-  MayFind c l h n key = FindsAt s ((t key.value).word l) n × IsReached c l h key
+  MayFind c l h n key = FindsAt s ((table_at t key).word l) n × IsReached c l h key
 
   -- so the party has been answered, by a step that found this number, and holds `after`
   abbrev pub Ended : C → Option Hold → Answer (Unit {0}) → Option Hold → Spot V C L → Spot V C L → Type 0
-  Ended c h a after p q = Calls t c a p q × (seat_now (what q.1) ≡ resting after) × ((l : L) × (n : ℕ) × (next_of (t p.0.value) c l h n ≡ Answers (with_value a None) after) × MayFind c l h n p.0)
+  Ended c h a after p q = Calls t c a p q × (seat_now (what q.1) ≡ resting after) × ((l : L) × (n : ℕ) × (next_of (table_at t p.0) c l h n ≡ Answers (with_value a None) after) × MayFind c l h n p.0)
 
   -- the step of this call at this point found this number, which is in bounds, and so the call goes on so
   abbrev pub GoesBy : C → L → Option Hold → ℕ → Next L (Answer (Unit {0})) → Opening V → Type 0
-  GoesBy c l h n next key = (filled None next ≡ next_of (t key.value) c l h n) × FindsAt s ((t key.value).word l) n
+  GoesBy c l h n next key = (filled None next ≡ next_of (table_at t key) c l h n) × FindsAt s ((table_at t key).word l) n
 
   -- from p to q the party has begun this call, and made steps of it, after which the call goes on so
   abbrev pub Comes : C → Option Hold → Next L (Answer (Unit {0})) → Spot V C L → Spot V C L → Type 0
@@ -164,38 +164,38 @@ module _ {W V C L : Type 0} (t : V → Table W V C L (Answer V)) (s : Meaning C 
 
   -- the first step of this call has this answer, for some word that is in bounds; the party holds the same
   abbrev pub Tells : C → Option Hold → Answer (Unit {0}) → Opening V → Type 0
-  Tells c h a key = (n : ℕ) × (next_of (t key.value) c ((t key.value).start c h) h n ≡ Answers (with_value a None) h) × FindsAt s ((t key.value).word ((t key.value).start c h)) n
+  Tells c h a key = (n : ℕ) × (next_of (table_at t key) c ((table_at t key).start c h) h n ≡ Answers (with_value a None) h) × FindsAt s ((table_at t key).word ((table_at t key).start c h)) n
 
-module _ {W V C L : Type 0} (t : V → Table W V C L (Answer V)) where
+module _ {W V C L : Type 0} (t : ℕ → V → Table W V C L (Answer V)) where
   -- the party's call goes on, after a step at this point that found this number
   abbrev pub GoesOn : C → L → Option Hold → ℕ → Opening V → Option (Seat C L) → Type 0
-  GoesOn c l h n key view = (k : L) × (next_of (t key.value) c l h n ≡ Continue k) × (view ≡ Some (Calling c k h))
+  GoesOn c l h n key view = (k : L) × (next_of (table_at t key) c l h n ≡ Continue k) × (view ≡ Some (Calling c k h))
 
   -- each answer of the call is this one, after which its party holds `after`
   abbrev pub IsAnsweredBy : C → Option Hold → Answer (Unit {0}) → Option Hold → Opening V → Type 0
-  IsAnsweredBy c h a after key = (l : L) (n : ℕ) (b : Answer V) (k : Option Hold) → next_of (t key.value) c l h n ≡ Answers b k → (b ≡ with_value a None) × (k ≡ after)
+  IsAnsweredBy c h a after key = (l : L) (n : ℕ) (b : Answer V) (k : Option Hold) → next_of (table_at t key) c l h n ≡ Answers b k → (b ≡ with_value a None) × (k ≡ after)
 
   -- each answer of the call either gets this hold, or is a refusal
   abbrev pub IsTry : C → Option Hold → Option Hold → Opening V → Type 0
-  IsTry c h after key = (l : L) (n : ℕ) (b : Answer V) (k : Option Hold) → next_of (t key.value) c l h n ≡ Answers b k
+  IsTry c h after key = (l : L) (n : ℕ) (b : Answer V) (k : Option Hold) → next_of (table_at t key) c l h n ≡ Answers b k
       → (is_granted b ≡ true → (b ≡ Granted) × (k ≡ after)) × (is_granted b ≡ false → (b ≡ Refused) × (k ≡ h))
 
   -- the first step of the call answers it so
   abbrev pub IsAnsweredAtOnce : C → Option Hold → Answer (Unit {0}) → Option Hold → Opening V → Type 0
-  IsAnsweredAtOnce c h a after key = (n : ℕ) → next_of (t key.value) c ((t key.value).start c h) h n ≡ Answers (with_value a None) after
+  IsAnsweredAtOnce c h a after key = (n : ℕ) → next_of (table_at t key) c ((table_at t key).start c h) h n ≡ Answers (with_value a None) after
 
   -- the third step of the call answers it, or an earlier one
   abbrev pub IsAnswered : C → Option Hold → Opening V → Type 0
-  IsAnswered c h key = (n m j : ℕ) (l k i : L) → next_of (t key.value) c ((t key.value).start c h) h n ≡ Continue l → next_of (t key.value) c l h m ≡ Continue k → next_of (t key.value) c k h j ≡ Continue i → ⊥
+  IsAnswered c h key = (n m j : ℕ) (l k i : L) → next_of (table_at t key) c ((table_at t key).start c h) h n ≡ Continue l → next_of (table_at t key) c l h m ≡ Continue k → next_of (table_at t key) c k h j ≡ Continue i → ⊥
 
   -- the first step of the call answers it, and its party holds the same as before
   abbrev pub IsLook : C → Option Hold → Opening V → Type 0
-  IsLook c h key = (n : ℕ) → AnswersWith h (next_of (t key.value) c ((t key.value).start c h) h n)
+  IsLook c h key = (n : ℕ) → AnswersWith h (next_of (table_at t key) c ((table_at t key).start c h) h n)
 
   -- the first step of the call answers it with `Done`, and its party then holds nothing
   abbrev pub Frees : C → Hold → Opening V → Type 0
-  Frees c h key = (n : ℕ) → next_of (t key.value) c ((t key.value).start c (Some h)) (Some h) n ≡ Answers Done None
+  Frees c h key = (n : ℕ) → next_of (table_at t key) c ((table_at t key).start c (Some h)) (Some h) n ≡ Answers Done None
 
 -- From p to q the party has begun this call and made steps of it. The last of them, at this point, found this number, and the call goes on.
-abbrev pub Waits : {W V C L : Type 0} → (V → Table W V C L (Answer V)) → Meaning C L → C → L → Option Hold → ℕ → Spot V C L → Spot V C L → Type 0
+abbrev pub Waits : {W V C L : Type 0} → (ℕ → V → Table W V C L (Answer V)) → Meaning C L → C → L → Option Hold → ℕ → Spot V C L → Spot V C L → Type 0
 Waits t s c l h n p q = Knows s q × GoesOn t c l h n q.0 (what q.1) × Under t s c p q

@@ -11,14 +11,16 @@ ghost use Rattle.spin_step.specs.declared.place.Seat.TheVariants.{Idle, Holding}
 ghost use Rattle.spin_step.specs.declared.answer.Answer.{Answer as AnAnswer};
 ghost use Rattle.spin_step.specs.declared.answer.Answer.TheVariants.{Granted, Refused, Done};
 ghost use Rattle.spin_step.specs.declared.place.Hold.{Hold as AHold};
-ghost use Rattle.spin_session.specs.Meaning.{Peeks, seat_after, use_at, model_at};
+ghost use Rattle.spin_session.specs.Meaning.{Peeks, seat_after, table_at, use_at, model_at};
 ghost use Rattle.spin_session.specs.Operating.{Operates};
+ghost use Rattle.spin_session.specs.Passes.{Grants, Writes};
 ghost use Rattle.spin_session.specs.Turns.{TurnTold, SeesLast, Frees, IsAt, Knows, Quiet, StaysQuiet, Stands, MayBegin, Ended, Comes, GoesBy, GoesOn, Waits, Under, IsAnsweredBy, IsAnswered, IsAnsweredAtOnce, IsTry, IsLook, Tells, Calls, Spot, spot, is_granted};
 
 use crate::second::Word;
 use crate::session::Session;
 use crate::table::{CallOf, Entry, Party, Peek, Runs, Turn};
 use spin_core::cell::{Permit, WritePermit};
+use spin_core::guard::{Guard, Release};
 use spin_core::relax::{RelaxStrategy, Strategy};
 use spin_core::trace::Watch;
 use spin_step::{Answer, Hold, Next, Operation, Steps};
@@ -50,10 +52,10 @@ pub fn wait_for<'a, T, P: Runs<T>, R: RelaxStrategy, W: Wait>(
     rt: &W,
 ) -> SessionOf<'a, T, P>
     requires stands { Stands holds session }
-    requires may { MayBegin (P.Table.table (P.its session.permit.key.start)) P.meaning call holds session.permit.key }
-    requires answers { IsAnsweredBy (P.Table.table (P.its session.permit.key.start)) call holds answer after session.permit.key }
+    requires may { MayBegin P.tables P.meaning call holds session.permit.key }
+    requires answers { IsAnsweredBy P.tables call holds answer after session.permit.key }
     ensures stands { Stands after result }
-    ensures calls { Calls (P.Table.table (P.its session.entry.permit.key.start)) call answer (spot session.entry) (spot result) }
+    ensures calls { Calls P.tables call answer (spot session.entry) (spot result) }
     ensures last { SeesLast result }
 {
     let _ = (answer, after, strategy);
@@ -79,10 +81,10 @@ pub fn begin<'a, T, P: Runs<T>>(
     after: Option<Hold>,
 ) -> Result<SessionOf<'a, T, P>, (P::Point, u64, SessionOf<'a, T, P>)>
     requires stands { Stands holds session }
-    requires may { MayBegin (P.Table.table (P.its session.permit.key.start)) P.meaning call holds session.permit.key }
-    requires answers { IsAnsweredBy (P.Table.table (P.its session.permit.key.start)) call holds answer after session.permit.key }
-    ensures ended { IfOk result (λ now. Stands after now × SeesLast now × Calls (P.Table.table (P.its session.entry.permit.key.start)) call answer (spot session.entry) (spot now)) }
-    ensures waits { IfErr result (λ on. Waits (P.Table.table (P.its session.entry.permit.key.start)) P.meaning call on.0 holds on.1 (spot session.entry) (spot on.2)) }
+    requires may { MayBegin P.tables P.meaning call holds session.permit.key }
+    requires answers { IsAnsweredBy P.tables call holds answer after session.permit.key }
+    ensures ended { IfOk result (λ now. Stands after now × SeesLast now × Calls P.tables call answer (spot session.entry) (spot now)) }
+    ensures waits { IfErr result (λ on. Waits P.tables P.meaning call on.0 holds on.1 (spot session.entry) (spot on.2)) }
 {
     let _ = (answer, after);
     let point = point_of(&session, call, holds);
@@ -109,9 +111,9 @@ pub fn go_on<'a, T, P: Runs<T>, R: RelaxStrategy, W: Wait>(
     rt: &W,
 ) -> SessionOf<'a, T, P>
     requires knows { Knows P.meaning (spot on.2) }
-    requires goes { GoesOn (P.Table.table (P.its on.2.permit.key.start)) call on.0 holds on.1 on.2.permit.key (what on.2.permit.view) }
+    requires goes { GoesOn P.tables call on.0 holds on.1 on.2.permit.key (what on.2.permit.view) }
     requires quiet { StaysQuiet P.meaning call holds }
-    ensures calls { (p : Spot T P.Call P.Point) → Waits (P.Table.table (P.its on.entry.2.permit.key.start)) P.meaning call on.entry.0 holds on.entry.1 p (spot on.entry.2) → IsAnsweredBy (P.Table.table (P.its on.entry.2.permit.key.start)) call holds answer after p.0 → Stands after result × Calls (P.Table.table (P.its on.entry.2.permit.key.start)) call answer p (spot result) }
+    ensures calls { (p : Spot T P.Call P.Point) → Waits P.tables P.meaning call on.entry.0 holds on.entry.1 p (spot on.entry.2) → IsAnsweredBy P.tables call holds answer after p.0 → Stands after result × Calls P.tables call answer p (spot result) }
     ensures last { SeesLast result }
 {
     let _ = (answer, after, strategy);
@@ -132,10 +134,10 @@ pub fn first_round<'a, T, P: Runs<T>>(
     holds: Option<Hold>,
 ) -> Result<SessionOf<'a, T, P>, (P::Point, u64, SessionOf<'a, T, P>)>
     requires stands { Stands holds session }
-    requires may { MayBegin (P.Table.table (P.its session.permit.key.start)) P.meaning call holds session.permit.key }
-    ensures ended { IfOk result (λ now. (a : AnAnswer (Unit {0})) × (after : Option AHold) × Ended (P.Table.table (P.its session.entry.permit.key.start)) P.meaning call holds a after (spot session.entry) (spot now)) }
+    requires may { MayBegin P.tables P.meaning call holds session.permit.key }
+    ensures ended { IfOk result (λ now. (a : AnAnswer (Unit {0})) × (after : Option AHold) × Ended P.tables P.meaning call holds a after (spot session.entry) (spot now)) }
     ensures knows { IfOk result (λ now. Knows P.meaning (spot now) × SeesLast now) }
-    ensures waits { IfErr result (λ on. Waits (P.Table.table (P.its session.entry.permit.key.start)) P.meaning call on.0 holds on.1 (spot session.entry) (spot on.2)) }
+    ensures waits { IfErr result (λ on. Waits P.tables P.meaning call on.0 holds on.1 (spot session.entry) (spot on.2)) }
 {
     let point = point_of(&session, call, holds);
     let (next, point, found, session) = round(session, call, point, holds);
@@ -158,10 +160,10 @@ pub fn wait_on<'a, T, P: Runs<T>, R: RelaxStrategy, W: Wait>(
     rt: &W,
 ) -> SessionOf<'a, T, P>
     requires knows { Knows P.meaning (spot on.2) }
-    requires goes { GoesOn (P.Table.table (P.its on.2.permit.key.start)) call on.0 holds on.1 on.2.permit.key (what on.2.permit.view) }
+    requires goes { GoesOn P.tables call on.0 holds on.1 on.2.permit.key (what on.2.permit.view) }
     requires quiet { StaysQuiet P.meaning call holds }
     ensures knows { Knows P.meaning (spot result) }
-    ensures ended { (p : Spot T P.Call P.Point) → Under (P.Table.table (P.its on.entry.2.permit.key.start)) P.meaning call p (spot on.entry.2) → (a : AnAnswer (Unit {0})) × (after : Option AHold) × Ended (P.Table.table (P.its on.entry.2.permit.key.start)) P.meaning call holds a after p (spot result) }
+    ensures ended { (p : Spot T P.Call P.Point) → Under P.tables P.meaning call p (spot on.entry.2) → (a : AnAnswer (Unit {0})) × (after : Option AHold) × Ended P.tables P.meaning call holds a after p (spot result) }
     ensures last { SeesLast result }
 {
     let _ = strategy;
@@ -182,10 +184,10 @@ pub fn try_for<'a, T, P: Runs<T>, W: Wait>(
     rt: &W,
 ) -> Result<SessionOf<'a, T, P>, SessionOf<'a, T, P>>
     requires stands { Stands holds session }
-    requires may { MayBegin (P.Table.table (P.its session.permit.key.start)) P.meaning call holds session.permit.key }
-    requires tries { IsTry (P.Table.table (P.its session.permit.key.start)) call holds after session.permit.key }
-    ensures granted { IfOk result (λ now. Stands after now × SeesLast now × Calls (P.Table.table (P.its session.entry.permit.key.start)) call Granted (spot session.entry) (spot now)) }
-    ensures refused { IfErr result (λ now. Stands holds now × Calls (P.Table.table (P.its session.entry.permit.key.start)) call Refused (spot session.entry) (spot now)) }
+    requires may { MayBegin P.tables P.meaning call holds session.permit.key }
+    requires tries { IsTry P.tables call holds after session.permit.key }
+    ensures granted { IfOk result (λ now. Stands after now × SeesLast now × Calls P.tables call Granted (spot session.entry) (spot now)) }
+    ensures refused { IfErr result (λ now. Stands holds now × Calls P.tables call Refused (spot session.entry) (spot now)) }
 {
     let _ = after;
     let mut at = point_of(&session, call, holds);
@@ -220,11 +222,11 @@ pub fn attempt<'a, T, P: Runs<T>>(
     after: Option<Hold>,
 ) -> Result<SessionOf<'a, T, P>, SessionOf<'a, T, P>>
     requires stands { Stands holds session }
-    requires may { MayBegin (P.Table.table (P.its session.permit.key.start)) P.meaning call holds session.permit.key }
-    requires tries { IsTry (P.Table.table (P.its session.permit.key.start)) call holds after session.permit.key }
-    requires once { IsAnswered (P.Table.table (P.its session.permit.key.start)) call holds session.permit.key }
-    ensures granted { IfOk result (λ now. Stands after now × SeesLast now × Calls (P.Table.table (P.its session.entry.permit.key.start)) call Granted (spot session.entry) (spot now)) }
-    ensures refused { IfErr result (λ now. Stands holds now × Calls (P.Table.table (P.its session.entry.permit.key.start)) call Refused (spot session.entry) (spot now)) }
+    requires may { MayBegin P.tables P.meaning call holds session.permit.key }
+    requires tries { IsTry P.tables call holds after session.permit.key }
+    requires once { IsAnswered P.tables call holds session.permit.key }
+    ensures granted { IfOk result (λ now. Stands after now × SeesLast now × Calls P.tables call Granted (spot session.entry) (spot now)) }
+    ensures refused { IfErr result (λ now. Stands holds now × Calls P.tables call Refused (spot session.entry) (spot now)) }
 {
     let _ = after;
     let (answer, _, session, _) = in_three(session, call, holds);
@@ -247,10 +249,10 @@ pub fn make<'a, T, P: Runs<T>>(
     after: Option<Hold>,
 ) -> SessionOf<'a, T, P>
     requires stands { Stands holds session }
-    requires may { MayBegin (P.Table.table (P.its session.permit.key.start)) P.meaning call holds session.permit.key }
-    requires answers { IsAnsweredAtOnce (P.Table.table (P.its session.permit.key.start)) call holds answer after session.permit.key }
+    requires may { MayBegin P.tables P.meaning call holds session.permit.key }
+    requires answers { IsAnsweredAtOnce P.tables call holds answer after session.permit.key }
     ensures stands { Stands after result }
-    ensures calls { Calls (P.Table.table (P.its session.entry.permit.key.start)) call answer (spot session.entry) (spot result) }
+    ensures calls { Calls P.tables call answer (spot session.entry) (spot result) }
     ensures last { SeesLast result }
 {
     let _ = (answer, after);
@@ -270,11 +272,11 @@ pub fn ask<'a, T, P: Runs<T>>(
     holds: Option<Hold>,
 ) -> (Answer<()>, SessionOf<'a, T, P>)
     requires stands { Stands holds session }
-    requires may { MayBegin (P.Table.table (P.its session.permit.key.start)) P.meaning call holds session.permit.key }
-    requires looks { IsLook (P.Table.table (P.its session.permit.key.start)) call holds session.permit.key }
+    requires may { MayBegin P.tables P.meaning call holds session.permit.key }
+    requires looks { IsLook P.tables call holds session.permit.key }
     ensures stands { Stands holds result.1 }
-    ensures calls { Calls (P.Table.table (P.its session.entry.permit.key.start)) call result.0 (spot session.entry) (spot result.1) }
-    ensures found { Tells (P.Table.table (P.its session.entry.permit.key.start)) P.meaning call holds result.0 session.entry.permit.key }
+    ensures calls { Calls P.tables call result.0 (spot session.entry) (spot result.1) }
+    ensures found { Tells P.tables P.meaning call holds result.0 session.entry.permit.key }
 {
     let point = point_of(&session, call, holds);
     let (next, _, session) = step(session, call, point, holds);
@@ -342,7 +344,7 @@ pub fn peek<'a, T, P: Runs<T>>(
     ensures value { result.1.value ≡ writer.entry.value }
     ensures key { result.1.key ≡ writer.entry.key }
     ensures finds { Peeks P.Word.words P.meaning writer.entry.view.0 result.0 }
-    ensures since { writer.entry.key.name ≡ seen.name → writer.entry.view.2 ≡ length seen.entries → (Since (model_at (P.Table.table (P.its writer.entry.key.start))) Nothing (writer.entry.key, Some writer.entry.view, seen) (result.1.key, Some result.1.view, result.2)) × (result.1.view.2 ≡ length result.2.entries) }
+    ensures since { writer.entry.key.name ≡ seen.name → writer.entry.view.2 ≡ length seen.entries → (Since (model_at P.tables) Nothing (writer.entry.key, Some writer.entry.view, seen) (result.1.key, Some result.1.view, result.2)) × (result.1.view.2 ≡ length result.2.entries) }
 {
     P::laws();
     let permit = writer.into_permit();
@@ -369,13 +371,13 @@ pub fn free<'a, T, P: Runs<T>>(
 ) -> SessionOf<'a, T, P>
     requires knows { MayKnow (P.holds writer.key) (P.ways writer.key) seen }
     requires alone { use_at P.meaning writer.view.0 ≡ writes → writer.view.0 ≡ Holding holds }
-    requires begins { (((P.Table.table (P.its writer.key.start)) writer.key.value).asks call (Some holds)).begins (Some holds) ≡ true }
+    requires begins { ((table_at P.tables writer.key).asks call (Some holds)).begins (Some holds) ≡ true }
     requires held { (may_write holds ≡ true) × (use_at P.meaning (Holding holds) ≡ writes) }
-    requires frees { Frees (P.Table.table (P.its writer.key.start)) call holds writer.key }
+    requires frees { Frees P.tables call holds writer.key }
     ensures out { IsOut Idle (what result.permit.view) }
     ensures knows { mark_of result.permit.view ≡ length result.seen.entries }
     ensures key { result.permit.key ≡ writer.entry.key }
-    ensures releases { writer.entry.key.name ≡ seen.name → writer.entry.view.2 ≡ length seen.entries → Releases (model_at (P.Table.table (P.its writer.entry.key.start))) (λ o. o) call Done writer.entry.value (writer.entry.key, Some writer.entry.view, seen) (spot result) }
+    ensures releases { writer.entry.key.name ≡ seen.name → writer.entry.view.2 ≡ length seen.entries → Releases (model_at P.tables) (λ o. o) call Done writer.entry.value (writer.entry.key, Some writer.entry.view, seen) (spot result) }
 {
     P::laws();
     let permit = writer.into_permit();
@@ -389,6 +391,25 @@ pub fn free<'a, T, P: Runs<T>>(
     let operation = table.operation(call, point, hold);
     let (_, permit, seen) = operate::<T, P, Brand>(permit, place, operation, seen, call);
     Session { permit, seen }
+}
+
+/// Returns the guard of a party that writes the value, and what the party knows.
+///
+/// # Contract
+/// A call by which the party came here has granted the guard (`grants`).
+#[inline(always)]
+pub fn guarded<'a, T, P: Runs<T> + Release<T, Party<P::Call, P::Point>>, R>(
+    session: SessionOf<'a, T, P>,
+) -> (
+    Guard<'a, T, Party<P::Call, P::Point>, P, R>,
+    Watch<Entry<P::Call, T>>,
+)
+    requires writes { Writes P.meaning (spot session) }
+    requires last { SeesLast session }
+    ensures grants { (call : P.Call) (before : Spot T P.Call P.Point) → Calls P.tables call Granted before (spot session.entry) → Grants P.tables P.meaning call before result.0 result.1 }
+{
+    let (writer, seen) = writing::<T, P>(session);
+    (Guard::new(writer), seen)
 }
 
 /// Ends the session of a party that is in no call, and holds nothing.
@@ -407,11 +428,11 @@ fn point_of<'a, T, P: Runs<T>>(
     holds: Option<Hold>,
 ) -> P::Point
     requires stands { Stands holds session.now }
-    requires may { MayBegin (P.Table.table (P.its session.now.permit.key.start)) P.meaning call holds session.now.permit.key }
-    ensures start { result ≡ ((P.Table.table (P.its session.now.permit.key.start)) session.now.permit.key.value).start call holds }
+    requires may { MayBegin P.tables P.meaning call holds session.now.permit.key }
+    ensures start { result ≡ (table_at P.tables session.now.permit.key).start call holds }
     ensures knows { Knows P.meaning (spot session.now) }
-    ensures at { IsAt (P.Table.table (P.its session.now.permit.key.start)) call result holds session.now.permit.key (what session.now.permit.view) }
-    ensures under { Under (P.Table.table (P.its session.now.permit.key.start)) P.meaning call (spot session.now) (spot session.now) }
+    ensures at { IsAt P.tables call result holds session.now.permit.key (what session.now.permit.view) }
+    ensures under { Under P.tables P.meaning call (spot session.now) (spot session.now) }
 {
     let _ = session;
     P::laws();
@@ -434,10 +455,10 @@ fn wait<'a, T, P: Runs<T>, R: RelaxStrategy, W: Wait>(
     rt: &W,
 ) -> SessionOf<'a, T, P>
     requires knows { Knows P.meaning (spot session) }
-    requires goes { GoesOn (P.Table.table (P.its session.permit.key.start)) call point holds found session.permit.key (what session.permit.view) }
+    requires goes { GoesOn P.tables call point holds found session.permit.key (what session.permit.view) }
     requires quiet { StaysQuiet P.meaning call holds }
     ensures knows { Knows P.meaning (spot result) }
-    ensures ended { (p : Spot T P.Call P.Point) → Under (P.Table.table (P.its session.entry.permit.key.start)) P.meaning call p (spot session.entry) → (a : AnAnswer (Unit {0})) × (after : Option AHold) × Ended (P.Table.table (P.its session.entry.permit.key.start)) P.meaning call holds a after p (spot result) }
+    ensures ended { (p : Spot T P.Call P.Point) → Under P.tables P.meaning call p (spot session.entry) → (a : AnAnswer (Unit {0})) × (after : Option AHold) × Ended P.tables P.meaning call holds a after p (spot result) }
     ensures last { SeesLast result }
 {
     let mut last = 0;
@@ -473,8 +494,8 @@ fn point_after<T, P: Runs<T>>(
     holds: Option<Hold>,
     found: u64,
 ) -> P::Point
-    requires { GoesOn (P.Table.table (P.its session.now.permit.key.start)) call point holds found session.now.permit.key (what session.now.permit.view) }
-    ensures { IsAt (P.Table.table (P.its session.now.permit.key.start)) call result holds session.now.permit.key (what session.now.permit.view) }
+    requires { GoesOn P.tables call point holds found session.now.permit.key (what session.now.permit.view) }
+    ensures { IsAt P.tables call result holds session.now.permit.key (what session.now.permit.view) }
 {
     let _ = session;
     P::laws();
@@ -499,13 +520,13 @@ fn round<'a, T, P: Runs<T>>(
     SessionOf<'a, T, P>,
 )
     requires knows { Knows P.meaning (spot session) }
-    requires at { IsAt (P.Table.table (P.its session.permit.key.start)) call point holds session.permit.key (what session.permit.view) }
+    requires at { IsAt P.tables call point holds session.permit.key (what session.permit.view) }
     requires quiet { StaysQuiet P.meaning call holds }
     ensures knows { Knows P.meaning (spot result.3) }
     ensures key { result.3.permit.key ≡ session.entry.permit.key }
     ensures seat { what result.3.permit.view ≡ Some (seat_after call holds result.0) }
-    ensures comes { (p : Spot T P.Call P.Point) → Under (P.Table.table (P.its session.entry.permit.key.start)) P.meaning call p (spot session.entry) → Comes (P.Table.table (P.its session.entry.permit.key.start)) P.meaning call holds result.0 p (spot result.3) }
-    ensures goes { GoesBy (P.Table.table (P.its session.entry.permit.key.start)) P.meaning call result.1 holds result.2 result.0 session.entry.permit.key }
+    ensures comes { (p : Spot T P.Call P.Point) → Under P.tables P.meaning call p (spot session.entry) → Comes P.tables P.meaning call holds result.0 p (spot result.3) }
+    ensures goes { GoesBy P.tables P.meaning call result.1 holds result.2 result.0 session.entry.permit.key }
     ensures last { SeesLast result.3 }
 {
     let (next, found, session) = step(session, call, point, holds);
@@ -533,13 +554,13 @@ fn further<'a, T, P: Runs<T>>(
     requires knows { Knows P.meaning (spot made.3) }
     requires seat { what made.3.permit.view ≡ Some (seat_after call holds made.0) }
     requires quiet { StaysQuiet P.meaning call holds }
-    requires goes { GoesBy (P.Table.table (P.its made.3.permit.key.start)) P.meaning call made.1 holds made.2 made.0 made.3.permit.key }
+    requires goes { GoesBy P.tables P.meaning call made.1 holds made.2 made.0 made.3.permit.key }
     requires last { SeesLast made.3 }
     ensures knows { Knows P.meaning (spot result.3) }
     ensures key { result.3.permit.key ≡ made.entry.3.permit.key }
     ensures seat { what result.3.permit.view ≡ Some (seat_after call holds result.0) }
-    ensures comes { (p : Spot T P.Call P.Point) → Comes (P.Table.table (P.its made.entry.3.permit.key.start)) P.meaning call holds made.entry.0 p (spot made.entry.3) → Comes (P.Table.table (P.its made.entry.3.permit.key.start)) P.meaning call holds result.0 p (spot result.3) }
-    ensures goes { GoesBy (P.Table.table (P.its made.entry.3.permit.key.start)) P.meaning call result.1 holds result.2 result.0 made.entry.3.permit.key }
+    ensures comes { (p : Spot T P.Call P.Point) → Comes P.tables P.meaning call holds made.entry.0 p (spot made.entry.3) → Comes P.tables P.meaning call holds result.0 p (spot result.3) }
+    ensures goes { GoesBy P.tables P.meaning call result.1 holds result.2 result.0 made.entry.3.permit.key }
     ensures last { SeesLast result.3 }
 {
     let (next, from, found, session) = made;
@@ -568,10 +589,10 @@ pub fn in_three<'a, T, P: Runs<T>>(
     holds: Option<Hold>,
 ) -> (Answer<()>, Option<Hold>, SessionOf<'a, T, P>, u64)
     requires stands { Stands holds session }
-    requires may { MayBegin (P.Table.table (P.its session.permit.key.start)) P.meaning call holds session.permit.key }
-    requires once { IsAnswered (P.Table.table (P.its session.permit.key.start)) call holds session.permit.key }
+    requires may { MayBegin P.tables P.meaning call holds session.permit.key }
+    requires once { IsAnswered P.tables call holds session.permit.key }
     ensures knows { Knows P.meaning (spot result.2) }
-    ensures ended { Ended (P.Table.table (P.its session.entry.permit.key.start)) P.meaning call holds result.0 result.1 (spot session.entry) (spot result.2) }
+    ensures ended { Ended P.tables P.meaning call holds result.0 result.1 (spot session.entry) (spot result.2) }
     ensures last { SeesLast result.2 }
 {
     let first = point_of(&session, call, holds);
@@ -609,13 +630,13 @@ fn step<'a, T, P: Runs<T>>(
     holds: Option<Hold>,
 ) -> (Next<P::Point, Answer<()>>, u64, SessionOf<'a, T, P>)
     requires knows { Knows P.meaning (spot session) }
-    requires at { IsAt (P.Table.table (P.its session.permit.key.start)) call point holds session.permit.key (what session.permit.view) }
+    requires at { IsAt P.tables call point holds session.permit.key (what session.permit.view) }
     requires quiet { StaysQuiet P.meaning call holds }
     ensures knows { Knows P.meaning (spot result.2) }
     ensures key { result.2.permit.key ≡ session.entry.permit.key }
     ensures seat { what result.2.permit.view ≡ Some (seat_after call holds result.0) }
-    ensures comes { (p : Spot T P.Call P.Point) → Under (P.Table.table (P.its session.entry.permit.key.start)) P.meaning call p (spot session.entry) → Comes (P.Table.table (P.its session.entry.permit.key.start)) P.meaning call holds result.0 p (spot result.2) }
-    ensures goes { GoesBy (P.Table.table (P.its session.entry.permit.key.start)) P.meaning call point holds result.1 result.0 session.entry.permit.key }
+    ensures comes { (p : Spot T P.Call P.Point) → Under P.tables P.meaning call p (spot session.entry) → Comes P.tables P.meaning call holds result.0 p (spot result.2) }
+    ensures goes { GoesBy P.tables P.meaning call point holds result.1 result.0 session.entry.permit.key }
     ensures last { SeesLast result.2 }
 {
     P::laws();
@@ -645,8 +666,8 @@ fn operate<'a, T, P: Runs<T>, K: CallOf<P::Call>>(
     Watch<Entry<P::Call, T>>,
 )
     requires knows { MayKnow (P.holds permit.key) (P.ways permit.key) seen }
-    requires keeps { Operates P.Word.words (P.holds permit.key) (P.ways permit.key) permit.view permit.value place operation (TurnTold (P.Table.table (P.its permit.key.start)) P.meaning K.gives K.call permit.key permit.view) }
-    ensures moved { Moved (Watches (Named (P.holds permit.entry.key) (P.ways permit.entry.key) seen.name) seen result.2 (TurnTold (P.Table.table (P.its permit.entry.key.start)) P.meaning K.gives K.call permit.entry.key permit.entry.view) result.0) result.1.view }
+    requires keeps { Operates P.Word.words (P.holds permit.key) (P.ways permit.key) permit.view permit.value place operation (TurnTold P.tables P.meaning K.gives K.call permit.key permit.view) }
+    ensures moved { Moved (Watches (Named (P.holds permit.entry.key) (P.ways permit.entry.key) seen.name) seen result.2 (TurnTold P.tables P.meaning K.gives K.call permit.entry.key permit.entry.view) result.0) result.1.view }
     ensures kept { Keeps (P.ways permit.entry.key) permit.entry.view result.1.view permit.entry.value result.1.value }
     ensures found { Found (P.ways permit.entry.key) permit.entry.view result.1.view permit.entry.value result.1.value result.2 }
     ensures key { result.1.key ≡ permit.entry.key }

@@ -1,5 +1,7 @@
 //! The rule of a cell that runs a lock's table. Begin with [`Runs`].
 ghost use Rattle.std.specs.Prelude.{◌≡◌, ℕ, Bool, false, None, Option};
+ghost use Rattle.spin_step.specs.Acts.{Table as ItsTable};
+ghost use Rattle.spin_step.specs.declared.answer.Answer.{Answer as AnAnswer};
 ghost use Rattle.spin_session.specs.Meaning.{Meaning};
 ghost use Rattle.spin_session.specs.Operating.{Executes};
 ghost use Rattle.spin_session.specs.Turns.{PeekTold, TurnTold};
@@ -34,15 +36,15 @@ pub trait Runs<T>: Rule<
 
     type Table: Steps<T, Self::Call, Self::Point>;
 
-    // The table, for words that open with this number.
-    ghost its: { ℕ → Self.Table };
+    // The tables, by the number with which the words open and by the first value.
+    ghost tables: { ℕ → T → ItsTable Self.Table.Words T Self.Call Self.Point (AnAnswer T) };
 
     // What the word and the points of the table are in the plain lock.
     ghost meaning: { Meaning Self.Call Self.Point };
 
     /// Returns the table for words that open with 0. The steps are the same for all numbers. It has no answer `Value`.
     fn table() -> Self::Table
-        ensures is { result ≡ its 0 }
+        ensures is { Self.Table.table result ≡ tables 0 }
         ensures given { Self.Table.given ≡ None };
 
     /// Returns how many hints a waiting call gives before its next step, at the point `to`, or 0 if it makes this step at
@@ -71,7 +73,7 @@ pub trait Runs<T>: Rule<
 
     /// States that the cell runs the table.
     fn laws()
-        ensures { Executes Self.Word.words (λ start. Self.Table.table (its start)) meaning Self.holds Self.ways };
+        ensures { Executes Self.Word.words tables meaning Self.holds Self.ways };
 }
 
 /// A call of type `C`. The proof of a step picks it.
@@ -98,7 +100,7 @@ impl<T, P: Runs<T>, K: CallOf<P::Call>> Play<
     Party<P::Call, P::Point>,
     Entry<P::Call, T>,
 > for Turn<P, K> {
-    ghost told = { λ key old new before. TurnTold (P.Table.table (P.its key.start)) P.meaning K.gives K.call key before };
+    ghost told = { λ key old new before. TurnTold (P.tables) P.meaning K.gives K.call key before };
 }
 
 /// A load of the word at place 1 that is no step of a call.
@@ -107,7 +109,7 @@ pub struct Peek<P> {
 }
 
 impl<T, P: Runs<T>> Play<Opening<T>, Party<P::Call, P::Point>, Entry<P::Call, T>> for Peek<P> {
-    ghost told = { λ key old new before. PeekTold (P.Table.table (P.its key.start)) P.Word.words P.meaning key before };
+    ghost told = { λ key old new before. PeekTold (P.tables) P.Word.words P.meaning key before };
 }
 
 fn is_load(operation: Operation) -> bool {

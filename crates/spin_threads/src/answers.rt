@@ -20,7 +20,7 @@ ghost use Rattle.spin_step.specs.declared.once_calls.OnceCall.TheVariants as onc
 ghost use Rattle.spin_step.specs.declared.ticket_calls.TicketCall.TheVariants as ticket;
 ghost use Rattle.spin_rwlock.specs.Rw as rwlock;
 ghost use Rattle.spin_rwlock.specs.declared.rwlock.rule.View.{View as RwLockView};
-ghost use Rattle.spin_seats.specs.Passes.{history, party_of, Counted, SeatsSpot, WasRefused};
+ghost use Rattle.spin_seats.specs.Passes.{history, party, Counted, SeatsSpot, WasRefused};
 ghost use Rattle.spin_seats.specs.Rule as seats;
 ghost use Rattle.spin_seats.specs.Seats.{seats as as_many_as_seats};
 ghost use Rattle.spin_seats.specs.declared.calls.SeatsCall.TheVariants as call;
@@ -180,7 +180,7 @@ pub fn a_count_of_a_rwlock_was_so_at_a_moment<T>()
 /// reads.
 pub fn a_count_of_seats_was_so_at_a_moment()
     ensures { (n count : ℕ) (before now : SeatsSpot) → Counted n count before now →
-        AtAMoment (seats.model n) call.Count (party_of now) (history before) (history now)
+        AtAMoment (seats.model n) call.Count (party now) (history before) (history now)
         (Was readers count) }
 {}
 
@@ -190,7 +190,7 @@ pub fn a_count_of_seats_was_so_at_a_moment()
 /// `AtAMoment`: at a moment of the call the plain lock had as many holders as there are seats.
 pub fn a_refused_try_found_all_seats_taken()
     ensures { (n : ℕ) (before now : SeatsSpot) → WasRefused n before now →
-        AtAMoment (seats.model n) call.TryEnter (party_of now) (history before) (history now) (λ s.
+        AtAMoment (seats.model n) call.TryEnter (party now) (history before) (history now) (λ s.
         length s.holders ≡ as_many_as_seats n) }
 {}
 

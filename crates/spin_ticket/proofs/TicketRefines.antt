@@ -28,7 +28,7 @@ use Rattle.spin_step.specs.declared.ticket_calls.TicketPoint.TheVariants.{LoadNe
 use Rattle.spin_core.specs.Views.{Part, idle, queues, knows_served, HasPart, IsLockOf, Knows, entries_of}
 use Rattle.spin_core.proofs.Leaving.{serving_word-up}
 use Rattle.spin_core.proofs.Owners.{OfTickets, one_ticket}
-use Rattle.spin_session.specs.Meaning.{Peeks, use_at, ways_of, with_second, HasSecond, IsAccess, FindsAt, SoundOn, number_in, put_in, words_in, part_of, seat_after, rests_at, ComesFrom, RefinesOn}
+use Rattle.spin_session.specs.Meaning.{Peeks, use_at, ways_of, with_second, HasSecond, IsAccess, FindsAt, SoundOn, number_in, put_in, words_in, part_of, seat_after, rests_at, ComesFrom, RefinesOn, table_at}
 use Rattle.spin_ticket.proofs.Shapes as shape
 use Rattle.spin_ticket.proofs.Shapes.{both_ways, won_or_lost, all_ways}
 use Rattle.spin_core.specs.Cell.{reads, writes, Meets}
@@ -38,7 +38,7 @@ use Rattle.spin_session.specs.Operating.{Executes, SameSteps}
 use Rattle.spin_session.specs.Turns.{IsReached}
 use Rattle.spin_session.proofs.Executing.{executes_on}
 use Rattle.spin_session.proofs.Refining.{starts_on}
-use Rattle.spin_ticket.specs.Queue.{View, Made, IsQueue, table, part, ticket_meaning}
+use Rattle.spin_ticket.specs.Queue.{View, Made, IsQueue, part, ticket_meaning, ticket_tables}
 
 pub kind : (v : View) → OfTickets part v
 kind (Holding (hold.Ticket n)) = (refl, λ p. refl)
@@ -230,8 +230,8 @@ unfolding ticket_refines
 starts key t named empty word small =
     starts_on with_second (ticket_table key.value key.start) ticket_meaning (ticket_refines key.value key.start) key small t named empty (word ∙ opened key.start)
 
-pub ticket_executes : {T : Type 0} → Executes with_second (λ start value. ticket_table {V = T} value start) ticket_meaning IsQueue (ways_of ticket_meaning)
-ticket_executes {T} = executes_on with_second (λ start value. ticket_table {V = T} value start) ticket_meaning alike (λ start value. ticket_refines value start)
+pub ticket_executes : {T : Type 0} → Executes with_second (ticket_tables {T = T}) ticket_meaning IsQueue (ways_of ticket_meaning)
+ticket_executes {T} = executes_on with_second (ticket_tables {T = T}) ticket_meaning alike (λ start value. ticket_refines value start)
 
 -- only a party with a ticket that has entered writes
 pub entered_of : (v : View) → use_at ticket_meaning v ≡ writes → (n : ℕ) × (v ≡ Holding (hold.Ticket n))
@@ -251,22 +251,22 @@ peeked_seat v found uses (plain, p, order, has, is) =
 
 module _ {T : Type 0} (key : Opening T) where
   abbrev next : TicketCall → TicketPoint → ℕ → Next TicketPoint (Answer T)
-  next c l n = next_of (table key key.value) c l None n
+  next c l n = next_of (table_at ticket_tables key) c l None n
 
   -- a `lock` is answered by the grant alone
-  pub lock_grants : (a : Answer T) (after : Option Hold) (l : TicketPoint) (n : ℕ) → IsReached (table key) ticket_meaning Lock l None key → next Lock l n ≡ Answers a after → (a ≡ Granted) × (t : ℕ) × (after ≡ Some (hold.Ticket t))
+  pub lock_grants : (a : Answer T) (after : Option Hold) (l : TicketPoint) (n : ℕ) → IsReached ticket_tables ticket_meaning Lock l None key → next Lock l n ≡ Answers a after → (a ≡ Granted) × (t : ℕ) × (after ≡ Some (hold.Ticket t))
   lock_grants a after (Await t) n at is = (grind (arith, is), t, grind (arith, is))
   lock_grants a after LoadNext n at is = absurd (grind (arith, is))
   lock_grants a after (Take k) n at is = absurd (grind (arith, is))
   lock_grants a after l n at is = absurd (grind (arith, at))
 
-  pub try_grants : (after : Option Hold) (l : TicketPoint) (n : ℕ) → IsReached (table key) ticket_meaning TryLock l None key → next TryLock l n ≡ Answers Granted after → (t : ℕ) × (after ≡ Some (hold.Ticket t))
+  pub try_grants : (after : Option Hold) (l : TicketPoint) (n : ℕ) → IsReached ticket_tables ticket_meaning TryLock l None key → next TryLock l n ≡ Answers Granted after → (t : ℕ) × (after ≡ Some (hold.Ticket t))
   try_grants after (TryTake k) n at is = (k, grind (arith, is))
   try_grants after TryLoadNext n at is = absurd (grind (arith, is))
   try_grants after (TryLoadServing k) n at is = absurd (grind (arith, is))
   try_grants after l n at is = absurd (grind (arith, at))
 
-  pub try_refuses : (a : Answer T) (after : Option Hold) (l : TicketPoint) (n : ℕ) → IsReached (table key) ticket_meaning TryLock l None key → next TryLock l n ≡ Answers a after → (a ≡ Granted → ⊥) → (a ≡ Refused) × (after ≡ None)
+  pub try_refuses : (a : Answer T) (after : Option Hold) (l : TicketPoint) (n : ℕ) → IsReached ticket_tables ticket_meaning TryLock l None key → next TryLock l n ≡ Answers a after → (a ≡ Granted → ⊥) → (a ≡ Refused) × (after ≡ None)
   try_refuses a after (TryTake k) n at is other = grind (arith, is, other)
   try_refuses a after TryLoadNext n at is other = absurd (grind (arith, is))
   try_refuses a after (TryLoadServing k) n at is other = grind (arith, is, other)

@@ -72,13 +72,13 @@ abbrev pub views : List (Numbered View) → List View
 views vs = map (λ v. v.0) vs
 
 module _ {T : Type 0} where
-  -- the table of the lock, and its model
-  abbrev pub table : Opening T → T → Table TicketWords T TicketCall TicketPoint (Answer T)
-  table key value = ticket_table value key.start
+  -- the table of a lock whose first ticket has this number, and the lock's model
+  abbrev pub ticket_tables : ℕ → T → Table TicketWords T TicketCall TicketPoint (Answer T)
+  ticket_tables first value = ticket_table value first
 
   abbrev pub model : Opening T → Machine TicketWords T TicketCall TicketPoint (Answer T)
-  model key = model_at (table key) key
+  model = model_at ticket_tables
 
   -- what holds of the next number, the trace with the served number, and the parties
   abbrev pub IsQueue : Opening T → ℕ → Trace (Made T) ℕ → List (Numbered View) → Type 0
-  IsQueue key = RunsOn (table key) ticket_meaning with_second key
+  IsQueue = RunsOn ticket_tables ticket_meaning with_second

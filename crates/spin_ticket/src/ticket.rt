@@ -76,14 +76,14 @@ impl<T, R> TicketMutex<T, R> {
     /// # Contract
     /// The lock's history begins with this value (`opens`). The call returns.
     pub const fn new(value: T) -> Self
-        ensures opens { OpensWith value result }
+        ensures opens { OpensWith value (opening result) }
     {
         Self::starting_at(value, 0)
     }
 
     // Creates an unlocked mutex whose first ticket has the number `first`.
     pub(crate) const fn starting_at(value: T, first: u64) -> Self
-        ensures opens { OpensWith value result }
+        ensures opens { OpensWith value (opening result) }
     {
         let trace = Trace::new(first);
         let opening = Opening::starting_at(&trace, &value, &first);

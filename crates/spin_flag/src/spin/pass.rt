@@ -11,7 +11,7 @@ use super::{SpinMutex, SpinMutexGuard};
 use spin_core::guard::Guard;
 use spin_core::relax::{RelaxStrategy, Strategy};
 use spin_core::trace::Watch;
-use spin_session::calls::{SessionOf, ask, attempt, finish, free, wait_for, writer};
+use spin_session::calls::{SessionOf, ask, attempt, finish, free, guarded, wait_for};
 use spin_step::{Answer, FlagCall, Hold};
 use std::marker::{Model, PhantomData};
 use std::sync::Wait;
@@ -106,9 +106,7 @@ impl<'a, T, R: RelaxStrategy> Pass<'a, T, R> {
         let by = Strategy::<R>::named();
         let write = Some(Hold::Write);
         let call = FlagCall::Lock;
-        let session = wait_for(session, call, None, Answer::Granted, write, by, rt);
-        let (permit, seen) = writer(session, Hold::Write);
-        (Guard::new(permit), seen)
+        guarded(wait_for(session, call, None, Answer::Granted, write, by, rt))
     }
 }
 
@@ -136,10 +134,7 @@ impl<'a, T, R> Pass<'a, T, R> {
     {
         let Self { session, strategy } = self;
         match attempt(session, FlagCall::TryLock, None, Some(Hold::Write)) {
-            Ok(session) => {
-                let (permit, seen) = writer(session, Hold::Write);
-                Ok((Guard::new(permit), seen))
-            }
+            Ok(session) => Ok(guarded(session)),
             Err(session) => Err(Pass { session, strategy }),
         }
     }

@@ -3,7 +3,7 @@ ghost use Rattle.std.specs.Prelude.{refl};
 ghost use Rattle.spin_core.specs.Cell.{use_of};
 ghost use Rattle.spin_core.specs.Values.{untold};
 ghost use Rattle.spin_session.specs.Meaning.{ways_of};
-ghost use Rattle.spin_flag.specs.Flag.{IsFlag, flag_meaning, use_of_party};
+ghost use Rattle.spin_flag.specs.Flag.{IsFlag, flag_meaning, flag_tables, use_of_party};
 
 use spin_core::cell::{Rule, WritePermit};
 use spin_core::guard::{self, Uses};
@@ -50,7 +50,7 @@ impl<T> Runs<T> for FlagRule {
 
     type Table = FlagTable;
 
-    ghost its = { λ first. record {} };
+    ghost tables = { flag_tables };
 
     ghost meaning = { flag_meaning };
 

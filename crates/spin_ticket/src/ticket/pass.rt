@@ -1,13 +1,8 @@
 //! The calls of a [`TicketMutex`] by a thread that keeps track of them. Begin at [`TicketMutex::pass`].
-ghost use Rattle.std.specs.Prelude.{◌≡◌, ◌⊎◌, None, Some, IfOk, IfErr};
+ghost use Rattle.std.specs.Prelude.{◌≡◌, ◌⊎◌, None, IfOk, IfErr};
 ghost use mathlib.Core.List.{IsPrefix};
-ghost use Rattle.spin_core.specs.Cell.{use_of, writes};
-ghost use Rattle.spin_core.specs.Guard.{guard_value};
-ghost use Rattle.spin_core.specs.Own.{what};
-ghost use Rattle.spin_session.specs.Meaning.{use_at};
-ghost use Rattle.spin_ticket.specs.Queue.{ticket_meaning};
 ghost use Rattle.spin_session.specs.Turns.{IsNew, Stands, history, lock_of, spot};
-ghost use Rattle.spin_ticket.specs.TicketPasses.{Calls, TicketSpot, Grants, Holds, Unlocks, guard_spot, opening};
+ghost use Rattle.spin_ticket.specs.TicketPasses.{Calls, TicketSpot, Grants, Holds, Unlocks, opening};
 ghost use Rattle.spin_step.specs.declared.answer.Answer.TheVariants.{Refused, Is};
 ghost use Rattle.spin_step.specs.declared.ticket_calls.TicketCall.TheVariants.{Lock, TryLock, IsLocked};
 
@@ -16,7 +11,7 @@ use super::{TicketMutex, TicketMutexGuard};
 use spin_core::guard::Guard;
 use spin_core::relax::{RelaxStrategy, Strategy};
 use spin_core::trace::Watch;
-use spin_session::calls::{SessionOf, finish, first_round, free, in_three, peek, wait_on, writing};
+use spin_session::calls::{SessionOf, finish, first_round, free, guarded, in_three, peek, wait_on};
 use spin_step::{Answer, Hold, TicketCall};
 use std::marker::{Model, PhantomData};
 use std::sync::Wait;
@@ -171,18 +166,6 @@ impl<'a, T, R> Pass<'a, T, R> {
     {
         self.session.seen.compare(&other.session.seen);
     }
-}
-
-// Returns the guard of a party that was granted the lock, and what the party knows.
-fn guarded<'a, T, R>(
-    session: SessionOf<'a, T, TicketRule>,
-) -> (TicketMutexGuard<'a, T, R>, Watch<Entry<T>>)
-    requires { use_of (use_at ticket_meaning) (what session.permit.view) ≡ writes }
-    ensures spot { guard_spot result.0 result.1 ≡ spot session.entry }
-    ensures value { Some (guard_value result.0) ≡ session.entry.permit.value }
-{
-    let (writer, seen) = writing::<T, TicketRule>(session);
-    (Guard::new(writer), seen)
 }
 
 impl<T, R> Drop for Pass<'_, T, R> {

@@ -3,7 +3,7 @@ ghost use Rattle.std.specs.Prelude.{refl};
 ghost use Rattle.spin_core.specs.Cell.{use_of};
 ghost use Rattle.spin_core.specs.Values.{untold};
 ghost use Rattle.spin_session.specs.Meaning.{ways_of};
-ghost use Rattle.spin_ticket.specs.Queue.{IsQueue, ticket_meaning, use_of_party};
+ghost use Rattle.spin_ticket.specs.Queue.{IsQueue, ticket_meaning, ticket_tables, use_of_party};
 
 use super::HINTS_EACH;
 use spin_core::cell::{Rule, WritePermit};
@@ -53,7 +53,7 @@ impl<T> Runs<T> for TicketRule {
 
     type Table = TicketTable;
 
-    ghost its = { λ start. record { first = start } };
+    ghost tables = { ticket_tables };
 
     ghost meaning = { ticket_meaning };
 

@@ -10,7 +10,7 @@ use Rattle.spin_step.specs.Acts.{begin_of, operation_by}
 use Rattle.spin_step.specs.Operations.{wrapped}
 use Rattle.spin_step.specs.declared.answer.Answer.TheVariants.{Done}
 use Rattle.spin_step.specs.declared.place.Seat.TheVariants.{Holding}
-use Rattle.spin_session.specs.Meaning.{use_at, model_at}
+use Rattle.spin_session.specs.Meaning.{table_at, use_at, model_at}
 use Rattle.spin_session.specs.Operating.{Operates}
 use Rattle.spin_session.specs.Turns.{TurnTold, Spot, Frees}
 use Rattle.spin_session.proofs.Course.{starts_at, begins_so}
@@ -22,24 +22,24 @@ operate-permit-requires-clause-knows g c = rw c.into_permit-permit.ensures.key c
 
 pub operate-permit-requires-clause-keeps : goal.operate-permit-requires-clause-keeps
 operate-permit-requires-clause-keeps g c =
-    let a = c.args in let it = c.into_permit-permit in let p = it.result in let t = g.P.Table.Steps.table (g.P.Runs.its c.into_permit-permit.result.key.start) in let b = g.P.Runs.meaning in let call = a.call in let o = c.operation-operation in
-    let begins : ((t p.key.value).asks call (Some a.holds)).begins (Some a.holds) ≡ true = rw it.ensures.key c.requires.begins in
-    let t₀ = g.P.Table.Steps.table (g.P.Runs.its 0) in let alike = c.laws.ensures.alike p.key.value p.key.start in
+    let a = c.args in let it = c.into_permit-permit in let p = it.result in let t = g.P.Runs.tables in let b = g.P.Runs.meaning in let call = a.call in let o = c.operation-operation in
+    let begins : ((table_at t p.key).asks call (Some a.holds)).begins (Some a.holds) ≡ true = rw it.ensures.key c.requires.begins in
+    let t₀ = t 0 in let alike = c.laws.ensures.alike p.key.value p.key.start in
     let begun : c.start.result ≡ begin_of (t₀ p.key.value) call (Some a.holds) = rw c.table-table.ensures.is at (c.start.ensures p.key.value) in
     let done : o.result ≡ wrapped (operation_by ((t₀ p.key.value).act call c.in-Some.point (Some a.holds))) = rw c.table-table.ensures.is at (o.ensures.operation p.key.value) in
     let there : c.place-place.result ≡ (t₀ p.key.value).word c.in-Some.point = rw c.table-table.ensures.is at (c.place-place.ensures p.key.value) in
-    let start : c.in-Some.point ≡ (t p.key.value).start call (Some a.holds) = starts_at (t p.key.value) call (Some a.holds) c.in-Some.point begins (sym c.in-Some.is ∙ begun ∙ alike.begins call (Some a.holds)) in
-    let same : o.result ≡ wrapped (operation_by ((t p.key.value).act call ((t p.key.value).start call (Some a.holds)) (Some a.holds))) = rw start at (done ∙ ap wrapped (alike.operations call c.in-Some.point (Some a.holds))) in
-    let place : (t p.key.value).word ((t p.key.value).start call (Some a.holds)) ≡ c.place-place.result = sym (rw start at (there ∙ alike.places c.in-Some.point)) in
+    let start : c.in-Some.point ≡ (table_at t p.key).start call (Some a.holds) = starts_at (table_at t p.key) call (Some a.holds) c.in-Some.point begins (sym c.in-Some.is ∙ begun ∙ alike.begins call (Some a.holds)) in
+    let same : o.result ≡ wrapped (operation_by ((table_at t p.key).act call ((table_at t p.key).start call (Some a.holds)) (Some a.holds))) = rw start at (done ∙ ap wrapped (alike.operations call c.in-Some.point (Some a.holds))) in
+    let place : (table_at t p.key).word ((table_at t p.key).start call (Some a.holds)) ≡ c.place-place.result = sym (rw start at (there ∙ alike.places c.in-Some.point)) in
     let seat = c.requires.alone (sym (c.laws.ensures.uses a.writer.key (Some a.writer.view)) ∙ it.ensures.use_of_view) in
     let is : what p.view ≡ Some (Holding a.holds) = ap what it.ensures.same.0 ∙ ap Some seat in
-    let may : ((t p.key.value).asks call (Some a.holds)).begins (Some a.holds) ≡ true = rw it.ensures.key c.requires.begins in
+    let may : ((table_at t p.key).asks call (Some a.holds)).begins (Some a.holds) ≡ true = rw it.ensures.key c.requires.begins in
     let all = c.laws.ensures.gives p.key p.view a.writer.value call a.holds o.result same is may c.requires.held.0 c.requires.held.1 in
     subst (λ (x : Option g.row.T.Denot × ℕ). Operates g.P.Word.Word.words (g.P.Rule.holds p.key) (g.P.Rule.ways p.key) p.view x.0 x.1 o.result (TurnTold t b true (Some call) p.key p.view)) (λ i. (sym it.ensures.same.1 i, place i)) all
 
 pub returns-clause-out : goal.returns-clause-out
 returns-clause-out g c =
-    let a = c.args in let it = c.into_permit-permit in let p = it.result in let f = c.operate-permit in let t = g.P.Table.Steps.table (g.P.Runs.its c.into_permit-permit.result.key.start) in let b = g.P.Runs.meaning in let call = a.call in
+    let a = c.args in let it = c.into_permit-permit in let p = it.result in let f = c.operate-permit in let t = g.P.Runs.tables in let b = g.P.Runs.meaning in let call = a.call in
     let seat = c.requires.alone (sym (c.laws.ensures.uses a.writer.key (Some a.writer.view)) ∙ it.ensures.use_of_view) in
     let is : what p.view ≡ Some (Holding a.holds) = ap what it.ensures.same.0 ∙ ap Some seat in
     let from : Spot g.row.T.Denot g.row.P-Call.Denot g.row.P-Point.Denot = (p.key, p.view, a.seen) in
@@ -51,7 +51,7 @@ returns-clause-out g c =
 
 pub returns-clause-knows : goal.returns-clause-knows
 returns-clause-knows g c =
-    let a = c.args in let it = c.into_permit-permit in let p = it.result in let f = c.operate-permit in let t = g.P.Table.Steps.table (g.P.Runs.its c.into_permit-permit.result.key.start) in let b = g.P.Runs.meaning in let call = a.call in
+    let a = c.args in let it = c.into_permit-permit in let p = it.result in let f = c.operate-permit in let t = g.P.Runs.tables in let b = g.P.Runs.meaning in let call = a.call in
     let seat = c.requires.alone (sym (c.laws.ensures.uses a.writer.key (Some a.writer.view)) ∙ it.ensures.use_of_view) in
     let is : what p.view ≡ Some (Holding a.holds) = ap what it.ensures.same.0 ∙ ap Some seat in
     let from : Spot g.row.T.Denot g.row.P-Call.Denot g.row.P-Point.Denot = (p.key, p.view, a.seen) in
@@ -63,7 +63,7 @@ returns-clause-knows g c =
 
 pub returns-clause-releases : goal.returns-clause-releases
 returns-clause-releases g c named knew =
-    let a = c.args in let w = a.writer in let it = c.into_permit-permit in let p = it.result in let f = c.operate-permit in let t = g.P.Table.Steps.table (g.P.Runs.its c.into_permit-permit.result.key.start) in let b = g.P.Runs.meaning in let call = a.call in
+    let a = c.args in let w = a.writer in let it = c.into_permit-permit in let p = it.result in let f = c.operate-permit in let t = g.P.Runs.tables in let b = g.P.Runs.meaning in let call = a.call in
     let seat = c.requires.alone (sym (c.laws.ensures.uses a.writer.key (Some a.writer.view)) ∙ it.ensures.use_of_view) in
     let is : what p.view ≡ Some (Holding a.holds) = ap what it.ensures.same.0 ∙ ap Some seat in
     let from : Spot g.row.T.Denot g.row.P-Call.Denot g.row.P-Point.Denot = (p.key, p.view, a.seen) in
@@ -78,11 +78,11 @@ returns-clause-releases g c named knew =
     let last : IsLast p.key f.result.2.entries w.value = subst (λ o. IfSome o (IsLast p.key f.result.2.entries)) it.ensures.same.1 (all_last.1 (λ e. absurd (let no : off ≡ writes = sym e ∙ held in cc (no)))) in
     let all = releases t b call a.holds from now is frees its f.result.0 (c.laws.ensures.named p.key a.seen.name (ap (λ k. k.name) it.ensures.key ∙ named)) f.ensures.key
     (ap mark_of it.ensures.same.0 ∙ knew) w.value last moved in
-    subst (λ (z : Spot g.row.T.Denot g.row.P-Call.Denot g.row.P-Point.Denot). Releases (model_at (g.P.Table.Steps.table (g.P.Runs.its z.0.start))) (λ o. o) call Done w.value z now) (λ i. (it.ensures.key i, it.ensures.same.0 i, a.seen)) all
+    subst (λ (z : Spot g.row.T.Denot g.row.P-Call.Denot g.row.P-Point.Denot). Releases (model_at t) (λ o. o) call Done w.value z now) (λ i. (it.ensures.key i, it.ensures.same.0 i, a.seen)) all
 
 pub unreachable-requires : goal.unreachable-requires
 unreachable-requires g c =
-    let a = c.args in let p = c.into_permit-permit.result in let t = g.P.Table.Steps.table (g.P.Runs.its c.into_permit-permit.result.key.start) in
-    let begins : ((t p.key.value).asks a.call (Some a.holds)).begins (Some a.holds) ≡ true = rw c.into_permit-permit.ensures.key c.requires.begins in
-    let begun : c.start.result ≡ begin_of (g.P.Table.Steps.table (g.P.Runs.its 0) p.key.value) a.call (Some a.holds) = rw c.table-table.ensures.is at (c.start.ensures p.key.value) in
-    begins_so (t p.key.value) a.call (Some a.holds) begins (sym c.in-None.is ∙ begun ∙ (c.laws.ensures.alike p.key.value p.key.start).begins a.call (Some a.holds))
+    let a = c.args in let p = c.into_permit-permit.result in let t = g.P.Runs.tables in
+    let begins : ((table_at t p.key).asks a.call (Some a.holds)).begins (Some a.holds) ≡ true = rw c.into_permit-permit.ensures.key c.requires.begins in
+    let begun : c.start.result ≡ begin_of (t 0 p.key.value) a.call (Some a.holds) = rw c.table-table.ensures.is at (c.start.ensures p.key.value) in
+    begins_so (table_at t p.key) a.call (Some a.holds) begins (sym c.in-None.is ∙ begun ∙ (c.laws.ensures.alike p.key.value p.key.start).begins a.call (Some a.holds))

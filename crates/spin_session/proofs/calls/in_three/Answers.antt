@@ -1,37 +1,34 @@
-use Rattle.std.proofs.Common.{ℕ, ap, ◌∙◌, subst}
+use Rattle.std.proofs.Common.{◌∙◌, subst}
 use Rattle.spin_core.specs.declared.tie.Opening.{Opening}
-use Rattle.spin_session.specs.Turns.{Comes, GoesBy, Under, spot}
+use Rattle.spin_session.specs.Turns.{GoesBy, spot}
 use Rattle.spin_session.proofs.Course.{under, ended, answered_on}
 use Rattle.spin_session.proofs.calls.in_three.Goals as goal
 
 pub unreachable-requires : goal.unreachable-requires
 unreachable-requires g c =
-    let a = c.args in let s = g.P.Runs.meaning in let tab = λ (n : ℕ). g.P.Table.Steps.table (g.P.Runs.its n) in let key = a.session.permit.key in
+    let a = c.args in let s = g.P.Runs.meaning in let t = g.P.Runs.tables in let key = a.session.permit.key in
     let x = c.step-next in let y = c.step-next-in-Continue in let z = c.step-next-in-Continue-next in
-    let second = subst (λ (k : Opening g.row.T.Denot). GoesBy (tab k.start) s a.call c.in-Continue.second a.holds y.result.1 y.result.0 k) x.ensures.key y.ensures.goes in
-    let third = subst (λ (k : Opening g.row.T.Denot). GoesBy (tab k.start) s a.call c.in-Continue-next.third a.holds z.result.1 z.result.0 k) (y.ensures.key ∙ x.ensures.key) z.ensures.goes in
-    answered_on (tab key.start) s a.call a.holds key c.requires.once x.result.1 y.result.1 z.result.1 c.in-Continue.second c.in-Continue-next.third x.result.0 y.result.0 z.result.0
+    let second = subst (λ (k : Opening g.row.T.Denot). GoesBy t s a.call c.in-Continue.second a.holds y.result.1 y.result.0 k) x.ensures.key y.ensures.goes in
+    let third = subst (λ (k : Opening g.row.T.Denot). GoesBy t s a.call c.in-Continue-next.third a.holds z.result.1 z.result.0 k) (y.ensures.key ∙ x.ensures.key) z.ensures.goes in
+    answered_on t s a.call a.holds key c.requires.once x.result.1 y.result.1 z.result.1 c.in-Continue.second c.in-Continue-next.third x.result.0 y.result.0 z.result.0
     (rw c.point_of-first.ensures.start at x.ensures.goes) c.in-Continue.is second c.in-Continue-next.is third c.in-Continue-next-2.field-0 c.in-Continue-next-2.is
 
 pub returns-in-Answers-clause-ended : goal.returns-in-Answers-clause-ended
 returns-in-Answers-clause-ended g c =
     let a = c.args in let x = c.step-next in let from = spot a.session in
-    ended (g.P.Table.Steps.table (g.P.Runs.its a.session.permit.key.start)) g.P.Runs.meaning a.call a.holds from (spot x.result.2) x.result.0 (x.ensures.comes from c.point_of-first.ensures.under) _ _ c.in-Answers.is
+    ended g.P.Runs.tables g.P.Runs.meaning a.call a.holds from (spot x.result.2) x.result.0 (x.ensures.comes from c.point_of-first.ensures.under) _ _ c.in-Answers.is
 
 pub returns-in-Answers-next-clause-ended : goal.returns-in-Answers-next-clause-ended
 returns-in-Answers-next-clause-ended g c =
-    let a = c.args in let s = g.P.Runs.meaning in let tab = λ (n : ℕ). g.P.Table.Steps.table (g.P.Runs.its n) in let t = tab a.session.permit.key.start in let from = spot a.session in
+    let a = c.args in let s = g.P.Runs.meaning in let t = g.P.Runs.tables in let from = spot a.session in
     let x = c.step-next in let y = c.step-next-in-Continue in
     let on = under t s a.call a.holds from (spot x.result.2) x.result.0 (x.ensures.comes from c.point_of-first.ensures.under) c.in-Continue.second c.in-Continue.is in
-    let came = subst (λ n. Under (tab n) s a.call from (spot x.result.2) → Comes (tab n) s a.call a.holds y.result.0 from (spot y.result.2)) (ap (λ k. k.start) x.ensures.key) (y.ensures.comes from) on in
-    ended t s a.call a.holds from (spot y.result.2) y.result.0 came _ _ c.in-Answers-next.is
+    ended t s a.call a.holds from (spot y.result.2) y.result.0 (y.ensures.comes from on) _ _ c.in-Answers-next.is
 
 pub returns-in-Answers-next-2-clause-ended : goal.returns-in-Answers-next-2-clause-ended
 returns-in-Answers-next-2-clause-ended g c =
-    let a = c.args in let s = g.P.Runs.meaning in let tab = λ (n : ℕ). g.P.Table.Steps.table (g.P.Runs.its n) in let t = tab a.session.permit.key.start in let from = spot a.session in
+    let a = c.args in let s = g.P.Runs.meaning in let t = g.P.Runs.tables in let from = spot a.session in
     let x = c.step-next in let y = c.step-next-in-Continue in let z = c.step-next-in-Continue-next in
     let on = under t s a.call a.holds from (spot x.result.2) x.result.0 (x.ensures.comes from c.point_of-first.ensures.under) c.in-Continue.second c.in-Continue.is in
-    let came = subst (λ n. Under (tab n) s a.call from (spot x.result.2) → Comes (tab n) s a.call a.holds y.result.0 from (spot y.result.2)) (ap (λ k. k.start) x.ensures.key) (y.ensures.comes from) on in
-    let on' = under t s a.call a.holds from (spot y.result.2) y.result.0 came c.in-Continue-next.third c.in-Continue-next.is in
-    let came' = subst (λ n. Under (tab n) s a.call from (spot y.result.2) → Comes (tab n) s a.call a.holds z.result.0 from (spot z.result.2)) (ap (λ k. k.start) (y.ensures.key ∙ x.ensures.key)) (z.ensures.comes from) on' in
-    ended t s a.call a.holds from (spot z.result.2) z.result.0 came' _ _ c.in-Answers-next-2.is
+    let on' = under t s a.call a.holds from (spot y.result.2) y.result.0 (y.ensures.comes from on) c.in-Continue-next.third c.in-Continue-next.is in
+    ended t s a.call a.holds from (spot z.result.2) z.result.0 (z.ensures.comes from on') _ _ c.in-Answers-next-2.is

@@ -1,22 +1,18 @@
-use Rattle.std.proofs.Common.{ℕ, Option, ap, subst}
-use Rattle.spin_step.specs.declared.answer.Answer.{Answer}
-use Rattle.spin_step.specs.declared.place.Hold.{Hold}
-use Rattle.spin_session.specs.Turns.{Ended, Under, spot}
+use Rattle.spin_session.specs.Turns.{spot}
 use Rattle.spin_session.proofs.Course.{under, ended, settled}
 use Rattle.spin_session.proofs.calls.wait_for.Goals as goal
 
 pub returns-in-Answers : goal.returns-in-Answers
 returns-in-Answers g c =
-    let a = c.args in let f = c.round-next in let t = g.P.Table.Steps.table (g.P.Runs.its c.args.session.permit.key.start) in let s = g.P.Runs.meaning in let from = spot a.session in
+    let a = c.args in let f = c.round-next in let t = g.P.Runs.tables in let s = g.P.Runs.meaning in let from = spot a.session in
     let end = ended t s a.call a.holds from (spot f.result.3) f.result.0 (f.ensures.comes from c.point_of-point.ensures.under) _ _ c.in-Answers.is in
     let all = settled t s a.call a.holds from (spot f.result.3) f.ensures.knows _ _ end a.answer a.after c.requires.answers in
     record { stands = all.0; calls = all.1; last = f.ensures.last }
 
 pub returns-in-Continue : goal.returns-in-Continue
 returns-in-Continue g c =
-    let a = c.args in let f = c.round-next in let w = c.wait in let t = g.P.Table.Steps.table (g.P.Runs.its c.args.session.permit.key.start) in let s = g.P.Runs.meaning in let from = spot a.session in
+    let a = c.args in let f = c.round-next in let w = c.wait in let t = g.P.Runs.tables in let s = g.P.Runs.meaning in let from = spot a.session in
     let on = under t s a.call a.holds from (spot f.result.3) f.result.0 (f.ensures.comes from c.point_of-point.ensures.under) _ c.in-Continue.is in
-    let tab = λ (n : ℕ). g.P.Table.Steps.table (g.P.Runs.its n) in
-    let (b, k, end) = subst (λ n. Under (tab n) s a.call from (spot f.result.3) → (b : Answer (Unit {0})) × (k : Option Hold) × Ended (tab n) s a.call a.holds b k from (spot w.result)) (ap (λ k. k.start) f.ensures.key) (w.ensures.ended from) on in
+    let (b, k, end) = w.ensures.ended from on in
     let all = settled t s a.call a.holds from (spot w.result) w.ensures.knows b k end a.answer a.after c.requires.answers in
     record { stands = all.0; calls = all.1; last = w.ensures.last }

@@ -7,7 +7,7 @@ use Rattle.spin_step.specs.declared.stepped.Next.TheVariants.{Answers}
 use Rattle.spin_session.specs.Meaning.{model_at}
 use Rattle.spin_session.specs.Turns.{spot}
 use Rattle.spin_session.proofs.Executing.{executes}
-use Rattle.spin_flag.specs.Flag.{flag_meaning}
+use Rattle.spin_flag.specs.Flag.{flag_meaning, flag_tables}
 use Rattle.spin_flag.proofs.FlagRefines.{flag_refines, holding_of}
 use Rattle.spin_flag.proofs.spin.SpinMutex.unlock.Goals as goal
 
@@ -23,5 +23,5 @@ free-requires g c = let w = c.into_writer-writer in record {
 pub returns : goal.returns
 returns g c =
     let is = c.into_writer-writer.ensures in let f = c.free in
-    subst (λ w. Releases (model_at flag_table) (λ o. o) Release Done w.value (w.key, Some w.view, c.args.seen) (spot f.result)) is
+    subst (λ w. Releases (model_at flag_tables) (λ o. o) Release Done w.value (w.key, Some w.view, c.args.seen) (spot f.result)) is
     (f.ensures.releases (ap (λ p. p.key.name) is ∙ c.requires.0) (ap (λ p. p.view.2) is ∙ c.requires.1))

@@ -5,7 +5,7 @@ use Rattle.spin_core.proofs.Sends.{entry, sends_word_less}
 use Rattle.spin_core.proofs.Values.{opens_last}
 use Rattle.spin_session.proofs.Refining.{starts}
 use Rattle.spin_seats.specs.Meaning.{seats_meaning}
-use Rattle.spin_seats.specs.Rule.{table_of}
+use Rattle.spin_seats.specs.Table.{seats_table}
 use Rattle.spin_seats.specs.contracts.calls.SeatsCall as call
 use Rattle.spin_seats.proofs.Seating.{seats_refine}
 use Rattle.spin_seats.proofs.seats.Seats.new.Goals as goal
@@ -15,4 +15,4 @@ new-cell-requires-clause-known g c = let fine : IsSync unit = search sendable in
 
 pub new-cell-requires-clause-rule : goal.new-cell-requires-clause-rule
 new-cell-requires-clause-rule g c = let o = c.of-opening in let t = c.new-trace in
-    ([], refl, starts (table_of g.row.N tt) (seats_meaning g.row.N) (seats_refine g.row.N) o.result t.result (sym o.ensures.0) t.ensures.0, (opens_last o.result t.result.entries tt t.ensures.0 o.ensures.1, tt))
+    ([], refl, starts (seats_table g.row.N) (seats_meaning g.row.N) (seats_refine g.row.N) o.result t.result (sym o.ensures.0) t.ensures.0, (opens_last o.result t.result.entries tt t.ensures.0 o.ensures.1, tt))

@@ -4,10 +4,10 @@ use Rattle.spin_step.specs.declared.answer.Answer.TheVariants.{Done}
 use Rattle.spin_step.specs.declared.ticket_calls.TicketCall.TheVariants.{Release}
 use Rattle.spin_session.specs.Meaning.{Peeks, with_second}
 use Rattle.spin_session.specs.Turns.{spot}
-use Rattle.spin_ticket.specs.Queue.{model, ticket_meaning}
+use Rattle.spin_session.proofs.Granted.{released_behind}
+use Rattle.spin_ticket.specs.Queue.{model, ticket_meaning, ticket_tables}
 use Rattle.spin_ticket.specs.TicketPasses.{TicketSpot}
 use Rattle.spin_ticket.proofs.TicketRefines.{peeked_seat}
-use Rattle.spin_ticket.proofs.Granted.{released_behind}
 use Rattle.spin_ticket.proofs.ticket.TicketMutex.unlock.Goals as goal
 
 pub free-requires-clause-alone : goal.free-requires-clause-alone
@@ -21,5 +21,5 @@ returns g c =
     let since = k.ensures.since named (ap (λ x. x.view.2) is ∙ c.requires.1) in
     let now : TicketSpot g.row.T.Denot = (k.result.1.key, Some k.result.1.view, k.result.2) in
     let so = f.ensures.releases (ap (λ x. x.name) k.ensures.key ∙ named ∙ sym since.0.1) since.1 in
-    let all = released_behind w.value (w.key, Some w.view, seen) now (spot f.result) since.0 (subst (λ x. Releases model (λ o. o) Release Done x now (spot f.result)) k.ensures.value so) in
+    let all = released_behind ticket_tables Release w.value (w.key, Some w.view, seen) now (spot f.result) since.0 (subst (λ x. Releases model (λ o. o) Release Done x now (spot f.result)) k.ensures.value so) in
     subst (λ x. Releases model (λ o. o) Release Done x.value (x.key, Some x.view, seen) (spot f.result)) is all

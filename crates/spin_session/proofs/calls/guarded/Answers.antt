@@ -1,0 +1,11 @@
+use Rattle.std.proofs.Common.{◌≡◌, Some, ap, ◌∙◌}
+use Rattle.spin_session.specs.Passes.{guard_spot}
+use Rattle.spin_session.specs.Turns.{spot}
+use Rattle.spin_session.proofs.Granted.{granted}
+use Rattle.spin_session.proofs.calls.guarded.Goals as goal
+
+pub returns : goal.returns
+returns g c =
+    let it = c.args.session in let w = c.writing-writer in let new = c.new.ensures in let own = w.ensures in
+    let same : guard_spot c.new.result w.result.1 ≡ spot it = λ i. ((ap (λ x. x.key) new ∙ own.key) i, (ap (λ x. Some x.view) new ∙ own.same.0) i, own.seen i) in
+    record { grants = granted g.P.Runs.tables g.P.Runs.meaning (spot it) it.permit.value c.new.result w.result.1 same (ap (λ x. Some x.value) new ∙ own.same.1) c.requires.writes c.requires.last }
