@@ -5,7 +5,7 @@ use crate::case::{
 };
 use crate::team::Team;
 use spin_barrier::barrier::Barrier;
-use spin_core::relax::Yield;
+use spin_core::relax::{SpinThenYield, Yield};
 use spin_fair::fair::FairMutex;
 use spin_flag::spin::SpinMutex;
 use spin_mutex::mutex::Mutex;
@@ -40,12 +40,13 @@ const ALONE: [&str; 8] = [
 ];
 
 /// The cases of one thread or several, except `barrier_rounds`.
-const BESIDE: [&str; 13] = [
+const BESIDE: [&str; 14] = [
     "floor",
     "spin_mutex",
     "spin_mutex_pass",
     "mutex",
     "mutex_yield",
+    "mutex_spin_then_yield",
     "ticket_mutex",
     "fair_mutex",
     "rw_read",
@@ -163,6 +164,9 @@ fn on_name<R: Threads + Wait + Clock + Print + AllocGlobal + Sync>(
         "spin_mutex_pass" => on_case(rt, task, threads, PassAdds(SpinMutex::new(0))),
         "mutex" => on_case(rt, task, threads, Adds(<Mutex<u64>>::new(0))),
         "mutex_yield" => on_case(rt, task, threads, Adds(<Mutex<u64, Yield>>::new(0))),
+        "mutex_spin_then_yield" => {
+            on_case(rt, task, threads, Adds(<Mutex<u64, SpinThenYield>>::new(0)))
+        }
         "ticket_mutex" => on_case(rt, task, threads, Adds(<TicketMutex<u64>>::new(0))),
         "fair_mutex" => on_case(rt, task, threads, Adds(<FairMutex<u64>>::new(0))),
         "rw_read" => on_case(rt, task, threads, Calls(Readers(RwLock::new(1)))),

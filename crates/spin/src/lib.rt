@@ -6,7 +6,7 @@
 #![tactic(auto)]
 
 pub use mutex::MutexGuard;
-pub use relax::{RelaxStrategy, Spin, Yield};
+pub use relax::{RelaxStrategy, Spin, SpinThenYield, Yield};
 pub use rwlock::RwLockReadGuard;
 pub use spin_barrier::barrier;
 pub use spin_core::{laws, lock, relax};

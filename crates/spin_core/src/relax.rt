@@ -1,5 +1,5 @@
-//! How a waiting call passes the time between two looks at a lock's word. Begin with [`RelaxStrategy`] and its three
-//! implementations [`Spin`], [`Yield`] and [`Loop`].
+//! How a waiting call passes the time between two looks at a lock's word. Begin with [`RelaxStrategy`] and its four
+//! implementations [`Spin`], [`Yield`], [`SpinThenYield`] and [`Loop`].
 ghost use Rattle.std.specs.Prelude.{Some};
 ghost use Rattle.spin_core.specs.Retries.{Succeeds};
 
@@ -46,12 +46,24 @@ pub trait RelaxStrategy {
         Self::relax(rt);
     }
 
-    /// Pauses for so many hints, but for at most [`MAX_HINTS`]. Every waiting call of a lock passes its time by this
-    /// call alone.
-    // Where a loop bounds its own count of hints too, this bound costs nothing.
+    /// Passes the time between two attempts of a call whose earlier pauses had `given` hints in all. So a strategy can
+    /// do something else when a call has waited for long, as [`SpinThenYield`] does. The default `pause_after` calls
+    /// `pause`.
+    fn pause_after<W: Wait>(rt: &W, hints: u32, given: u32) {
+        let _ = given;
+        Self::pause(rt, hints);
+    }
+
+    /// Pauses for so many hints, but for at most [`MAX_HINTS`], in a call whose earlier pauses had `given` hints in all.
+    /// Returns how many hints they had with this pause. Every waiting call of a lock passes its time by this call
+    /// alone.
+    // Where a loop bounds its own count of hints too, this bound costs nothing. Where the strategy does not read `given`,
+    // the count costs nothing.
     #[inline(always)]
-    final fn bounded_pause<W: Wait>(rt: &W, hints: u32) {
-        Self::pause(rt, hints.min(MAX_HINTS));
+    final fn bounded_pause<W: Wait>(rt: &W, hints: u32, given: u32) -> u32 {
+        let hints = hints.min(MAX_HINTS);
+        Self::pause_after(rt, hints, given);
+        given.saturating_add(hints)
     }
 
     /// Relaxes and tries again, until an attempt succeeds.
@@ -110,9 +122,10 @@ fn try_again<R: RelaxStrategy, S, A, F: Fn(S) -> Result<A, S>, W: Wait>(
     ensures { Succeeds (F.post attempt) state result }
 {
     let mut hints = 1;
+    let mut given = 0;
     let mut state = state;
     for _ in rt.forever() {
-        R::bounded_pause(rt, hints);
+        given = R::bounded_pause(rt, hints, given);
         match attempt(state) {
             Ok(answer) => return answer,
             Err(next) => state = next,
@@ -156,6 +169,47 @@ impl RelaxStrategy for Yield {
     fn relax<W: Wait>(rt: &W) {
         let _ = rt;
         yield_now();
+    }
+}
+
+// The most hints that a call gives with the strategy `SpinThenYield`. They take about as long as a switch to another
+// thread.
+const SPIN_LIMIT: u32 = 32;
+
+// If no other thread wants the processor, a yield takes about as long as so many hints.
+const HINTS_A_YIELD: u32 = 16;
+
+/// The strategy that spins like [`Spin`] while a call has not waited for long, and then yields like [`Yield`].
+///
+/// Use it where more threads may wait than there are processors. There a queue with [`Spin`] nearly stands still, since
+/// the thread that is next may have no processor. Where each thread has a processor, `SpinThenYield` is as fast as
+/// `Spin`. A call gives at most 32 hints in all. A pause that yields does so again if it has many hints, so that waiting
+/// threads disturb the holder no more often than with `Spin`.
+///
+/// # Examples
+/// ```
+/// use spin::SpinThenYield;
+/// use spin::mutex::Mutex;
+/// use std::thread;
+///
+/// let last: Mutex<u64, SpinThenYield> = Mutex::new(0);
+/// thread::join(&rt, || *last.lock(&rt) = 1, || *last.lock(&rt) = 2);
+/// assert!(rt; [1, 2].contains(&last.into_inner()));
+/// ```
+pub struct SpinThenYield;
+
+impl RelaxStrategy for SpinThenYield {
+    fn relax<W: Wait>(rt: &W) {
+        Yield::relax(rt);
+    }
+
+    fn pause_after<W: Wait>(rt: &W, hints: u32, given: u32) {
+        if given.saturating_add(hints) <= SPIN_LIMIT {
+            return Spin::pause(rt, hints);
+        }
+        for _ in 0..(hints / HINTS_A_YIELD).max(1) {
+            Self::relax(rt);
+        }
     }
 }
 

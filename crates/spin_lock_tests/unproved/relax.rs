@@ -1,6 +1,11 @@
 //! How long a waiting call pauses. No contract says this.
 use crate::equal::equal;
-use spin_core::relax::{MAX_HINTS, RelaxStrategy};
+use crate::mutex::threads::sum_of;
+use spin_core::relax::{MAX_HINTS, RelaxStrategy, SpinThenYield};
+use spin_fair::fair::FairMutex;
+use spin_flag::spin::SpinMutex;
+use spin_mutex::mutex::Mutex;
+use spin_rwlock::rwlock::RwLock;
 use std::cell::Cell;
 use std::sync::Wait;
 
@@ -36,6 +41,27 @@ impl RelaxStrategy for Bounded {
     }
 }
 
+/// A strategy whose `pause_after` never returns unless `given` is the sum of the hints that a `back_off` gave before.
+struct Counted;
+
+impl RelaxStrategy for Counted {
+    fn relax<W: Wait>(rt: &W) {
+        let _ = rt;
+    }
+
+    fn pause_after<W: Wait>(rt: &W, hints: u32, given: u32) {
+        let is_sum = if hints < MAX_HINTS {
+            given == hints.wrapping_sub(1)
+        } else {
+            given % MAX_HINTS == MAX_HINTS - 1
+        };
+        if is_sum {
+            return;
+        }
+        for _ in rt.forever() {}
+    }
+}
+
 // So many attempts that a number doubled after each one would overflow.
 const ATTEMPTS: u32 = 100;
 
@@ -48,7 +74,7 @@ fn attempt(attempts: &Cell<u32>) -> Result<(), ()> {
 #[test]
 fn a_bounded_pause_has_at_most_so_many_hints_as_the_bound(rt: HostRuntime) {
     for hints in [1, 2, MAX_HINTS, MAX_HINTS + 1, u32::MAX] {
-        Bounded::bounded_pause(&rt, hints);
+        Bounded::bounded_pause(&rt, hints, 0);
     }
 }
 
@@ -64,4 +90,34 @@ fn a_back_off_pauses_for_a_power_of_two_up_to_a_bound(rt: HostRuntime) {
     let attempts = Cell::new(0u32);
     Bounded::back_off(&rt, (), |()| attempt(&attempts));
     equal(&rt, attempts.get(), ATTEMPTS);
+}
+
+#[test]
+fn a_bounded_pause_counts_its_hints(rt: HostRuntime) {
+    let counts = [
+        Single::bounded_pause(&rt, 1, 0),
+        Bounded::bounded_pause(&rt, u32::MAX, 3),
+        Bounded::bounded_pause(&rt, 1, u32::MAX),
+    ];
+    equal(&rt, counts, [1, MAX_HINTS + 3, u32::MAX]);
+}
+
+#[test]
+fn a_back_off_counts_the_hints_of_all_its_pauses(rt: HostRuntime) {
+    let attempts = Cell::new(0u32);
+    Counted::back_off(&rt, (), |()| attempt(&attempts));
+    equal(&rt, attempts.get(), ATTEMPTS);
+}
+
+// Whoever is next in a queue of eight threads may have no processor.
+#[test]
+fn eight_threads_that_spin_then_yield_lose_no_addition(rt: HostRuntime) {
+    let alloc = rt.alloc();
+    let sums = [
+        sum_of(&rt, alloc, &SpinMutex::<u64, SpinThenYield>::new(0), 8),
+        sum_of(&rt, alloc, &FairMutex::<u64, SpinThenYield>::new(0), 8),
+        sum_of(&rt, alloc, &Mutex::<u64, SpinThenYield>::new(0), 8),
+        sum_of(&rt, alloc, &RwLock::<u64, SpinThenYield>::new(0), 8),
+    ];
+    equal(&rt, sums, [8000; 4]);
 }

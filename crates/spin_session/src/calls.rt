@@ -462,6 +462,7 @@ fn wait<'a, T, P: Runs<T>, R: RelaxStrategy, W: Wait>(
     ensures last { SeesLast result }
 {
     let mut last = 0;
+    let mut given = 0;
     let mut from = point;
     let mut number = found;
     let mut at = point_after::<T, P>(&session, call, point, holds, found);
@@ -469,7 +470,7 @@ fn wait<'a, T, P: Runs<T>, R: RelaxStrategy, W: Wait>(
     for _ in rt.forever() {
         let hints = P::hints(call, from, at, holds, number, last);
         if hints > 0 {
-            R::bounded_pause(rt, hints);
+            given = R::bounded_pause(rt, hints, given);
             last = hints;
         }
         let (next, point, found, further) = round(party, call, at, holds);

@@ -177,8 +177,9 @@ impl<'a, T> Awaiting<'a, T> {
         ensures { (was : TheAccount T) → Goes Waits was self.entry.account → IsServed was result }
     {
         let mut awaiting = self;
+        let mut given = 0;
         for _ in rt.forever() {
-            R::bounded_pause(rt, MAX_HINTS);
+            given = R::bounded_pause(rt, MAX_HINTS, given);
             match awaiting.look_and_try() {
                 Ok(held) => return held,
                 Err(next) => awaiting = next,

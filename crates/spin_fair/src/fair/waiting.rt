@@ -24,8 +24,9 @@ impl<'a, T> Waiting<'a, T> {
         ensures gets { (was : TheAccount T) → Goes (Comes false Lock None) was self.entry.account → Gets (Comes false Lock (Some Granted)) was result }
     {
         let mut waiting = self;
+        let mut given = 0;
         for _ in rt.forever() {
-            R::bounded_pause(rt, MAX_HINTS);
+            given = R::bounded_pause(rt, MAX_HINTS, given);
             match waiting.look_and_try(rt) {
                 Ok(held) => return held,
                 Err(next) => waiting = next,

@@ -40,8 +40,8 @@ impl<L: Lock<u64>> Crew for Adders<'_, L> {
     }
 }
 
-// Returns the sum that so many threads make.
-fn sum_of<L: Lock<u64> + Sync, R: Abort + Threads + Wait + Sync>(
+/// Returns the sum that so many threads make.
+pub fn sum_of<L: Lock<u64> + Sync, R: Abort + Threads + Wait + Sync>(
     rt: &R,
     alloc: Global,
     lock: &L,

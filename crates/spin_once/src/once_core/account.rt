@@ -163,8 +163,9 @@ impl<'a, T, S: Seed<T>> Account<'a, T, S> {
         ensures { (p : Place T S) → Since p Goes (here self.entry) → Claims C.may_fail p result }
     {
         let mut account = self;
+        let mut given = 0;
         for _ in rt.forever() {
-            R::bounded_pause(rt, 1);
+            given = R::bounded_pause(rt, 1, given);
             match account.look_and_begin::<C>() {
                 Ok(claim) => return claim,
                 Err(next) => account = next,
@@ -220,12 +221,13 @@ impl<'a, T, S: Seed<T>> Account<'a, T, S> {
         ensures { Since (here self.entry) (IsCall WaitCall (Value tt)) (here result.account) }
     {
         let mut account = self;
+        let mut given = 0;
         for _ in rt.forever() {
             let (found, next) = account.load::<Waits>();
             if found == COMPLETE {
                 return Found { account: next };
             }
-            R::bounded_pause(rt, 1);
+            given = R::bounded_pause(rt, 1, given);
             account = next;
         }
         unreachable!()
@@ -240,6 +242,7 @@ impl<'a, T, S: Seed<T>> Account<'a, T, S> {
         ensures { Finds Poll (here self.entry) result }
     {
         let mut account = self;
+        let mut given = 0;
         for _ in rt.forever() {
             let (found, next) = account.load::<Polls>();
             if found == COMPLETE {
@@ -248,7 +251,7 @@ impl<'a, T, S: Seed<T>> Account<'a, T, S> {
             if found == NOTHING {
                 return Err(next);
             }
-            R::bounded_pause(rt, 1);
+            given = R::bounded_pause(rt, 1, given);
             account = next;
         }
         unreachable!()

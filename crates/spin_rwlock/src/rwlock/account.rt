@@ -162,9 +162,10 @@ impl<'a, T> Waiting<'a, T> {
         ensures { IsGranted Write (sight self.entry.account) (writes_at result) }
     {
         let mut hints = 1;
+        let mut given = 0;
         let mut waiting = self;
         for _ in rt.forever() {
-            R::bounded_pause(rt, hints);
+            given = R::bounded_pause(rt, hints, given);
             let Self { account } = waiting;
             match account.write() {
                 Ok(held) => return held,

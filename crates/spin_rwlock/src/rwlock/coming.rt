@@ -232,9 +232,10 @@ impl<'a, T, K: Kind, R: RelaxStrategy> Coming<'a, T, K, Waits, R> {
         ensures { IsLetIn (call_of K.view true) self.entry result }
     {
         let mut coming = self;
+        let mut given = 0;
         for _ in rt.forever() {
             let looked = if coming.is_kept_out() {
-                R::bounded_pause(rt, 1);
+                given = R::bounded_pause(rt, 1, given);
                 coming.look()
             } else {
                 stand_back(rt);
@@ -280,7 +281,7 @@ impl<'a, T, K: Kind, R: RelaxStrategy> Coming<'a, T, K, Waits, R> {
 // Waits for `STAND_BACK` hints.
 fn stand_back<W: Wait>(rt: &W) {
     for _ in 0..STAND_BACK / MAX_HINTS {
-        Spin::bounded_pause(rt, MAX_HINTS);
+        Spin::bounded_pause(rt, MAX_HINTS, 0);
     }
 }
 

@@ -276,8 +276,9 @@ fn wait_to_upgrade<'a, T, R: RelaxStrategy, W: Wait>(
     ensures value { Some (write_value result) ≡ asking.entry.permit.value }
 {
     let mut asking = asking;
+    let mut given = 0;
     for _ in rt.forever() {
-        R::bounded_pause(rt, 1);
+        given = R::bounded_pause(rt, 1, given);
         match raise_asked(asking.forget()) {
             Ok((guard, _)) => return guard,
             Err(still) => asking = still,
@@ -299,8 +300,9 @@ fn wait_to_upgrade_seen<'a, T, R: RelaxStrategy, W: Wait>(
     ensures granted { IsGranted Upgrade (sight asking.entry) (writes_at result) }
 {
     let mut asking = asking;
+    let mut given = 0;
     for _ in rt.forever() {
-        R::bounded_pause(rt, 1);
+        given = R::bounded_pause(rt, 1, given);
         match raise_asked(asking) {
             Ok(held) => return held,
             Err(still) => asking = still,
