@@ -15,7 +15,7 @@ use Rattle.spin_core.specs.declared.tie.Opening.{Opening}
 use Rattle.spin_core.proofs.Leaving.{flag_word-up}
 use Rattle.spin_core.proofs.Views.{release-own}
 use Rattle.spin_session.specs.Meaning.{Sound, ComesFrom, Refines, use_at}
-use Rattle.spin_session.specs.Turns.{IsAnsweredBy, IsTry}
+use Rattle.spin_session.specs.Turns.{IsAnswered, IsAnsweredBy, IsTry}
 use Rattle.spin_step.specs.Acts.{is_section}
 use Rattle.spin_session.proofs.Word.{word_is}
 use Rattle.spin_session.proofs.Readers.{OnlyReads, all_read, as_many_hold, readers_fit}
@@ -24,7 +24,7 @@ use Rattle.spin_seats.specs.Rule.{IsWord, View, part, seated, seats_tables}
 use Rattle.spin_seats.specs.Seats.{seats, seats_word, entered}
 use Rattle.spin_seats.specs.Table.{seats_table, act_of}
 use Rattle.spin_seats.specs.declared.calls.SeatsCall.{SeatsCall}
-use Rattle.spin_seats.specs.declared.calls.SeatsCall.TheVariants.{TryEnter, Enter, Count, Leave}
+use Rattle.spin_seats.specs.declared.calls.SeatsCall.TheVariants.{TryEnter, TryEnterWeak, Enter, Count, Leave}
 use Rattle.spin_seats.specs.declared.calls.SeatsPoint.{SeatsPoint}
 use Rattle.spin_seats.specs.declared.calls.SeatsPoint.TheVariants.{First, Exchange}
 use Rattle.spin_seats.proofs.Taken.{enter-grants, leave-gives}
@@ -48,6 +48,8 @@ module _ (n : ℕ) where
       → ComesFrom (seats_table n) (seats_meaning n) c l h from → s.cap ≡ seats n → IsInOrder s → IsLockOf (part n) vs s
       → seats_word s ≤ seats n → HasPart s p from → Sound (seats_table n) (seats_meaning n) c l h p s from
   sound TryEnter l None p s vs from comes room order is few has = grind (arith, comes, grants p s vs room is few, few)
+  sound TryEnterWeak First None p s vs from comes room order is few has = grind (arith, comes, grants p s vs room is few, few)
+  sound TryEnterWeak (Exchange k) None p s vs from comes room order is few has = grind (arith, comes, grants p s vs room is few, few)
   sound Enter l None p s vs from comes room order is few has = grind (arith, comes, grants p s vs room is few, few)
   sound Count l None p s vs from comes room order is few has = grind (arith, comes, few)
   sound Leave l (Some hold.Read) p s vs from comes room order is few has =
@@ -88,6 +90,9 @@ module _ (n : ℕ) where
   pub try_answers : (key : Opening (Unit {0})) → IsTry (seats_tables n) TryEnter None (Some hold.Read) key
   try_answers key First w b k is = grind (arith, is)
   try_answers key (Exchange j) w b k is = grind (arith, is)
+
+  pub weak_answers : (key : Opening (Unit {0})) → IsTry (table_of n) TryEnterWeak None (Some hold.Read) key × IsAnswered (table_of n) TryEnterWeak None key
+  weak_answers key = (grind arith, grind arith)
 
   -- the word is the number of parties that have a seat
   one_sits : (v : View) → reads_of (use_at (seats_meaning n) v) ≡ seated (v ∷ [])

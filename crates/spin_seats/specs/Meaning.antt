@@ -7,12 +7,13 @@ use Rattle.spin_core.specs.Views.{Part, idle, holds}
 use Rattle.spin_session.specs.Meaning.{Meaning}
 use Rattle.spin_seats.specs.Seats.{seats, seats_word}
 use Rattle.spin_seats.specs.declared.calls.SeatsCall.{SeatsCall}
-use Rattle.spin_seats.specs.declared.calls.SeatsCall.TheVariants.{TryEnter, Enter}
+use Rattle.spin_seats.specs.declared.calls.SeatsCall.TheVariants.{TryEnter, TryEnterWeak, Enter}
 use Rattle.spin_seats.specs.declared.calls.SeatsPoint.{SeatsPoint}
 
 -- a party rests only in a call that takes a seat, and has none yet
 abbrev pub part_in_call : SeatsCall → SeatsPoint → Option Hold → Option Part
 part_in_call TryEnter l None = Some idle
+part_in_call TryEnterWeak l None = Some idle
 part_in_call Enter l None = Some idle
 part_in_call _ l h = None
 

@@ -16,7 +16,7 @@ use Rattle.spin_step.specs.Calls.{Asked}
 use Rattle.spin_step.specs.Asks.{is_read, looks_and_tries, waits, counts_readers, gives_back}
 use Rattle.spin_seats.specs.Kind as kind
 use Rattle.spin_step.specs.Machines.{Machine}
-use Rattle.spin_step.specs.Acts.{one_number, Act, load, load_for, retry, store, Table, machine_of}
+use Rattle.spin_step.specs.Acts.{one_number, Act, load, load_for, attempt, retry, store, Table, machine_of}
 use Rattle.spin_step.specs.Tables.{usual_table}
 use Rattle.spin_step.specs.declared.table.Operation.TheVariants as op
 
@@ -37,12 +37,15 @@ comes_by n missed (Exchange k) = retry k (entered n) (λ p. gets p to_read) gran
 
 abbrev pub act_of : ℕ → SeatsCall → SeatsPoint → Option Hold → Act ℕ SeatsPoint (Answer (Unit {0}))
 act_of n call.TryEnter l h = comes_by n (Answers Refused h) l
+act_of n call.TryEnterWeak First h = load_for (entered n) (λ p. gets p to_read) goes_for (Answers Refused h)
+act_of n call.TryEnterWeak (Exchange k) h = attempt k (entered n) (λ p. gets p to_read) granted (Answers Refused h)
 act_of n call.Enter l h = comes_by n (Continue First) l
 act_of n call.Count l h = load (λ w. Answers (Count w) h)
 act_of n call.Leave l h = store (λ w. nat_lt 0 w) (op.Subtract 1) (λ p. releases p reading) (Answers Done None)
 
 abbrev pub asks_of : SeatsCall → Option Hold → Asked
 asks_of call.TryEnter h = looks_and_tries to_read
+asks_of call.TryEnterWeak h = kind.tries_once
 asks_of call.Enter h = waits to_read
 asks_of call.Count h = counts_readers
 asks_of call.Leave h = gives_back is_read h

@@ -12,6 +12,9 @@ use std::alloc::AllocError;
 pub enum SeatsCall {
     /// Tries to take a seat. It fails only if all seats were taken at some moment of the call.
     TryEnter,
+    /// Tries once to take a seat: a load, and an exchange if the load found a free seat. It also fails if another party
+    /// takes or frees a seat between the two.
+    TryEnterWeak,
     /// Takes a seat, in as many steps as it needs.
     Enter,
     /// Counts the seats that are taken.
@@ -67,7 +70,8 @@ impl Steps<(), SeatsCall, SeatsPoint> for SeatsTable {
 
     fn start(&self, call: SeatsCall, holds: Option<Hold>) -> Option<SeatsPoint> {
         match (call, holds) {
-            (SeatsCall::TryEnter | SeatsCall::Enter | SeatsCall::Count, None)
+            (SeatsCall::TryEnter | SeatsCall::TryEnterWeak | SeatsCall::Enter, None)
+            | (SeatsCall::Count, None)
             | (SeatsCall::Leave, Some(Hold::Read)) => Some(SeatsPoint::First),
             _ => None,
         }
@@ -81,12 +85,12 @@ impl Steps<(), SeatsCall, SeatsPoint> for SeatsTable {
     fn operation(&self, call: SeatsCall, point: SeatsPoint, holds: Option<Hold>) -> Operation {
         let _ = holds;
         match (call, point) {
-            (SeatsCall::TryEnter | SeatsCall::Enter, SeatsPoint::Exchange(word)) => {
+            (SeatsCall::Leave, _) => Operation::Subtract(1),
+            (SeatsCall::Count, _) | (_, SeatsPoint::First) => Operation::Load,
+            (_, SeatsPoint::Exchange(word)) => {
                 let next = steps::enter(word, self.seats).unwrap_or(word);
                 Operation::Exchange(word as u64, next as u64)
             }
-            (SeatsCall::Leave, _) => Operation::Subtract(1),
-            _ => Operation::Load,
         }
     }
 
@@ -105,12 +109,14 @@ impl Steps<(), SeatsCall, SeatsPoint> for SeatsTable {
         let word = found as usize;
         let is_free = steps::enter(word, self.seats).is_some();
         let is_found = matches!(point, SeatsPoint::Exchange(known) if known == word);
+        let has_looked = matches!(point, SeatsPoint::Exchange(_));
         match call {
             SeatsCall::Count => Next::Answers(Answer::Count(word), holds),
             SeatsCall::Leave => Next::Answers(Answer::Done, None),
             _ if is_found && is_free => Next::Answers(Answer::Granted, Some(Hold::Read)),
+            SeatsCall::TryEnterWeak if has_looked => Next::Answers(Answer::Refused, holds),
             _ if is_free => Next::Continue(SeatsPoint::Exchange(word)),
-            SeatsCall::TryEnter => Next::Answers(Answer::Refused, holds),
+            SeatsCall::TryEnter | SeatsCall::TryEnterWeak => Next::Answers(Answer::Refused, holds),
             SeatsCall::Enter => Next::Continue(SeatsPoint::First),
         }
     }

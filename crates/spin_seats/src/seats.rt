@@ -6,7 +6,7 @@ ghost use Rattle.spin_step.specs.declared.place.Hold.TheVariants.{Read};
 ghost use Rattle.spin_session.specs.Turns.{IsNew, Stands, history, lock_of, spot};
 ghost use Rattle.spin_seats.specs.Passes.{Calls, FirstCall, SeatsSpot};
 ghost use Rattle.spin_seats.specs.Seats.{seats};
-ghost use Rattle.spin_seats.specs.declared.calls.SeatsCall.TheVariants.{TryEnter, Enter, Count, Leave};
+ghost use Rattle.spin_seats.specs.declared.calls.SeatsCall.TheVariants.{TryEnter, TryEnterWeak, Enter, Count, Leave};
 
 use crate::calls::SeatsCall;
 pub use crate::rule::Entry;
@@ -15,7 +15,7 @@ use spin_core::cell::Cell;
 use spin_core::relax::{Spin, Strategy};
 use spin_core::tie::Opening;
 use spin_core::trace::Trace;
-use spin_session::calls::{SessionOf, ask, finish, make, try_for, wait_for};
+use spin_session::calls::{SessionOf, ask, attempt, finish, make, try_for, wait_for};
 use spin_session::session::Session;
 use spin_step::{Answer, Hold};
 use std::marker::Model;
@@ -111,10 +111,17 @@ impl<const N: usize> Seats<N> {
         ensures new { IsNew self.now.cell result }
     {
         Pass {
-            session: Session {
-                permit: self.cell.enter(),
-                seen: self.cell.watch(),
-            },
+            session: self.session(),
+        }
+    }
+
+    // Returns a party that has made no call.
+    fn session(&self) -> SessionOf<'_, (), SeatsRule<N>>
+        ensures { IsNew self.now.cell (spot result) }
+    {
+        Session {
+            permit: self.cell.enter(),
+            seen: self.cell.watch(),
         }
     }
 
@@ -137,10 +144,42 @@ impl<const N: usize> Seats<N> {
     /// The guard's party has made one call `TryEnter`, its first, with the answer `Granted`. Whether and when the call
     /// returns is not promised.
     #[must_use = "dropping the guard at once gives the seat back: bind the answer, or write `drop(..)`"]
+    #[tactic(auto, using(crate::proofs::Seating::try_answers))]
     pub fn try_enter<W: Wait>(&self, rt: &W) -> Option<SeatGuard<'_, N>>
         ensures { IfSome result (FirstCall N TryEnter Granted self.now.cell) }
     {
-        match self.pass().try_enter(rt) {
+        let read = Some(Hold::Read);
+        match try_for(self.session(), SeatsCall::TryEnter, None, read, rt) {
+            Ok(session) => Some(SeatGuard { session }),
+            Err(session) => {
+                finish(session);
+                None
+            }
+        }
+    }
+
+    /// Tries once to take a seat, by one load and at most one exchange. Returns `None` if all seats are taken, or if
+    /// another thread takes or frees a seat between the two.
+    ///
+    /// It takes no right to wait, so code without one can call it, such as a `fmt` of `Debug`.
+    ///
+    /// # Contract
+    /// The guard's party has made one call `TryEnterWeak`, its first, with the answer `Granted`. The call returns.
+    ///
+    /// # Examples
+    /// ```
+    /// use spin_seats::seats::Seats;
+    ///
+    /// let seats: Seats<1> = Seats::new();
+    /// let guard = seats.try_enter_weak().expect(&rt, "one is free");
+    /// assert!(rt; seats.try_enter_weak().is_none());
+    /// drop(guard);
+    /// ```
+    #[must_use = "dropping the guard at once gives the seat back: bind the answer, or write `drop(..)`"]
+    pub fn try_enter_weak(&self) -> Option<SeatGuard<'_, N>>
+        ensures { IfSome result (FirstCall N TryEnterWeak Granted self.now.cell) }
+    {
+        match self.pass().try_enter_weak() {
             Ok(guard) => Some(guard),
             Err(_pass) => None,
         }
@@ -197,6 +236,24 @@ impl<'a, const N: usize> Pass<'a, N> {
     {
         let Self { session } = self;
         match try_for(session, SeatsCall::TryEnter, None, Some(Hold::Read), rt) {
+            Ok(session) => Ok(SeatGuard { session }),
+            Err(session) => Err(Pass { session }),
+        }
+    }
+
+    /// Tries once to take a seat as [`Seats::try_enter_weak`] does. Returns the pass if it has no seat.
+    ///
+    /// # Contract
+    /// The pass has made one call `TryEnterWeak`. With a guard its answer is `Granted` (`granted`), otherwise
+    /// `Refused` (`refused`). The call returns.
+    #[tactic(auto, using(crate::proofs::Seating::weak_answers))]
+    pub fn try_enter_weak(self) -> Result<SeatGuard<'a, N>, Pass<'a, N>>
+        ensures granted { IfOk result (λ guard. Calls N TryEnterWeak Granted self.entry guard) }
+        ensures refused { IfErr result (λ pass. Calls N TryEnterWeak Refused self.entry pass) }
+    {
+        let Self { session } = self;
+        let read = Some(Hold::Read);
+        match attempt(session, SeatsCall::TryEnterWeak, None, read) {
             Ok(session) => Ok(SeatGuard { session }),
             Err(session) => Err(Pass { session }),
         }

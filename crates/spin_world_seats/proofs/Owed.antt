@@ -1,7 +1,11 @@
 -- What the table of the seats has to show.
-use Rattle.std.proofs.Common.{◌≡◌, ℕ, ◌-◌, ◌≤◌, true, Option, Some, None, [], ◌∷◌, length, nat_lt, refl, ap, arith, length-append}
-use Rattle.spin_step.specs.Plain.{Plain, reading, holder, to_read, gets, releases, apply, may_come, is_holder}
-use Rattle.spin_step.specs.Parties.{Entries, entries}
+use Rattle.std.proofs.Common.{◌≡◌, ℕ, ◌-◌, ◌≤◌, ◌⊎◌, true, Option, Some, None, List, [], ◌∷◌, length, nat_lt, refl, ap, arith, length-append}
+use Rattle.std.specs.List.{list_any}
+use Rattle.spin_step.specs.Plain.{Plain, Change, reading, holder, to_read, gets, releases, apply, may_come, is_holder}
+use Rattle.spin_step.specs.Calls.{Mark}
+use Rattle.spin_step.specs.StepKinds.{StepKind}
+use Rattle.spin_seats.specs.Kind.{hinders}
+use Rattle.spin_step.specs.Parties.{Entries, entries, apply_some}
 use Rattle.spin_step.proofs.Sums.{one_of, sum-more, sum-less}
 use Rattle.spin_step.proofs.Holders.{is_holder-from_entries, length-without_holder}
 use Rattle.spin_step_more.proofs.Readers.{each_reads}
@@ -9,11 +13,12 @@ use Rattle.spin_seats.specs.Seats.{AllRead, seats, seats_word, entered}
 use Rattle.spin_seats.proofs.Taken.{open_is, enter-grants, leave-gives}
 use Rattle.spin_step.specs.declared.place.Hold.{Hold}
 use Rattle.spin_seats.specs.declared.calls.SeatsCall.{SeatsCall}
-use Rattle.spin_seats.specs.declared.calls.SeatsCall.TheVariants.{TryEnter, Enter}
+use Rattle.spin_seats.specs.declared.calls.SeatsCall.TheVariants.{TryEnter, TryEnterWeak, Enter}
 use Rattle.spin_seats.specs.declared.calls.SeatsPoint.{SeatsPoint}
 use Rattle.spin_seats.specs.declared.calls.SeatsPoint.TheVariants.{Exchange}
 use Rattle.spin_step.specs.Acts.{begin_of}
 use Rattle.spin_seats.specs.Table.{seats_table, seats_machine}
+use Rattle.spin_world_core.specs.Runs.{mark_of}
 use Rattle.spin_world_core.proofs.Steps.{Plays}
 use Rattle.spin_world_core.proofs.Stands.{holds, entries_at}
 use Rattle.spin_world_core.proofs.Rows.{Point, starts, looked}
@@ -24,6 +29,7 @@ use Rattle.spin_world_core.proofs.Filled.{plays_of}
 -- the row of a point: a call that has looked has made one step, and at any other point the row is that of the beginning
 abbrev pub point_of : ℕ → SeatsCall → SeatsPoint → Option Hold → Point
 point_of n TryEnter (Exchange k) None = looked 1
+point_of n TryEnterWeak (Exchange k) None = looked 1
 point_of n Enter (Exchange k) None = looked 1
 point_of n c l h = starts (begin_of (seats_table n) c h)
 
@@ -34,8 +40,13 @@ pub record Seating (n : ℕ) (s : Plain) : Type 0 where
   pub all_read : AllRead s
   pub few : length s.holders ≤ seats n
 
+-- after its first step a try of two steps knows that the word is still the one that it found, or that it is hindered
+abbrev pub knows_of : SeatsCall → SeatsPoint → ℕ → Plain → List Mark → Type 0
+knows_of TryEnterWeak (Exchange k) p s span = (seats_word s ≡ k) ⊎ (list_any (hinders p) span ≡ true)
+knows_of c l p s span = Unit {0}
+
 abbrev pub seats_notes : (n : ℕ) → Notes (seats_table n)
-seats_notes n = record { Shape = λ s. Seating n s; point = point_of n; Knows = λ c l h p s span. Unit {0} }
+seats_notes n = record { Shape = λ s. Seating n s; point = point_of n; Knows = λ c l h p s span. knows_of c l p s span }
 
 module _ (n : ℕ) where
   sits : (p : ℕ) (s : Plain) → entries p s ≡ entries_at p (holds reading) → is_holder p reading s.holders ≡ true
@@ -59,6 +70,11 @@ module _ (n : ℕ) where
         → (nat_lt 0 w ≡ true) × Means (seats_notes n) p s (releases p reading) (λ k. k) (Some (w - 1))
     leave_means found = grind (arith, length-without_holder p reading s.holders found, leave-gives s p w is found, one_less s p shape found)
 
+  -- a step of another party leaves the word as it is, or hinders the try
+  stays : (p q : ℕ) (c : SeatsCall) (l : SeatsPoint) (s : Plain) (step : Option Change) (r : StepKind) (span : List Mark) → (q ≡ p → ⊥)
+      → knows_of c l p s span → knows_of c l p (apply_some s step) (mark_of q step r s ∷ span)
+  stays p q c l s step r span ne knows = grind (arith, ne, knows)
+
   owes : OwesAll (seats_notes n)
   owes p c l h s w span = grind (arith, enter_means p s w, leave_means p s w, sits p s, each_reads s.holders)
 
@@ -76,7 +92,7 @@ module _ (n : ℕ) where
         one_list = λ s shape. no_queue s shape.no_queue;
         calls = λ c h. (0, grind arith);
         begins = λ p c h s. grind arith;
-        others = λ p q c l h s step r span ne shape may belongs knows. tt;
+        others = λ p q c l h s step r span ne shape may belongs knows. stays p q c l s step r span ne knows;
         owes = owes;
         soon = soon;
       }

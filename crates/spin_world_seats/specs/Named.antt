@@ -23,9 +23,10 @@ pub record IsSeats (n : ℕ) (m : SeatsMachine) : Type 0 where
   -- at first nobody has a seat; there are as many seats as asked for, but no more than the limit
   pub plain : opening_plain m ≡ fresh (seats n) 0 0
   pub try_enter : (h : Option Hold) → m.asks call.TryEnter h ≡ looks_and_tries to_read
+  pub try_enter_weak : (h : Option Hold) → m.asks call.TryEnterWeak h ≡ kind.tries_once
   pub enter : (h : Option Hold) → m.asks call.Enter h ≡ waits to_read
   pub count : (h : Option Hold) → m.asks call.Count h ≡ counts_readers
   pub leave : (h : Option Hold) → m.asks call.Leave h ≡ gives_back is_read h
   pub says : (a : Answer (Unit {0})) → m.says a ≡ says_of a
-  pub calls : BeginAt m ((call.TryEnter, None) ∷ (call.Enter, None) ∷ (call.Count, None) ∷ (call.Leave, Some Read) ∷ [])
+  pub calls : BeginAt m ((call.TryEnter, None) ∷ (call.TryEnterWeak, None) ∷ (call.Enter, None) ∷ (call.Count, None) ∷ (call.Leave, Some Read) ∷ [])
   pub soon : AnswersIn m 2 call.Enter

@@ -9,7 +9,7 @@ use Rattle.spin_seats.specs.Seats.{AllRead, seats, seats_word, entered}
 use Rattle.spin_seats.proofs.Taken.{open_is, enter-grants, leave-gives}
 use Rattle.spin_step.specs.declared.place.Hold.{Hold}
 use Rattle.spin_seats.specs.declared.calls.SeatsCall.{SeatsCall}
-use Rattle.spin_seats.specs.declared.calls.SeatsCall.TheVariants.{TryEnter}
+use Rattle.spin_seats.specs.declared.calls.SeatsCall.TheVariants.{TryEnter, TryEnterWeak}
 use Rattle.spin_seats.specs.declared.calls.SeatsPoint.{SeatsPoint}
 use Rattle.spin_seats.specs.declared.calls.SeatsPoint.TheVariants.{Exchange}
 use Rattle.spin_step.specs.Acts.{begin_of}
@@ -24,6 +24,7 @@ use Rattle.spin_world_core.proofs.Filled.{plays_of}
 -- the row of a point: a call that has looked has made one step, and at any other point the row is that of the beginning
 abbrev pub point_of : SeatsCall → SeatsPoint → Option Hold → Point
 point_of TryEnter (Exchange k) None = looked 1
+point_of TryEnterWeak (Exchange k) None = looked 1
 point_of c l h = starts (begin_of (careless_table) c h)
 
 -- the shape of the lock: nobody queues, the cap is the number of seats, all holders read, and at most so many hold

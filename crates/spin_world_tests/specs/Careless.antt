@@ -1,4 +1,4 @@
--- A lock of two seats of which three promises say too little. `enter` looks for ever, `try_enter` waits where it should
+-- A lock of two seats of which some promises say too little. `enter` looks for ever, both tries wait where they should
 -- be refused, and `count` answers 7.
 use Rattle.std.specs.Prelude.{ℕ, true, false, Option, List, [], ◌∷◌}
 use Rattle.spin_step.specs.Plain.{to_read}
@@ -36,6 +36,7 @@ careless = record kind.seats { calls = careless_calls }
 
 abbrev pub careless_asks : SeatsCall → Option Hold → Asked
 careless_asks call.TryEnter h = tries_by_waiting
+careless_asks call.TryEnterWeak h = tries_by_waiting
 careless_asks call.Enter h = enters_never
 careless_asks call.Count h = counts_anything
 careless_asks call.Leave h = gives_back is_read h
@@ -43,6 +44,7 @@ careless_asks call.Leave h = gives_back is_read h
 abbrev pub careless_act : SeatsCall → SeatsPoint → Option Hold → Act ℕ SeatsPoint (Answer (Unit {0}))
 careless_act call.Enter l h = load (λ w. Continue First)
 careless_act call.TryEnter l h = comes_by 2 (Continue First) l
+careless_act call.TryEnterWeak l h = comes_by 2 (Continue First) l
 careless_act call.Count l h = load (λ w. Answers (Count 7) h)
 careless_act c l h = act_of 2 c l h
 

@@ -1,12 +1,12 @@
-//! What no law checks: a lock of two seats that keeps every law, though three of its calls promise too little.
+//! What no law checks: a lock of two seats that keeps every law, though some of its calls promise too little.
 ghost use Rattle.spin_world_core.specs.Lawful.{Lawful};
 ghost use Rattle.spin_world_tests.specs.Careless.{careless_machine};
 
 /// States that a lock with these three mistakes keeps every law:
 ///
 /// - Its `enter` looks for ever. What this call asks for never counts as open (`is_open_next` is false).
-/// - Its `try_enter` waits where it should be refused. Its promise says that it waits (`waits`), and so nothing is asked
-///   of it as a try.
+/// - Its `try_enter` and its `try_enter_weak` wait where they should be refused. Their promise says that they wait
+///   (`waits`), and so nothing is asked of them as tries.
 /// - Its `count` answers 7. Any number fits its promise (`means` with a test that is always true).
 pub fn no_law_refuses_these_mistakes()
     ensures { Lawful careless_machine }
