@@ -7,8 +7,6 @@ mod equal;
 #[cfg(test)]
 mod granted;
 #[cfg(test)]
-mod latch;
-#[cfg(test)]
 mod mutex;
 #[cfg(test)]
 mod once;
