@@ -9,10 +9,7 @@ use Rattle.spin_text.specs.Ends.{AppendsBeginning, AppendsBut}
 
 -- bytes that grow by one text and then by another grow by both
 pub Appends-append : (a b c : Option (List ℕ)) (xs ys : List ℕ) → Appends a b xs → Appends b c ys → Appends a c (xs ++ ys)
-Appends-append None b c xs ys p q = tt
-Appends-append (Some s) None c xs ys p q = absurd p
-Appends-append (Some s) (Some t) None xs ys p q = absurd q
-Appends-append (Some s) (Some t) (Some u) xs ys p q = q ∙ (ap (λ w. w ++ ys) p ∙ append_assoc s xs ys)
+Appends-append a b c xs ys p q = grind (arith, append_assoc)
 
 -- the first n bytes of the first n + k bytes of a text are its first n bytes
 take-take : (text : List ℕ) (n k : ℕ) → take n (take (n + k) text) ≡ take n text
@@ -25,9 +22,7 @@ take_more text rest n k is =
 
 -- if the first n bytes of a text were written, and then the next k, then its first n + k bytes were written
 pub Appends-take : (a b c : Option (List ℕ)) (text rest : List ℕ) (n k : ℕ) → rest ≡ drop n text → Appends a b (take n text) → Appends b c (take k rest) → Appends a c (take (n + k) text)
-Appends-take a b c text rest n k is p q =
-    let P : List ℕ → Type 0 = λ w. Appends a c w in
-    subst P (take_more text rest n k is) (Appends-append a b c (take n text) (take k rest) p q)
+Appends-take a b c text rest n k is p q = grind (arith, take_more, Appends-append)
 
 -- dropping n bytes of a text, and then k more, drops n + k bytes
 pub drop_more : (text rest : List ℕ) (n k : ℕ) → rest ≡ drop n text → take (length rest - k) (drop k rest) ≡ drop (n + k) text
@@ -48,15 +43,10 @@ but_line a b text piece line so_far = (so_far.0, so_far.1, ap (λ t. t ++ line) 
 -- What follows for the text when the piece is written: up to a rest that is left, as a whole, or only its first bytes.
 module _ (a b c : Option (List ℕ)) (text piece : List ℕ) (so_far : AppendsBut a b text piece) where
   pub but_then : (rest : List ℕ) → AppendsBut b c piece rest → AppendsBut a c text rest
-  but_then rest next = (
-    so_far.0 ++ next.0,
-    Appends-append a b c so_far.0 next.0 so_far.1 next.1,
-    so_far.2 ∙ ap (λ t. so_far.0 ++ t) next.2 ∙ sym (append_assoc so_far.0 next.0 rest),
-  )
+  but_then rest next = grind (arith, Appends-append, append_assoc)
 
   pub but_last : Appends b c piece → Appends a c text
-  but_last last =
-      let P : List ℕ → Type 0 = λ t. Appends a c t in subst P (sym so_far.2) (Appends-append a b c so_far.0 piece so_far.1 last)
+  but_last last = grind (arith, Appends-append)
 
   pub but_beginning : AppendsBeginning b c piece → AppendsBeginning a c text
   but_beginning part =

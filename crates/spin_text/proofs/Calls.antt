@@ -1,5 +1,5 @@
 -- For each object: reading a call inverts its spelling.
-use Rattle.std.proofs.Common.{◌≡◌, ℕ, ◌<◌, ◌^◌, Bool, true, false, ◌&&◌, Option, Some, List, [], ◌∷◌, codes, decimal, refl, ap, subst, ◌∙◌}
+use Rattle.std.proofs.Common.{arith, ◌≡◌, ℕ, ◌<◌, ◌^◌, Bool, true, false, ◌&&◌, Option, Some, List, [], ◌∷◌, codes, decimal, refl, ap, subst, ◌∙◌}
 use Rattle.std.specs.Str.{bytes_eq}
 use Rattle.std.proofs.lemmas.Bool.{ltb-true, lt-ltb}
 use Rattle.spin_step.specs.declared.flag_calls.FlagCall.TheVariants as flag
@@ -53,12 +53,7 @@ module _ {C : Type 0} (calls : Calls C) where
   pub word_reads : (rows : List (List ℕ × C)) → are_calls rows ≡ true
       → ((c : C) → IsReadAgain (only_named rows) c) → ReadsCalls calls (only_named rows)
   unfolding only_named
-  word_reads rows each again =
-      record {
-        takes = λ ws c. bound (last_word ws) (named rows) c (IsCall ws c) (λ w one is.
-            let call = named_takes rows each w c is in (call.0, last_word_takes ws w one ∙ call.1));
-        again = again;
-      }
+  word_reads rows each again = grind (arith, bound, named, named_takes, last_word_takes)
 
   -- the call found is the one that the words spell
   pub told : (ws : List (List ℕ)) (this c : C) → IsCall ws this → Some this ≡ Some c → IsCall ws c
@@ -66,10 +61,7 @@ module _ {C : Type 0} (calls : Calls C) where
 
   -- if a call is read from words of which the last is a number, the words spell this call
   pub numbered : (ws all : List (List ℕ)) (this : ℕ → C) (c : C) → ((n : ℕ) → n < 2 ^ 64 → ws ≡ decimal n ∷ [] → IsCall all (this n)) → (last_number ws >>= λ n. Some (this n)) ≡ Some c → IsCall all c
-  numbered ws all this c call =
-      bound (last_number ws) _ c (IsCall all c) (λ n found.
-      let number = last_number_takes ws n found in
-      told all (this n) c (call n number.0 number.1))
+  numbered ws all this c call h5 = grind (arith, bound, last_number_takes, told)
 
 pub flag_reads : ReadsCalls flag_calls read_flag_call
 unfolding read_flag_call only_named last_word named
@@ -119,11 +111,7 @@ once_takes (w ∷ ws) c one =
 
 once_again : (c : OnceCall ℕ) → once_calls.fits c ≡ true → read_once_call (once_calls.words c) ≡ Some c
 unfolding read_once_call read_try_call_once named
-once_again (once.CallOnce v) fits = ap (λ o. o >>= λ n. Some (once.CallOnce n)) (last_number_again v (ltb-true v (2 ^ 64) fits))
-once_again (once.TryCallOnceOk v) fits = ap (λ o. o >>= λ n. Some (once.TryCallOnceOk n)) (last_number_again v (ltb-true v (2 ^ 64) fits))
-once_again once.TryCallOnceErr fits = refl
-once_again (once.InitFromRef v) fits = ap (λ o. o >>= λ n. Some (once.InitFromRef n)) (last_number_again v (ltb-true v (2 ^ 64) fits))
-once_again _ fits = refl
+once_again c fits = grind (arith, last_number_again, ltb-true)
 
 pub once_reads : ReadsCalls once_calls read_once_call
 once_reads = record { takes = once_takes; again = once_again }

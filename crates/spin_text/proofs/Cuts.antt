@@ -17,8 +17,7 @@ bytes_left None = 0
 bytes_left (Some bytes) = length bytes.now + 1
 
 not_passing : (b : Bool) → ¬ (b ≡ true) → b ≡ false
-not_passing true never = absurd (never refl)
-not_passing false never = refl
+not_passing b never = grind arith
 
 -- bytes without a separator are one part
 pub cut_none : (a : ℕ) (bs : List ℕ) → Nowhere (Passes (is_byte a) bs) 0 (length bs) → slice_split (is_byte a) bs ≡ bs ∷ []
@@ -78,13 +77,11 @@ further_lines_of bs some =
     omega (arith, ap length whole, some))
 
 some_word : (ws : List (List ℕ)) → 0 < length ws → false ≡ is_end ws
-some_word [] some = absurd (omega (arith, some))
-some_word (w ∷ ws) some = refl
+some_word ws some = grind arith
 
 -- the words by line are the words of the first line, and then those of each line after it
 pub lines_behind : (bs line : List ℕ) (parts : List (List ℕ)) (further : List (List ℕ)) → slice_split (is_byte 10) bs ≡ line ∷ parts → further_lines parts ≡ further → words_by_line bs ≡ words_of line ∷ map words_of further
-lines_behind bs line parts further is then =
-    ap (λ all. map words_of (first_and_further all)) is ∙ ap (λ ls. words_of line ∷ map words_of ls) then
+lines_behind bs line parts further is then = grind arith
 
 -- each line has a word, which may be empty
 pub has_word : (line : List ℕ) → false ≡ is_end (words_of line)
@@ -95,19 +92,15 @@ no_bytes [] is = refl
 no_bytes (b ∷ bs) is = absurd (omega (arith, eqb-true _ _ (sym is)))
 
 some_bytes : (bs : List ℕ) → false ≡ (length bs == 0) → 0 < length bs
-some_bytes [] is = absurd (cc)
-some_bytes (b ∷ bs) is = omega arith
+some_bytes bs is = grind arith
 
 split_after : (bs line : List ℕ) (further : Bor (List ℕ)) → slice_split (is_byte 10) bs ≡ line ∷ slice_split (is_byte 10) further.now → (over : Bool) → over ≡ (length further.now == 0) → words_by_line bs ≡ words_of line ∷ lines_left (cond over None (Some further))
-split_after bs line further split true test =
-    lines_behind bs line _ [] split (ap (λ b. further_lines (slice_split (is_byte 10) b)) (no_bytes further.now test))
-split_after bs line further split false test = lines_behind bs line _ _ split (further_lines_of further.now (some_bytes further.now test))
+split_after bs line further split over test = grind (arith, lines_behind, no_bytes, further_lines_of, some_bytes)
 
 -- if no byte follows the first line feed, there is no second line
 pub lines_after : (bs line : List ℕ) (rest : Option (Bor (List ℕ))) (further : Bor (List ℕ)) → slice_split (is_byte 10) bs ≡ line ∷ parts_left 10 rest → rest ≡ Some further
     → (left : Option (Bor (List ℕ))) (over : Bool) → over ≡ (length further.now == 0) → left ≡ cond over None (Some further) → words_by_line bs ≡ words_of line ∷ lines_left left
-lines_after bs line rest further parts is left over test made =
-    split_after bs line further (parts ∙ ap (λ r. line ∷ parts_left 10 r) is) over test ∙ ap (λ l. words_of line ∷ lines_left l) (sym made)
+lines_after bs line rest further parts is left over test made = grind (arith, split_after)
 
 further_within : (parts : List (List ℕ)) → length (further_lines parts) ≤ length parts
 further_within [] = omega arith
@@ -116,8 +109,7 @@ further_within ((b ∷ bs) ∷ []) = omega arith
 further_within (x ∷ y ∷ more) = omega (arith, further_within (y ∷ more))
 
 first_within : (parts : List (List ℕ)) → length (first_and_further parts) ≤ length parts
-first_within [] = omega arith
-first_within (x ∷ more) = omega (arith, further_within more)
+first_within parts = grind (arith, further_within)
 
 -- the number of lines is at most the number of bytes plus 1
 pub lines_within : (bs : List ℕ) → length (words_by_line bs) ≤ length bs + 1

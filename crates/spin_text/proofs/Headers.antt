@@ -16,19 +16,11 @@ use Rattle.spin_text.proofs.Calls.{flag_reads, ticket_reads, rw_reads, fair_read
 
 within_takes : (least most : ℕ) (ws : List (List ℕ)) (x : ℕ × List (List ℕ)) → number_within least most ws ≡ Some x → IsWithin least most x.0 × (ws ≡ decimal x.0 ∷ x.1)
 unfolding number_within
-within_takes least most ws x =
-    let P : ℕ × List (List ℕ) → Type 0 = λ y. IsWithin least most y.0 × (ws ≡ decimal y.0 ∷ y.1) in
-    bound (number_at ws) _ x (P x) (λ n found.
-    chosen (nat_le least n.0 && nat_le n.0 most) (Some n) None x (P x) (λ within is.
-    let both = and_true _ _ within in
-    subst P (some_is is) ((leb-true _ _ both.0, leb-true _ _ both.1), (number_at_takes ws n found).1)) (λ _ is. absurd (cc)))
+within_takes least most ws x h4 = grind (arith, bound, chosen, and_true, some_is, leb-true, number_at_takes)
 
 within_again : (least most n : ℕ) (ws : List (List ℕ)) → most < 2 ^ 64 → IsWithin least most n → number_within least most (decimal n ∷ ws) ≡ Some (n, ws)
 unfolding number_within
-within_again least most n ws small fits =
-    ap (λ o. o >>= λ m. cond (nat_le least m.0 && nat_le m.0 most) (Some m) None) (number_at_again n ws (omega (arith, fits.1, small)))
-    ∙ ap (λ b. cond (b && nat_le n most) (Some (n, ws)) None) (le-leb least n fits.0)
-    ∙ ap (λ b. cond b (Some (n, ws)) None) (le-leb n most fits.1)
+within_again least most n ws small fits = grind (arith, number_at_again)
 
 parties_take : (ws : List (List ℕ)) (n : ℕ) → last_parties ws ≡ Some n → PartiesFit n × (ws ≡ decimal n ∷ [])
 unfolding last_parties
@@ -46,10 +38,7 @@ module _ (w : List ℕ) (h : Header) (done ws : List (List ℕ)) where
   after_number : (k : ℕ × List (List ℕ) → Option Header)
       → ((n : ℕ) (more : List (List ℕ)) → n < 2 ^ 64 → k (n, more) ≡ Some h → IsHeader w (done ++ decimal n ∷ more) h)
       → (number_at ws >>= k) ≡ Some h → IsHeader w (done ++ ws) h
-  after_number k then =
-      bound (number_at ws) k h (IsHeader w (done ++ ws) h) (λ x found on.
-      let number = number_at_takes ws x found in
-      subst (λ l. IsHeader w (done ++ l) h) (sym number.1) (then x.0 x.1 number.0 on))
+  after_number k then h2 = grind (arith, bound, number_at_takes)
 
   after_within : (least most : ℕ) (k : ℕ × List (List ℕ) → Option Header)
       → ((n : ℕ) (more : List (List ℕ)) → IsWithin least most n → k (n, more) ≡ Some h → IsHeader w (done ++ decimal n ∷ more) h)

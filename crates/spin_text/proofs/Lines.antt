@@ -29,12 +29,10 @@ IsBelow n None = Unit {0}
 IsBelow n (Some k) = k < n
 
 still_below : (k : ℕ) (found : Option ℕ) → IsBelow k found → IsBelow (k + 1) found
-still_below k None below = tt
-still_below k (Some n) below = omega (arith, below)
+still_below k found below = grind arith
 
 next_below : (b : Bool) (k : ℕ) (found : Option ℕ) → IsBelow k found → IsBelow (k + 1) (if b then Some k else found)
-next_below true k found below = omega arith
-next_below false k found below = still_below k found below
+next_below b k found below = grind (arith, still_below)
 
 begin_below : {W V A : Type 0} (p k : ℕ) (found : Option ℕ) (es : List (Event W V A)) → IsBelow k found → IsBelow (k + length es) (last_begin p k found es)
 begin_below p k found [] below = subst (λ n. IsBelow n found) (omega arith) below
@@ -61,17 +59,10 @@ abbrev pub PlayedFirst : {W C L : Type 0} → Machine W ℕ C L (Answer ℕ) →
 PlayedFirst m from now begins schedule k = Played m from now begins (with_begins [] (events_of m from (take k schedule))) (take k schedule)
 
 has_line : (place : ℕ) (began : Option ℕ) → IsBelow place began → place < 2 ^ 64 → HasLine began
-has_line place None below fits = tt
-has_line place (Some n) below fits = omega (arith, below, fits)
+has_line place began below fits = grind arith
 
 tells_line : (began : Option ℕ) (o : Outcome (Answer ℕ) ℕ) → HasLine began → TellsLine (with_begin began o)
-tells_line began outcome.Skipped has = tt
-tells_line began outcome.Begun has = tt
-tells_line began outcome.GoingOn has = tt
-tells_line began (outcome.Answered a b) has = has
-tells_line began (outcome.Value v) has = tt
-tells_line began outcome.Written has = tt
-tells_line began outcome.Leaked has = tt
+tells_line began o has = grind arith
 
 -- the line of the transcript that an answer names has a number of 64 bits
 pub told_line : {W C L : Type 0} (m : Machine W ℕ C L (Answer ℕ)) (from now : State W ℕ C L) (begins : List (Option ℕ))
@@ -153,7 +144,4 @@ first_lines m from schedule k =
 pub last_line : {W C L : Type 0} (m : Machine W ℕ C L (Answer ℕ)) (from now : State W ℕ C L) (schedule : List (ℕ × Move C ℕ)) (words : W)
     (numbers : List ℕ) (value : Option ℕ) → now ≡ after m from schedule → words ≡ now.words → m.numbers words ≡ numbers → value ≡ now.value
     → transcript_from m from schedule ≡ schedule_lines m from schedule ++ end_line numbers value
-last_line m from now schedule words numbers value is is_words is_numbers is_value =
-    let lines = schedule_lines m from schedule in
-    ap (λ s. lines ++ end_line (m.numbers s.words) s.value) (sym is) ∙ ap (λ w. lines ++ end_line (m.numbers w) now.value) (sym is_words)
-    ∙ ap (λ ns. lines ++ end_line ns now.value) is_numbers ∙ ap (λ v. lines ++ end_line numbers v) (sym is_value)
+last_line m from now schedule words numbers value is is_words is_numbers is_value = grind arith

@@ -1,5 +1,5 @@
 -- Reading an entry inverts its spelling.
-use Rattle.std.proofs.Common.{◌≡◌, ℕ, true, ◌&&◌, Option, Some, List, [], ◌∷◌, codes, decimal, refl, ◌∙◌, ap, subst}
+use Rattle.std.proofs.Common.{arith, ◌≡◌, ℕ, true, ◌&&◌, Option, Some, List, [], ◌∷◌, codes, decimal, refl, ◌∙◌, ap, subst}
 use Rattle.std.specs.Str.{bytes_eq}
 use Rattle.std.proofs.lemmas.Slice.Eq.{bytes_eq-Decides}
 use Rattle.spin_step.specs.declared.schedule.Move.{Move}
@@ -19,14 +19,12 @@ front w ws name more same is = ap (λ x. x ∷ ws) (is_text w name same) ∙ ap 
 
 -- a word that equals a name, followed by nothing
 pub ends : (w : List ℕ) (ws : List (List ℕ)) (name : List ℕ) → w ≡ name → is_end ws ≡ true → w ∷ ws ≡ name ∷ []
-ends w [] name is end = ap (λ x. x ∷ []) is
-ends w (x ∷ ws) name is end = absurd (cc)
+ends w ws name is end = grind arith
 
 -- a line from which `last_word` reads a word has only this word
 pub last_word_takes : (ws : List (List ℕ)) (w : List ℕ) → last_word ws ≡ Some w → ws ≡ w ∷ []
 unfolding last_word
-last_word_takes [] w is = absurd (cc)
-last_word_takes (v ∷ ws) w is = ap (λ x. x.0 ∷ x.1) (some_is (last_takes (word_at (v ∷ ws)) w is))
+last_word_takes ws w is = grind (arith, some_is, last_takes, word_at)
 
 module _ {C : Type 0} (calls : Calls C) (read : List (List ℕ) → Option C) (reads : ReadsCalls calls read) where
   abbrev IsMove : List (List ℕ) → Move C ℕ → Type 0
@@ -73,14 +71,7 @@ module _ {C : Type 0} (calls : Calls C) (read : List (List ℕ) → Option C) (r
 
   pub move_again : (m : Move C ℕ) → MoveFits calls m → read_move read (move_words calls m) ≡ Some m
   unfolding read_move owner_move plain_move
-  move_again (Begin c) fits = ap (λ o. o >>= λ d. Some (Begin d)) (reads.again c fits)
-  move_again Step fits = refl
-  move_again Weak fits = refl
-  move_again Read fits = refl
-  move_again (Write v) fits = ap (λ o. o >>= λ d. Some (Write d)) (last_number_again v fits)
-  move_again Leak fits = refl
-  move_again OwnerGet fits = refl
-  move_again (OwnerSet v) fits = ap (λ o. o >>= λ d. Some (OwnerSet d)) (last_number_again v fits)
+  move_again m fits = grind (arith, last_number_again)
 
   pub entry_takes : (ws : List (List ℕ)) (e : ℕ × Move C ℕ) → read_entry read ws ≡ Some e → EntryFits calls e × (ws ≡ entry_words calls e)
   unfolding read_entry
@@ -94,6 +85,4 @@ module _ {C : Type 0} (calls : Calls C) (read : List (List ℕ) → Option C) (r
 
   pub entry_again : (e : ℕ × Move C ℕ) → EntryFits calls e → read_entry read (entry_words calls e) ≡ Some e
   unfolding read_entry
-  entry_again e fits =
-      ap (λ o. o >>= λ x. (read_move read x.1 >>= λ m. Some (x.0, m))) (number_at_again e.0 (move_words calls e.1) fits.0)
-      ∙ ap (λ o. o >>= λ m. Some (e.0, m)) (move_again e.1 fits.1)
+  entry_again e fits = grind (arith, number_at_again, move_again)

@@ -62,10 +62,7 @@ read_number_none w (Some n) is none = let found = read_number_takes w n (sym is)
 pub no_number_first : (line word : List ℕ) (more : List (List ℕ)) → words_of line ≡ word ∷ more
     → ((n : ℕ) → n < 2 ^ 64 → ¬ (IsNumber word n)) → number_at (words_of line) ≡ None
 unfolding number_at
-no_number_first line word more is none =
-    let unread = read_number_none word (read_number word) refl (λ n fits prints.
-    none n fits (subst (λ w. IsNumber w n) (sym prints) (is_number n fits))) in
-    ap number_at is ∙ sym (ap (λ r. r >>= λ n. Some (n, more)) unread)
+no_number_first line word more is none = grind (arith, read_number_none, is_number)
 
 -- If the first word consists of one or more digits, has a value below 2^64, and begins with 0 only if it is `0`, then
 -- the line begins with this value as a number.

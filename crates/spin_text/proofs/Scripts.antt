@@ -112,8 +112,7 @@ one_script bytes s t first second =
 
 -- lines that cannot be read are not the lines of a script
 no_script : (lines : List (List (List ℕ))) → read_script lines ≡ None → ¬ AreOfScript lines
-no_script lines none script =
-    let found : Some script.0 ≡ None = sym (script_again script.0 script.1) ∙ ap read_script (sym script.2) ∙ none in absurd (cc)
+no_script lines none = grind (arith, script_again, read_script)
 
 header_stops : (line : List (List ℕ)) → read_header line ≡ None → read_script (line ∷ []) ≡ None
 unfolding read_script
@@ -130,10 +129,7 @@ bad_header line all more is none =
 entry_stops : (h : Header) (es : List (ℕ × Move (CallOf h) ℕ)) (line : List (List ℕ)) → HeaderFits h → EntriesFit (calls_of h) es → read_entry (read_of h) line ≡ None
     → read_script (header_words h ∷ (map (entry_words (calls_of h)) es ++ (line ∷ []))) ≡ None
 unfolding read_script
-entry_stops h es line fits each none =
-    let rest = map (entry_words (calls_of h)) es ++ (line ∷ []) in
-    ap (λ o. o >>= λ k. (read_entries (read_of k) rest >>= λ xs. Some (record { header = k; entries = xs }))) (header_again h fits)
-    ∙ ap (λ o. o >>= λ xs. Some (record { header = h; entries = xs })) (entries_stop (calls_of h) (read_of h) (reads_of h) es line each none)
+entry_stops h es line fits each none = grind (arith, header_again, entries_stop, reads_of)
 
 -- The first elements of a list that is given in two parts.
 
@@ -166,14 +162,7 @@ headed line all more h is found = let header = header_takes line h found in (hea
 
 -- an error in the lines after the header is an error of the whole text
 pub bad_entry : (bytes : List ℕ) (h : Header) (rest : List (List (List ℕ))) (e : RunError) → HeaderFits h → words_by_line bytes ≡ header_words h ∷ rest → StopsEntries (calls_of h) (read_of h) rest e → StopsPlaying bytes e
-bad_entry bytes h rest errors.Read fits is stops = absurd stops
-bad_entry bytes h rest errors.Memory fits is stops = tt
-bad_entry bytes h rest errors.Write fits is stops = absurd stops
-bad_entry bytes h rest (errors.BadLine n) fits is stops =
-    let found = stops.2 in
-    let P : List (List (List ℕ)) → Type 0 = λ lines. IsFirstBad lines n in
-    let Q : ℕ → Type 0 = IsFirstBad (header_words h ∷ (map (entry_words (calls_of h)) stops.0 ++ (found.0 ∷ found.1))) in
-    subst P (sym (is ∙ ap (λ r. header_words h ∷ r) found.2)) (subst Q (sym found.4) (first_bad h stops.0 found.0 found.1 fits stops.1 found.3))
+bad_entry bytes h rest e fits is stops = grind (arith, first_bad)
 
 -- the text for the entries after the header is the text for the whole script
 pub whole_text : {W L : Type 0} → (bytes : List ℕ) (h : Header) (rest : List (List (List ℕ))) (m : Machine W ℕ (CallOf h) L (Answer ℕ)) (parties : ℕ) (text : List ℕ) → HeaderFits h → words_by_line bytes ≡ header_words h ∷ rest
@@ -184,10 +173,7 @@ whole_text bytes h rest m parties text fits is same plays =
 -- If B implies C and P implies Q, an error of a call that writes may be described by C and Q in place of B and P.
 
 stops_so : (B C : RunError → Type 0) (U P Q : Type 0) → ((e : RunError) → B e → C e) → (P → Q) → (e : RunError) → StopsWriting B U P e → StopsWriting C U Q e
-stops_so B C U P Q before at_write errors.Read stops = (before errors.Read stops.0, stops.1)
-stops_so B C U P Q before at_write errors.Memory stops = (before errors.Memory stops.0, stops.1)
-stops_so B C U P Q before at_write (errors.BadLine n) stops = (before (errors.BadLine n) stops.0, stops.1)
-stops_so B C U P Q before at_write errors.Write stops = at_write stops
+stops_so B C U P Q before at_write e stops = grind arith
 
 module _ {X : Type 0} (r : Result X RunError) (P Q : List ℕ → Type 0) (each : (text : List ℕ) → P text → Q text) (a b : Option (List ℕ)) where
   -- if P implies Q, and some text with P was written, then some text with Q was written
@@ -233,10 +219,7 @@ module _ {X : Type 0} (r : Result X RunError) (bytes : List ℕ) (left left_afte
 
   stops_whole : (U : Type 0) → source_failed ≡ false → (e : RunError)
       → StopsWriting (StopsPlaying bytes) U ((sink_failed ≡ true) × AppendsSomeBeginning (PlaysBytes bytes) written written_after) e → Stops streams U e
-  stops_whole U ok errors.Read stops = absurd stops.0
-  stops_whole U ok errors.Memory stops = (ok, stops.1)
-  stops_whole U ok (errors.BadLine n) stops = (ok, (bytes, reads, stops.0), stops.1)
-  stops_whole U ok errors.Write stops = (ok, stops.0, (bytes, stops.1.0, reads, stops.1.1, stops.1.2))
+  stops_whole U ok e stops = grind arith
 
   pub world_stops : (U : Type 0) → source_failed ≡ false
       → IfErr r (StopsWriting (StopsPlaying bytes) U ((sink_failed ≡ true) × AppendsSomeBeginning (PlaysBytes bytes) written written_after))

@@ -37,8 +37,7 @@ module _ {W V C L A : Type 0} (m : Machine W V C L A) (p : ℕ) (c : C) (h : Opt
   Stops s es = (occurs m stop s es ≡ true) ⊎ (disturbs m p s es ≡ true)
 
   stops_later : (s : State W V C L) (e : ℕ × Move C V) (es : List (ℕ × Move C V)) → Stops (happens m s e.0 e.1).next es → Stops s (e ∷ es)
-  stops_later s e es (inl stops) = inl (or_right _ _ stops)
-  stops_later s e es (inr disturbed) = inr (or_right _ _ disturbed)
+  stops_later s e es h3 = grind (arith, or_right)
 
   stops_first : (s : State W V C L) (xs ys : List (ℕ × Move C V)) → Stops s xs → Stops s (xs ++ ys)
   stops_first s xs ys (inl stops) = inl (occurs-append m stop s xs ys ∙ or_left _ _ stops)
@@ -86,8 +85,7 @@ module _ {W V C L A : Type 0} (m : Machine W V C L A) (p : ℕ) (c : C) (h : Opt
         Noted sc = ((sc.after.plain ≡ seen.plain) × (sc.after.span p ≡ seen.span p)) ⊎ ((mark : Mark) × (mark.party ≡ r) × (mark.before ≡ seen.plain) × (mark.after ≡ sc.after.plain) × (sc.after.span p ≡ mark ∷ seen.span p))
 
         went : (move : Move C V) (step : Option Change) (kind : StepKind) (value : Option V) (s : State W V C L) (d : C) (l : L) (j : Option Hold) (next : Next L A) → Noted (scene_of seen r move (Some (Calling d l j)) (goes_on s r d j next) step kind value)
-        went move step kind value s d l j (Continue i) = inr (mark_of r step kind seen.plain, refl, refl, refl, refl)
-        went move step kind value s d l j (Answers a rest) = inr (mark_of r step kind seen.plain, refl, refl, refl, refl)
+        went move step kind value s d l j next = grind arith
 
         noted : (move : Move C V) → Noted (scene m seen r move)
         noted move =
@@ -106,8 +104,7 @@ module _ {W V C L A : Type 0} (m : Machine W V C L A) (p : ℕ) (c : C) (h : Opt
             move
           where
             owner_noted : (v : V) (o : Option V) (y : Seat C L) → Noted (scene_of seen r (OwnerSet v) (Some y) (owner_writes seen.state v o) None step_kind.plain None)
-            owner_noted v None y = inl (refl, refl)
-            owner_noted v (Some old) y = inl (refl, refl)
+            owner_noted v o y = grind arith
 
         beside : (move : Move C V) → Keeps m (scene m seen r move) → Comes (scene m seen r move)
         beside move keeps = by (same_numbers (m.numbers sc.after.state.words) (m.numbers seen.state.words)) refl
@@ -143,8 +140,7 @@ module _ {W V C L A : Type 0} (m : Machine W V C L A) (p : ℕ) (c : C) (h : Opt
           inr (inr (rw (eqb_self p) (record { point = i; at = rw same (get-set_same seen.state.seats p (Calling c i h) _ q.at); marks = inr since; few = omega (arith, less); encodes = keeps.encodes })))
 
       refused_there : (d : C) (j : Option Hold) (next : Next L A) (x : Option (Seat C L)) → stop p Weak (goes_on seen.state p d j next).outcome x ≡ true
-      refused_there d j (Continue i) x = rw (eqb_self p) refl
-      refused_there d j (Answers a rest) x = eqb_self p
+      refused_there d j next x = grind (arith, eqb_self)
 
       own : (move : Move C V) → Keeps m (scene m seen p move) → IsInTime m (scene m seen p move) → Comes (scene m seen p move)
       own move =
@@ -164,8 +160,7 @@ module _ {W V C L A : Type 0} (m : Machine W V C L A) (p : ℕ) (c : C) (h : Opt
           move
 
       event : (r : ℕ) (move : Move C V) → Keeps m (scene m seen r move) → IsInTime m (scene m seen r move) → Comes (scene m seen r move)
-      event r move keeps time =
-          ⊎_elim (λ (same : r ≡ p). subst (λ i. Keeps m (scene m seen i move) → IsInTime m (scene m seen i move) → Comes (scene m seen i move)) (sym same) (own move) keeps time) (λ (ne : r ≡ p → ⊥). beside r ne move keeps) (cases_eq r p)
+      event r move keeps time = grind (arith, own, beside, cases_eq)
 
     -- what holds of the call after further entries
     record Later (seen : Seen W V C L) (es : List (ℕ × Move C V)) (taken : ℕ) : Type 0 where

@@ -41,11 +41,7 @@ module _ {W V C L A : Type 0} (m : Machine W V C L A) where
   all_move s es p (x ∷ xs) = moves_on s es p x && all_move s es (suc p) xs
 
   moves_is : (s : State W V C L) (es : Turn) (p : ℕ) (x : Seat C L) → moves_on s es p x ≡ true → MovesOn m s es p (Some x)
-  moves_is s es p (Calling c l h) is = is
-  moves_is s es p (Holding h) is = λ may. grind (arith, is, may)
-  moves_is s es p Idle is = tt
-  moves_is s es p (Leaked h) is = grind (arith, is)
-  moves_is s es p (Gone h) is = grind (arith, is)
+  moves_is s es p x is = grind arith
 
   all_is : (s : State W V C L) (es : Turn) (p i : ℕ) (xs : List (Seat C L)) → all_move s es p xs ≡ true → MovesOn m s es (p + i) (slice_get xs i)
   all_is s es p i [] is = tt
@@ -91,12 +87,7 @@ module _ {W V C L A : Type 0} (m : Machine W V C L A) where
       -- a party that moves on from a place in the rest of the schedule moves on from the next place in the whole
       -- schedule
       place_later : (s : State W V C L) (schedule : ℕ → ℕ × Move C V) (place p : ℕ) → MovesFrom (happens m s (schedule 0).0 (schedule 0).1).next (λ i. schedule (suc i)) place p → MovesFrom s schedule (suc place) p
-      place_later s schedule place p moves =
-          let next = (happens m s (schedule 0).0 (schedule 0).1).next in (
-            moves.0,
-            subst (λ es. let there = after m next es in MovesOn m there (stretch schedule (suc place) moves.0) p (slice_get there.seats p)) (sym (later schedule 0 place))
-                (subst (λ es. let there = after m next (stretch (λ i. schedule (suc i)) 0 place) in MovesOn m there es p (slice_get there.seats p)) (sym (later schedule place moves.0)) moves.1),
-          )
+      place_later s schedule place p moves = grind (arith, after, later)
 
       fair_from : (place : ℕ) (s : State W V C L) (x : ℕ × Move C V) (xs : Turn) → Within s (x ∷ xs) → (p : ℕ) → MovesFrom s (around e es x xs) place p
       fair_from zero s x xs w p = (beyond (x ∷ xs) (beyond (e ∷ es) 0), a_round s x xs w p)
@@ -105,8 +96,7 @@ module _ {W V C L A : Type 0} (m : Machine W V C L A) where
 
       never : (place : ℕ) (s : State W V C L) (x : ℕ × Move C V) (xs : Turn) → Within s (x ∷ xs) → occurs m test s (stretch (around e es x xs) 0 place) ≡ false
       never zero s x xs w = refl
-      never (suc place) s x (y ∷ ys) w =
-          rw (later (around e es x (y ∷ ys)) 0 place, not_here s x (y ∷ ys) w) (never place (happens m s x.0 x.1).next y ys (next_is s x (y ∷ ys) w))
+      never (suc place) s x (y ∷ ys) w = grind (arith, later (around e es x (y ∷ ys)) 0 place, not_here s x (y ∷ ys) w, never place (happens m s x.0 x.1).next y ys (next_is s x (y ∷ ys) w))
       never (suc place) s x [] w = rw (later (around e es x []) 0 place, not_here s x [] w, w.back) (never place start e es first)
 
       pub fair_around : IsFair m start (around e es e es)
@@ -150,6 +140,4 @@ module _ {W V C L A : Type 0} (m : Machine W V C L A) where
 
   pub rounds_are : (s : State W V C L) (rounds : List Turn) → are_rounds s rounds ≡ true → AreRounds m s rounds
   rounds_are s [] is = tt
-  rounds_are s (es ∷ rounds) is =
-      let both = and_parts (all_move s es 0 s.seats) (are_rounds (after m s es) rounds) is in
-      (λ p. subst (λ q. MovesOn m s es q (slice_get s.seats p)) (omega arith) (all_is s es 0 p s.seats both.0), rounds_are (after m s es) rounds both.1)
+  rounds_are s (es ∷ rounds) is = grind (arith, and_parts (all_move s es 0 s.seats) (are_rounds (after m s es) rounds) is, all_is, rounds_are (after m s es) rounds (and_parts (all_move s es 0 s.seats) (are_rounds (after m s es) rounds) is).1)

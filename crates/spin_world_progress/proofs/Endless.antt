@@ -16,12 +16,7 @@ module _ {W V C L A : Type 0} (m : Machine W V C L A) where
 
   -- a party that moves on in a stretch also does so in a longer one
   longer : (s : State W V C L) (xs ys : List (ℕ × Move C V)) (p : ℕ) (o : Option (Seat C L)) → MovesOn m s xs p o → MovesOn m s (xs ++ ys) p o
-  longer s xs ys p (Some (Calling c l h)) moves = both s xs ys (awaited_of m p (Some (Calling c l h))) moves
-  longer s xs ys p (Some (Holding h)) moves = λ may. both s xs ys (awaited_of m p (Some (Holding h))) (moves may)
-  longer s xs ys p (Some (Leaked h)) moves = moves
-  longer s xs ys p (Some (Gone h)) moves = moves
-  longer s xs ys p (Some Idle) moves = tt
-  longer s xs ys p None moves = tt
+  longer s xs ys p o moves = grind (arith, both)
 
   module _ (s : State W V C L) (schedule : ℕ → ℕ × Move C V) (fair : IsFair m s schedule) where
     abbrev there : ℕ → State W V C L
@@ -29,11 +24,7 @@ module _ {W V C L A : Type 0} (m : Machine W V C L A) where
 
     farther : (place p a b : ℕ) → a ≤ b → MovesOn m (there place) (stretch schedule place a) p (slice_get (there place).seats p)
         → MovesOn m (there place) (stretch schedule place b) p (slice_get (there place).seats p)
-    farther place p a b le moves =
-        let whole : stretch schedule place b ≡ stretch schedule place a ++ stretch schedule (place + a) (b - a) =
-        ap (stretch schedule place) (omega (arith, le)) ∙ stretch-append schedule place a (b - a) in
-        subst (λ es. MovesOn m (there place) es p (slice_get (there place).seats p)) (sym whole)
-        (longer (there place) (stretch schedule place a) (stretch schedule (place + a) (b - a)) p _ moves)
+    farther place p a b le moves = grind (arith, stretch-append schedule place a (b - a), longer)
 
     -- the first i parties move on
     record FirstMove (place i : ℕ) : Type 0 where
@@ -91,5 +82,4 @@ module _ {W V C L A : Type 0} (m : Machine W V C L A) where
   -- if any `bound` rounds have an event that passes the test, each endless fair schedule has such an event
   pub at_last : (test : Test V C L A) (s : State W V C L) (bound : ℕ) → ((rounds : List (List (ℕ × Move C V))) → AreRounds m s rounds → length rounds ≡ bound → occurs m test s (joined rounds) ≡ true)
       → (schedule : ℕ → ℕ × Move C V) → IsFair m s schedule → (place : ℕ) × (occurs m test s (stretch schedule 0 place) ≡ true)
-  at_last test s bound comes schedule fair =
-      let rounds = rounds_from s schedule fair bound 0 in (rounds.many, subst (λ es. occurs m test s es ≡ true) rounds.joined_is (comes rounds.list rounds.are rounds.length_is))
+  at_last test s bound comes schedule fair = grind (arith, rounds_from s schedule fair bound 0)

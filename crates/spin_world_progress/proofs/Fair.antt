@@ -27,8 +27,7 @@ its_point Unregister = Unit {0}
 its_point _ = ⊥
 
 own_some : (p : ℕ) (qs : List ℕ) → not (is_empty (filter (λ q. q == p) qs)) ≡ true → is_empty qs ≡ false
-own_some p [] found = grind (arith, found)
-own_some p (q ∷ qs) found = refl
+own_some p qs found = grind arith
 
 starves_own : (p : ℕ) (qs : List ℕ) → is_starver p qs ≡ true → not (is_empty (filter (λ q. q == p) qs)) ≡ true
 starves_own p [] found = found
@@ -57,8 +56,7 @@ loads_fit : (clear b : Bool) (l : FairPoint) (his : Option FairSeat) → (mine_b
 loads_fit clear b l his = grind arith
 
 point_cases : (l : FairPoint) → (l ≡ Unregister) ⊎ (l ≡ Unregister → ⊥)
-point_cases Unregister = inl refl
-point_cases l = inr (λ e. absurd (grind (arith, e)))
+point_cases l = grind arith
 
 first_holds : (h : Holder) (hs : List Holder) → not (is_empty (filter (λ g. g.party == h.party) (h ∷ hs))) ≡ true
 first_holds h hs = rw (eqb_self h.party) refl
@@ -118,19 +116,13 @@ module _ {V : Type 0} (v : V) (cap patience : ℕ) where
         goes_set at ne set = grind (arith, waits, at, ne, set, get-set_same seen.state.seats p (Calling c Await h) _ there)
 
         own : (n : ℕ) → walk.Within f x seen l (suc n) → IsOpenStep s p y.change → its_point l → (l ≡ Unregister → ⊥) → (b : Bool) → is_empty s.holders ≡ b → walk.Own f x seen l n y
-        own n within opens at ne true is =
-            ⊎_elim
-            (λ on. inr (Unregister, on.0, tt, rw on.1 (grind (arith, within.mine, is, on.2)), λ o other not_its. omega (arith, others_same p o c l h opens not_its)))
-            (λ on. inr (SetFlag, on.0, tt, rw on.1 (grind (arith, within.mine, is, on.2)), λ o other not_its. omega (arith, others_same p o c l h opens not_its)))
-            (goes_clear at ne (empty_is s.holders is) (flag ∙ ap not is))
-        own n within opens at ne false is = let on = goes_set at ne (flag ∙ ap not is) in inr (Await, on.0, tt, rw (on.1, is) (omega arith), λ o other not_its. omega (arith, others_same p o c l h opens not_its))
+        own n within opens at ne b is = grind (arith, others_same, goes_clear, empty_is, flag, goes_set)
 
         own_by : (n : ℕ) → walk.Within f x seen l (suc n) → IsOpenStep s p y.change → its_point l → walk.Own f x seen l n y
         own_by n within opens at = ⊎_elim (λ (is : l ≡ Unregister). inl (granted is)) (λ (ne : l ≡ Unregister → ⊥). own n within opens at ne (is_empty s.holders) refl) (point_cases l)
 
       some_starve : seat_of seen p ≡ Some (Calling c l h) → its_point l → is_empty s.starvers ≡ false
-      some_starve there at =
-          own_some p s.starvers (row_tells (fair_notes v cap patience) c l h p s (seen.span p) (λ e. not (is_empty e.starvers)) _ (in_call f p good there).knows (grind (arith, waits, at)))
+      some_starve there at = grind (arith, own_some, row_tells, in_call)
 
       -- another party's step, which may set a clear flag
       takes_clear : (q : ℕ) (d : FairCall) (i : FairPoint) (j : Option Hold) → s.holders ≡ [] → is_set seen.state.words ≡ false → is_empty s.starvers ≡ false → seat_of seen q ≡ Some (Calling d i j) → let y = sc seen q d i j in IsOpenStep s q y.change
@@ -143,9 +135,7 @@ module _ {V : Type 0} (v : V) (cap patience : ℕ) where
       -- by its step, a holder releases the lock, or its call is granted
       holder_steps : (n q : ℕ) (d : FairCall) (i : FairPoint) (j : Option Hold) → seat_of seen q ≡ Some (Calling d i j) → Sits q (Some (Calling d i j)) → walk.After f x seen q (sc seen q d i j) → theirs_by true (Some (Calling d i j)) ≤ suc n
           → walk.Reaches f x (sc seen q d i j) ⊎ walk.Falls f x seen l q (sc seen q d i j) n
-      holder_steps n q Release First (Some Write) seat so made few =
-          let none : (sc seen q Release First (Some Write)).after.plain.holders ≡ [] = one_gone writing q s.holders good.shape.one made.opens.1 in
-          inr (record { his = rw none (omega arith); mine = rw none (grind (arith, few)); others = λ o other not_his. omega (arith, others_same q o Release First (Some Write) made.opens not_his) })
+      holder_steps n q Release First (Some Write) seat so made few = grind (arith, one_gone writing q s.holders good.shape.one made.opens.1, others_same)
       holder_steps n q d Unregister j seat so made few = inl (rw (get-set_same seen.state.seats q (Holding Write) _ seat) refl)
       holder_steps n q d i j seat so made few = absurd (grind (arith, so))
 
@@ -187,8 +177,7 @@ module _ {V : Type 0} (v : V) (cap patience : ℕ) where
         steps false none = inr (other_steps none (is_empty s.holders) refl)
 
       busy : (q : ℕ) (b : Bool) → holds_lock (entries q s) ≡ b → 1 ≤ theirs_by b (seat_of seen q) → is_busy (seat_of seen q) ≡ true
-      busy q true found some = walk.busy_so (fair_notes v cap patience) holds_lock q _ refl (λ h so. grind (arith, so)) (his_sits q found)
-      busy q false found some = absurd (omega (arith, some))
+      busy q b found some = grind (arith, his_sits)
 
       some : seat_of seen p ≡ Some (Calling c l h) → its_point l → walk.Within f x seen l 0 → ⊥
       some there at none = by s.holders refl
@@ -202,8 +191,7 @@ module _ {V : Type 0} (v : V) (cap patience : ℕ) where
               (λ (ne : i.party ≡ p → ⊥). absurd (omega (arith, theirs_some (seat_of seen i.party), subst (λ b. theirs_by b (seat_of seen i.party) ≤ 0) found (none.theirs i.party ne)))) (cases_eq i.party p)
 
       strong : (q : ℕ) (d : FairCall) (i : FairPoint) (j : Option Hold) (next : Next FairPoint (Answer V)) → seat_of seen q ≡ Some (Calling d i j) → m.refuse d i j ≡ Some next → (b : Bool) → holds_lock (entries q s) ≡ b → (o : Option FairSeat) → theirs_by b o ≤ 0
-      strong q d i j next seat may true found o = absurd (grind (arith, may, subst (Sits q) seat (his_sits q found)))
-      strong q d i j next seat may false none o = omega arith
+      strong q d i j next seat may b found o = grind (arith, his_sits)
 
     walks : walk.Walks f x
     walks =

@@ -37,9 +37,7 @@ module _ {V : Type 0} (v : V) where
     -- the waiting party's own step reaches the goal, or leads to a point of its call; if nobody holds, the rank falls
     own : (seen : World) (l : FlagPoint) → Invariant (flag_facts v) seen → seat_of seen p ≡ Some (Calling Lock l h) → (b : Bool) → seen.state.words ≡ b → let x = scene_at m seen p Step (Some (Calling Lock l h)) in
         (goal p Step x.outcome (seat_of x.after p) ≡ true) ⊎ ((i : FlagPoint) × (seat_of x.after p ≡ Some (Calling Lock i h)) × Unit {0} × (Nobody seen → rank_by i ≤ rank_by l - 1))
-    own seen First good there false is = inl (rw is refl)
-    own seen Second good there false is = inr (First, rw is (get-set_same seen.state.seats p (Calling Lock First h) _ there), tt, λ none. omega arith)
-    own seen l good there true is = inr (Second, grind (arith, is, get-set_same seen.state.seats p (Calling Lock Second h) _ there), tt, λ none. absurd (grind (arith, is, good.encodes, nobody_holds seen.plain.holders none)))
+    own seen l good there b is = grind (arith, get-set_same, nobody_holds)
 
     -- a step that makes a party a holder is a grant
     comes : (seen : World) (q : ℕ) (c : FlagCall) (l : FlagPoint) (h : Option Hold) (b : Bool) → seen.state.words ≡ b → holds_lock (entries q seen.plain) ≡ false
@@ -51,8 +49,7 @@ module _ {V : Type 0} (v : V) where
     releases q c l h w u so = absurd (grind (arith, so))
 
     weak : (seen : World) (l : FlagPoint) (next : Next FlagPoint (Answer V)) → let n = goes_on seen.state p Lock h next in goal p Weak n.outcome (slice_get n.next.seats p) ≡ true
-    weak seen l (Continue i) = rw (eqb_self p) refl
-    weak seen l (Answers a rest) = grind (arith, eqb_self p)
+    weak seen l next = grind (arith, eqb_self)
 
     leaves : leaving.Leaves (flag_facts v) goal p Lock h (λ l. Unit {0}) holds_lock rank_by 2
     leaves =

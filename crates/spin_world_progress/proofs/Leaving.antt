@@ -86,22 +86,13 @@ module _ {W V C L A : Type 0} {t : Table W V C L A} {n : Notes t} (f : Plays (ma
             subst (λ e. Reaches sc ⊎ (test e ≡ false)) (sym (entries-own seen.plain q sc.change made.opens)) (leaves.comes seen l q d i j w there none made.opens)
 
     strong_there : (seen : World) → Invariant f seen → (q : ℕ) (d : C) (i : L) (j : Option Hold) (next : Next L A) → seat_of seen q ≡ Some (Calling d i j) → m.refuse d i j ≡ Some next → holds q seen ≡ false
-    strong_there seen good q d i j next there may = by (holds q seen) refl
-      where
-        by : (b : Bool) → holds q seen ≡ b → b ≡ false
-        by true found = absurd (leaves.strong q d i j next (subst (walk.SitsSo n test q) there (sits seen good q found)) may)
-        by false none = refl
+    strong_there seen good q d i j next there may = grind (arith, sits)
 
     not_mine : (seen : World) (l : L) → Waits seen l → holds p seen ≡ false
-    not_mine seen l w = by (holds p seen) refl
-      where
-        by : (b : Bool) → holds p seen ≡ b → b ≡ false
-        by true found = absurd (leaves.not_its l w.1 (subst (walk.SitsSo n test p) w.0 (sits seen w.3 p found)))
-        by false none = refl
+    not_mine seen l w = grind (arith, sits)
 
     busy : (seen : World) → Invariant f seen → (q : ℕ) (b : Bool) → holds q seen ≡ b → 1 ≤ load_by bound b (seat_of seen q) → is_busy (seat_of seen q) ≡ true
-    busy seen good q true found some = walk.busy_so n test q _ leaves.none (λ h. leaves.reads q h) (sits seen good q found)
-    busy seen good q false found some = absurd (omega (arith, some))
+    busy seen good q b found some = grind (arith, sits)
 
     same_load : (seen : World) (q o : ℕ) (sc : Scene W V C L A) → (q ≡ o → ⊥) → IsOpenStep seen.plain q sc.change → sc.after.plain ≡ apply_some seen.plain sc.change → load_by bound (test (entries o sc.after.plain)) (seat_of seen o) ≤ load_by bound (holds o seen) (seat_of seen o)
     same_load seen q o sc ne opens plain = omega (arith, ap (λ e. load_by bound (test e) (seat_of seen o)) (ap (entries o) plain ∙ entries-other seen.plain q o sc.change ne opens))

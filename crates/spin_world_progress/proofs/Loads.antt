@@ -24,13 +24,7 @@ module _ {W V C L A : Type 0} {t : Table W V C L A} (n : Notes t) (test : Entrie
   SitsSo p _ = test (entries_held p None) ≡ true
 
   sits_by : (p : ℕ) (s : Plain) (span : List Mark) (o : Option (Seat C L)) → StandsFor s p span o → KnowsAt n s p span o → test (entries p s) ≡ true → SitsSo p o
-  sits_by p s span (Some (Calling c l h)) stands knows has =
-      row_passes n c l h p s span (λ row. test (entries_at p row.stand)) (λ row stand made. ap test (sym stand) ∙ has) _ knows
-  sits_by p s span (Some (Holding h)) stands knows has = sym (ap test stands) ∙ has
-  sits_by p s span (Some (Leaked h)) stands knows has = sym (ap test stands) ∙ has
-  sits_by p s span (Some (Gone h)) stands knows has = sym (ap test stands) ∙ has
-  sits_by p s span (Some Idle) stands knows has = sym (ap test stands) ∙ has
-  sits_by p s span None stands knows has = sym (ap test stands) ∙ has
+  sits_by p s span o stands knows has = grind (arith, row_passes)
 
   pub sits_so : {f : Plays (machine_of t) n} (seen : Seen W V C L) → Invariant f seen → (p : ℕ) → test (entries p seen.plain) ≡ true → SitsSo p (seat_of seen p)
   sits_so seen good p has = sits_by p seen.plain (seen.span p) _ (good.parties p).stands (good.parties p).knows has
@@ -201,26 +195,17 @@ module _ {W V C L A B : Type 0} {t : Table W V C L B} {given : Machine W V C L A
     within_all sc pays q = ⊎_elim (λ (low : load seen l q ≤ n). omega (arith, low)) (λ y. y.0) (pays q)
 
     within : (sc : Event) → ((q : ℕ) → Pays_by sc q) → Within seen l (suc n)
-    within sc pays =
-        record {
-          mine = omega (arith, within_all sc pays p, own_load seen.plain l (seat_of seen p));
-          theirs = λ q ne. omega (arith, within_all sc pays q, other_load seen.plain l q (seat_of seen q) ne);
-        }
+    within sc pays = grind (arith, within_all, own_load, other_load)
 
     -- the load of a party that does not step, by whether it is the waiting party
     by_whom : (sc : Event) (i : L) (o : ℕ) → ((o ≡ p) → x.mine sc.after.plain i ≤ max (x.mine seen.plain l) n) → ((o ≡ p → ⊥) → x.theirs sc.after.plain i o (seat_of seen o) ≤ max (theirs seen l o) n)
         → load_by sc.after.plain i o (seat_of seen o) ≤ max (load seen l o) n
-    by_whom sc i o mine other =
-        let his = seat_of seen o in
-        ⊎_elim (λ (is : o ≡ p). rw (eq-eqb o p is) (mine is))
-        (λ (ne : o ≡ p → ⊥). omega (arith, other ne, other_load sc.after.plain i o his ne, other_load seen.plain l o his ne)) (cases_eq o p)
+    by_whom sc i o mine other = grind (arith, eq-eqb, other_load, after, cases_eq)
 
     -- a party that keeps its seat at the event
     stays : (sc : Event) (i : L) (q : ℕ) → seat_of sc.after q ≡ seat_of seen q → load_by sc.after.plain i q (seat_of seen q) ≤ max (load seen l q) n → (sc.party ≡ q → is_idle sc.outcome ≡ true)
         → Pays_by sc q → Pays sc.after i n es q
-    stays sc i q same le idle (inl low) = inl (omega (arith, le, low, ap (load_by sc.after.plain i q) same))
-    stays sc i q same le idle (inr y) =
-        inr (omega (arith, le, y.0, ap (load_by sc.after.plain i q) same), subst (λ o. occurs m (awaited q o) sc.after.state es ≡ true) (sym same) (or_rest _ _ y.1 (unawaited m q sc.party _ sc.move sc.outcome idle)))
+    stays sc i q same le idle h6 = grind (arith, after, awaited, or_rest, unawaited)
 
     -- the party still waits, at the same point
     waits_on : (q : ℕ) (sc : Event) → After seen q sc → seat_of sc.after p ≡ seat_of seen p → ((q : ℕ) → Pays sc.after l n es q) → Reaches sc ⊎ On sc
@@ -228,8 +213,7 @@ module _ {W V C L A B : Type 0} {t : Table W V C L B} {given : Machine W V C L A
 
     -- an event that changes no seat
     quiet : (q : ℕ) (sc : Event) → sc.after.plain ≡ seen.plain → sc.after.state.seats ≡ seen.state.seats → is_idle sc.outcome ≡ true → After seen q sc → Goes sc
-    quiet q sc plain seats idle made pays =
-        waits_on q sc made (ap (λ xs. slice_get xs p) seats) (λ o. stays sc l o (ap (λ xs. slice_get xs o) seats) (omega (arith, ap (λ s. load_by s l o (seat_of seen o)) plain)) (λ e. idle) (pays o))
+    quiet q sc plain seats idle made = grind (arith, waits_on, stays)
 
     module _ (q : ℕ) (ne : q ≡ p → ⊥) where
       -- an event that changes only the seat of its party q, if `Pays` holds of q after it
@@ -241,13 +225,7 @@ module _ {W V C L A B : Type 0} {t : Table W V C L B} {given : Machine W V C L A
       -- the party q gets this seat, and the plain lock is unchanged
       moves_to : (y : Option (Seat C L)) (sc : Event) → sc.party ≡ q → sc.after.plain ≡ seen.plain → seat_of sc.after q ≡ y → After seen q sc → ((q : ℕ) → Pays_by sc q)
           → (load_by seen.plain l q y ≤ n) ⊎ ((load_by seen.plain l q y ≤ suc n) × (occurs m (awaited q y) sc.after.state es ≡ true)) → Reaches sc ⊎ On sc
-      moves_to y sc party plain seat made pays his =
-          one_moves sc party made pays
-          (⊎_elim (λ (low : load_by seen.plain l q y ≤ n). inl (omega (arith, low, now))) (λ z. inr (omega (arith, z.0, now), subst (λ o. occurs m (awaited q o) sc.after.state es ≡ true) (sym seat) z.1)) his)
-          (λ o other. omega (arith, ap (λ s. load_by s l o (seat_of seen o)) plain))
-        where
-          now : load sc.after l q ≡ load_by seen.plain l q y
-          now = cc (plain, seat)
+      moves_to y sc party plain seat made pays his = grind (arith, one_moves, awaited, after)
 
       abbrev begin_at : C → L → Option Hold → Event
       begin_at d i j = scene_of seen q (Begin d) (Some (resting j)) (begun seen.state q d j (Some i)) None step_kind.plain None
@@ -257,19 +235,13 @@ module _ {W V C L A B : Type 0} {t : Table W V C L B} {given : Machine W V C L A
 
       begins_low : (d : C) (i : L) (j : Option Hold) → seat_of seen q ≡ Some (resting j) → m.begin d j ≡ Some i
           → (load_by seen.plain l q (Some (Calling d i j)) ≤ load seen l q) × (is_release (m.asks d j) ≡ true → load_by seen.plain l q (Some (Calling d i j)) ≤ load seen l q - 1)
-      begins_low d i j at may =
-          let low = walks.begins seen l w q d i j ne at may in
-          let now = his_load (Some (Calling d i j)) in
-          let before = his_load (seat_of seen q) in
-          (omega (arith, low.0, now, before), λ is. omega (arith, low.1 is, now, before))
+      begins_low d i j at may = grind (arith, his_load)
 
       -- after q begins a call, its load is at most n, or at most n + 1 with a step of this call still to come
       begins_on : (d : C) (i : L) (j : Option Hold) → seat_of seen q ≡ Some (resting j) → m.begin d j ≡ Some i → Pays_by (begin_at d i j) q
           → (load_by seen.plain l q (Some (Calling d i j)) ≤ n) ⊎ ((load_by seen.plain l q (Some (Calling d i j)) ≤ suc n) × (occurs m (awaited q (Some (Calling d i j))) (begin_at d i j).after.state es ≡ true))
       begins_on d i j at may (inl low) = inl (omega (arith, low, (begins_low d i j at may).0))
-      begins_on d i None at may (inr y) =
-          ⊎_elim (λ (none : load seen l q < 1). inl (omega (arith, none, (begins_low d i None at may).0)))
-          (λ (some : 1 ≤ load seen l q). absurd (false≢true (ap is_busy (sym at) ∙ walks.busy seen l q w ne (omega (arith, some, his_load (seat_of seen q)))))) (cases_lt (load seen l q) 1)
+      begins_on d i None at may (inr y) = grind (arith, begins_low d i None at may, false≢true, cases_lt)
       begins_on d i (Some h) at may (inr y) = by (is_release (m.asks d (Some h))) refl
         where
           ahead : (awaited q (Some (Holding h)) q (Begin d) (begin_at d i (Some h)).outcome (seat_after (begin_at d i (Some h))) || occurs m (awaited q (Some (Holding h))) (begin_at d i (Some h)).after.state es) ≡ true
@@ -373,9 +345,7 @@ module _ {W V C L A B : Type 0} {t : Table W V C L B} {given : Machine W V C L A
     Waiting seen n = (l : L) × Waits seen l × Within seen l n
 
     through : (seen : World) (l : L) (n : ℕ) (es : Turn) → Waits seen l → x.Fine (seen_after m seen es) → ((q : ℕ) → Pays seen l n es q) → (occurs m x.goal seen.state es ≡ true) ⊎ Waiting (seen_after m seen es) n
-    through seen l n [] w fine pays =
-        let low : (q : ℕ) → load seen l q ≤ n = λ q. ⊎_elim (λ (low : load seen l q ≤ n). low) (λ y. absurd (false≢true y.1)) (pays q) in
-        inr (l, w, record { mine = omega (arith, low p, own_load seen.plain l (seat_of seen p)); theirs = λ q ne. omega (arith, low q, other_load seen.plain l q (seat_of seen q) ne) })
+    through seen l n [] w fine pays = grind (arith, false≢true, own_load, other_load)
     through seen l n (e ∷ es) w fine pays =
         let sc = scene m seen e.0 e.1 in
         ⊎_elim (λ (r : Reaches sc). inl (or_left _ _ r))
@@ -392,9 +362,7 @@ module _ {W V C L A B : Type 0} {t : Table W V C L B} {given : Machine W V C L A
         loads q = ⊎_elim (λ (is : q ≡ p). rw (eq-eqb q p is) within.mine) (λ (ne : q ≡ p → ⊥). omega (arith, within.theirs q ne, other_load seen.plain l q (seat_of seen q) ne)) (cases_eq q p)
 
         busy : (q : ℕ) → suc n ≤ load seen l q → is_busy (seat_of seen q) ≡ true
-        busy q high =
-            ⊎_elim (λ (is : q ≡ p). ap is_busy (ap (seat_of seen) is ∙ w.0))
-            (λ (ne : q ≡ p → ⊥). walks.busy seen l q w ne (omega (arith, high, other_load seen.plain l q (seat_of seen q) ne))) (cases_eq q p)
+        busy q high = grind (arith, other_load, cases_eq)
 
     -- the goal is reached in as many rounds as the highest load says
     in_rounds : (rounds : List Turn) (seen : World) (l : L) → Waits seen l → x.Fine (seen_after m seen (joined rounds)) → AreRounds m seen.state rounds → Within seen l (length rounds) → occurs m x.goal seen.state (joined rounds) ≡ true

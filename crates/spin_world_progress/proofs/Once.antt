@@ -41,17 +41,14 @@ begins_running q r p n l ne few = grind (arith, ne, few)
 -- A step that does not end the running closure begins a closure, or does not change the phase.
 phase_beside : (s : Plain) (r : ℕ) (step : Option Change) → IsOpenStep s r step → BelongsTo once step → is_running r s.phase ≡ false
     → ((apply_some s step).phase ≡ s.phase) ⊎ ((s.phase ≡ nothing) × ((apply_some s step).phase ≡ running r))
-phase_beside s r None may belongs other = inl refl
-phase_beside s r (Some c) may belongs other = grind (arith, may, belongs, other)
+phase_beside s r step may belongs other = grind arith
 
 -- if a party runs a closure after another party's step, it already ran the closure before this step
 runs_before : (s : Plain) (r q : ℕ) (step : Option Change) → IsOpenStep s r step → BelongsTo once step → (r ≡ q → ⊥) → (apply_some s step).phase ≡ running q → s.phase ≡ running q
-runs_before s r q None may belongs ne is = is
-runs_before s r q (Some c) may belongs ne is = grind (arith, may, belongs, ne, is)
+runs_before s r q step may belongs ne is = grind arith
 
 point_cases : (l : OncePoint) → (l ≡ Run) ⊎ (l ≡ Run → ⊥)
-point_cases Run = inl refl
-point_cases l = inr (λ e. absurd (grind (arith, e)))
+point_cases l = grind arith
 
 same_point : {V : Type 0} (d : OnceCall V) (i : OncePoint) (j : Option Hold) (e : OnceCall V) (g : Option Hold) → Some (Calling d i j) ≡ Some (Calling e Run g) → i ≡ Run
 same_point d i j e g is = cc (is)
@@ -60,11 +57,7 @@ told_where : (s : Plain) → once_word s ≡ 2 → s.phase ≡ complete
 told_where s is = grind (arith, is)
 
 runs_where : (s : Plain) → once_word s ≡ 1 → (q : ℕ) × (s.phase ≡ running q)
-runs_where s is = by s.phase refl
-  where
-    by : (phase : Phase) → s.phase ≡ phase → (q : ℕ) × (s.phase ≡ running q)
-    by (running q) e = (q, e)
-    by phase e = absurd (grind (arith, is, e))
+runs_where s is = grind arith
 
 module _ {V : Type 0} (value : Option V) where
   abbrev m : OnceMachine V
@@ -113,9 +106,7 @@ module _ {V : Type 0} (value : Option V) where
       begins_run is = grind (arith, is, get-set_same seen.state.seats q (Calling c Run h) _ there)
 
       steps_on : y.after.plain.phase ≡ running q → Runs y.after q
-      steps_on is =
-          ⊎_elim (λ (before : seen.plain.phase ≡ running q). let at = runner q before in absurd (ends (same_point c l h at.0 at.1 (sym there ∙ at.2)) is))
-          (λ (seat : seat_of y.after q ≡ Some (Calling c Run h)). (c, h, seat)) (begins_run is)
+      steps_on is = grind (arith, ends, same_point, begins_run)
 
     own_kept : (q : ℕ) (move : Move (OnceCall V) V) → (scene m seen q move).after.plain.phase ≡ running q → Runs (scene m seen q move).after q
     own_kept q move =
@@ -185,12 +176,7 @@ module _ {V : Type 0} (value : Option V) where
       -- the step that ends another party's closure reaches the goal, or there is a value after it
       run_ends : (q : ℕ) (d : OnceCall V) (i : OncePoint) (j : Option Hold) → seat_of seen q ≡ Some (Calling d i j) → i ≡ Run
           → let y = scene_at m seen q Step (Some (Calling d i j)) in walk.Reaches f x y ⊎ (y.after.plain.phase ≡ complete)
-      run_ends q (CallOnce u) Run j at e = inr refl
-      run_ends q (TryCallOnceOk u) Run j at e = inr refl
-      run_ends q (InitFromRef u) Run j at e = inr refl
-      run_ends q TryCallOnceErr Run j at e = inl (grind arith)
-      run_ends q d Run j at e = absurd (in_call f q w.3 at).knows
-      run_ends q d i j at e = absurd (grind (arith, e))
+      run_ends q d i j at e = grind (arith, in_call)
 
       -- another party's step ends its closure, or begins one, or does not change the phase
       steps : (n : ℕ) → walk.Within f x seen l (suc n) → (q : ℕ) (d : OnceCall V) (i : OncePoint) (j : Option Hold) → (q ≡ p → ⊥) → seat_of seen q ≡ Some (Calling d i j)
@@ -254,8 +240,7 @@ module _ {V : Type 0} (value : Option V) where
   -- While there is a value
 
   complete_stays : (s : Plain) (q : ℕ) (step : Option Change) → s.phase ≡ complete → IsOpenStep s q step → BelongsTo once step → (apply_some s step).phase ≡ complete
-  complete_stays s q None is opens belongs = is
-  complete_stays s q (Some c) is opens belongs = grind (arith, is, opens, belongs)
+  complete_stays s q step is opens belongs = grind arith
 
   abbrev is_told : World → Type 0
   is_told seen = seen.plain.phase ≡ complete

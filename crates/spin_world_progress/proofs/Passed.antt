@@ -37,9 +37,7 @@ module _ {V : Type 0} (v : V) (first : ℕ) where
     comes_to = grind (arith, eqb_self k, low, next_low, other)
 
     is_round : IsRound m (behind k) round
-    is_round zero = simp (eqb_self, low, next_low, other)
-    is_round (suc zero) = tt
-    is_round (suc (suc p)) = tt
+    is_round = grind (arith, eqb_self, low, next_low, other)
 
     passes_over : occurs m (grants m 0) (behind k) round ≡ false
     passes_over = simp (eqb_self, low, next_low, other)

@@ -43,12 +43,10 @@ rests_here C L h = grind arith
 -- a party that is idle, holds or has leaked is in no call
 
 pub calls_not : {C L : Type 0} (h : Option Hold) (c : C) (l : L) (held : Option Hold) → Some (resting h) ≡ Some (Calling c l held) → ⊥
-calls_not None c l held e = cc (e)
-calls_not (Some h) c l held e = cc (e)
+calls_not h c l held e = grind arith
 
 pub holds_not : {C L : Type 0} (b : Bool) (h : Hold) (c : C) (l : L) (held : Option Hold) → Some (seat_with b h) ≡ Some (Calling c l held) → ⊥
-holds_not true h c l held e = cc (e)
-holds_not false h c l held e = cc (e)
+holds_not b h c l held e = grind arith
 
 -- an outcome after which no party has moved on
 abbrev pub is_idle : {V A : Type 0} → Outcome A V → Bool
@@ -60,8 +58,7 @@ is_idle _ = true
 module _ {W V C L A : Type 0} (m : Machine W V C L A) where
   -- the owner has no move while a party is in a call
   pub no_owner : (seen : Seen W V C L) (p : ℕ) (c : C) (l : L) (h : Option Hold) → seat_of seen p ≡ Some (Calling c l h) → is_owners m seen.state ≡ true → ⊥
-  no_owner seen p c l h there may =
-      false≢true (all-get yields_to_owner seen.state.seats p (Calling c l h) (and_parts m.owned (list_all yields_to_owner seen.state.seats) may).1 there)
+  no_owner seen p c l h there may = grind (arith, false≢true, all-get, and_parts)
 
   -- what a move of the party q changes for the party d
   module _ (seen : Seen W V C L) (q d : ℕ) where
@@ -69,8 +66,7 @@ module _ {W V C L A : Type 0} (m : Machine W V C L A) where
     seats = seen.state.seats
 
     went : (s : State W V C L) (c : C) (h : Option Hold) (next : Next L A) → (q ≡ d → ⊥) → slice_get (goes_on s q c h next).next.seats d ≡ slice_get s.seats d
-    went s c h (Continue l) ne = get-set_other s.seats q d (Calling c l h) ne
-    went s c h (Answers a rest) ne = get-set_other s.seats q d (resting rest) ne
+    went s c h next ne = grind (arith, get-set_other)
 
     -- while some party is in a call, a move changes no other seat than that of the party that moves
     pub same_beside : (p : ℕ) (c : C) (l : L) (h : Option Hold) → slice_get seats p ≡ Some (Calling c l h) → (move : Move C V) → (q ≡ d → ⊥)
@@ -102,8 +98,7 @@ module _ {W V C L A : Type 0} (m : Machine W V C L A) where
       looked = seen_left (slice_get seats d) left
 
       owner_away : (v : V) (o : Option V) → let x = owner_writes {A = A} seen.state v o in (has_left (slice_get x.next.seats d) ≡ true) × (q ≡ d → is_idle x.outcome ≡ true)
-      owner_away v None = (rw (slice_get-map seen_by_owner seats d) looked, λ e. refl)
-      owner_away v (Some old) = (rw (slice_get-map seen_by_owner seats d) looked, λ e. refl)
+      owner_away v o = grind (arith, slice_get-map, looked)
 
       away : (move : Move C V) → Away (scene m seen q move)
       away move =
@@ -143,16 +138,10 @@ module _ {W V C L A : Type 0} (m : Machine W V C L A) where
 
   -- a party that may be waited for moves on in a round
   pub moves_on : (s : State W V C L) (es : List (ℕ × Move C V)) (d : ℕ) (o : Option (Seat C L)) → is_busy o ≡ true → MovesOn m s es d o → occurs m (awaited_of d o) s es ≡ true
-  moves_on s es d (Some (Calling c l h)) busy moves = moves
-  moves_on s es d (Some (Holding h)) busy moves = moves busy
-  moves_on s es d (Some (Leaked h)) busy moves = absurd (true≢false (sym busy ∙ moves))
-  moves_on s es d (Some (Gone h)) busy moves = absurd (true≢false (sym busy ∙ moves))
-  moves_on s es d (Some Idle) busy moves = absurd (false≢true busy)
-  moves_on s es d None busy moves = absurd (false≢true busy)
+  moves_on s es d o busy moves = grind (arith, true≢false, false≢true)
 
   is_stepped : (s : State W V C L) (q : ℕ) (c : C) (h : Option Hold) (next : Next L A) → is_step (goes_on s q c h next).outcome ≡ true
-  is_stepped s q c h (Continue l) = refl
-  is_stepped s q c h (Answers a rest) = refl
+  is_stepped s q c h next = grind arith
 
   -- a party in a call takes a step, or keeps its seat
   abbrev StepsOrStays : Seen W V C L → ℕ → Scene W V C L A → Type 0

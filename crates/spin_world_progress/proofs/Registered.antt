@@ -40,10 +40,7 @@ module _ {V : Type 0} (v : V) (cap patience : ℕ) where
   -- party 0 has looked n times, and goes on to register when it has looked often enough
   looked : (k n : ℕ) → n + k ≡ patience → after m (beside (Look n)) (looks k) ≡ beside Load
   looked zero n is = let often : nat_lt n patience ≡ false = le-ltb n patience (omega (arith, is)) in grind (arith, often)
-  looked (suc k) n is =
-      let seldom : nat_lt n patience ≡ true = lt-ltb n patience (omega (arith, is)) in
-      let once_more : (happens m (beside (Look n)) 0 Step).next ≡ beside (Look (n + 1)) = grind (arith, seldom) in
-      ap (λ s. after m s (looks k)) once_more ∙ looked k (n + 1) (omega (arith, is))
+  looked (suc k) n is = grind (arith, lt-ltb n patience (omega (arith, is)), after, looked k (n + 1) (omega (arith, is)))
 
   abbrev front : Schedule
   front = (1, Begin TryLock) ∷ (1, Step) ∷ (0, Begin Lock) ∷ (0, Step) ∷ []
@@ -77,9 +74,7 @@ module _ {V : Type 0} (v : V) (cap patience : ℕ) where
     at_back = grind (arith, room, more)
 
     there : after m (at_first m 2) past ≡ start
-    there =
-        after-append m (at_first m 2) front (looks patience ++ back) ∙ ap (λ s. after m s (looks patience ++ back)) at_front
-        ∙ after-append m (beside (Look 0)) (looks patience) back ∙ ap (λ s. after m s back) (looked patience 0 (omega arith)) ∙ at_back
+    there = grind (arith, after-append, at_first, front, looks, after, at_front, beside, looked, at_back)
 
     seated : slice_get (after m (at_first m 2) past).seats 0 ≡ Some (Calling Lock SetFlag None)
     seated = ap (λ (s : World). slice_get s.seats 0) there

@@ -46,8 +46,7 @@ not_reading s p q _ alone asks none may = none
 
 not_reading_some : (s : Plain) (p q r : ℕ) (step : Option Change) → IsExclusive s → is_holder p asking s.holders ≡ true → is_holder q reading s.holders ≡ false → IsOpenStep s r step
     → is_holder q reading (apply_some s step).holders ≡ false
-not_reading_some s p q r None alone asks none may = none
-not_reading_some s p q r (Some c) alone asks none may = not_reading s p q c alone asks none may.1
+not_reading_some s p q r step alone asks none may = grind (arith, not_reading)
 
 no_readers : (hs : List Holder) → ((q : ℕ) → is_holder q reading hs ≡ false) → count_kind reading hs ≡ 0
 no_readers [] none = refl
@@ -80,8 +79,7 @@ module _ {V : Type 0} (v : V) (cap : ℕ) where
     goal q move o x = grants m p q move o x || refuses_weakly p q move o x
 
     weak : (seen : World) (next : Next RwPoint (Answer V)) → let n = goes_on seen.state p Upgrade (Some hold.Upgradable) next in goal p Weak n.outcome (slice_get n.next.seats p) ≡ true
-    weak seen (Continue l) = rw (eqb_self p) refl
-    weak seen (Answers a rest) = grind (arith, eqb_self p)
+    weak seen next = grind (arith, eqb_self)
 
     abbrev its : Option (Seat RwCall RwPoint)
     its = Some (Calling Upgrade Asking (Some hold.Upgradable))
@@ -91,18 +89,14 @@ module _ {V : Type 0} (v : V) (cap : ℕ) where
       x = scene_at m seen p Step its
 
       own : (b : Bool) → (seen.state.words == weight asking) ≡ b → (goal p Step x.outcome (seat_of x.after p) ≡ true) ⊎ ((seat_of x.after p ≡ its) × (b ≡ false))
-      own true is = inl (rw (is, eqb_self p) refl)
-      own false is = inr (rw is (get-set_same seen.state.seats p (Calling Upgrade Asking (Some hold.Upgradable)) _ there), refl)
+      own b is = grind (arith, eqb_self, get-set_same, there)
 
       asks : is_holder p asking seen.plain.holders ≡ true
       asks = holder_by p asking seen.plain (in_call f p good there).knows.0.stand
 
       -- a step makes nobody a reader
       no_reader : (q : ℕ) (step : Option Change) → any_of reading (entries q seen.plain) ≡ false → IsOpenStep seen.plain q step → any_of reading (entries_after seen.plain step (entries q seen.plain)) ≡ false
-      no_reader q step none opens =
-          let after = apply_some seen.plain step in
-          ap (any_of reading) (sym (entries-own seen.plain q step opens))
-          ∙ (any_own reading q after.holders ∙ not_reading_some seen.plain p q q step good.exclusive asks (sym (any_own reading q seen.plain.holders) ∙ none) opens)
+      no_reader q step none opens = grind (arith, entries-own, any_own, not_reading_some, good, asks)
 
       -- if nobody reads, the word is that of one reader that asks to upgrade
       open_now : ((q : ℕ) → any_of reading (entries q seen.plain) ≡ false) → (seen.state.words == weight asking) ≡ true
@@ -128,15 +122,12 @@ module _ {V : Type 0} (v : V) (cap : ℕ) where
       where
         own_at : (seen : World) (l : RwPoint) → Invariant f seen → seat_of seen p ≡ Some (Calling Upgrade l (Some hold.Upgradable)) → at_upgrade l → let x = scene_at m seen p Step (Some (Calling Upgrade l (Some hold.Upgradable))) in
             (goal p Step x.outcome (seat_of x.after p) ≡ true) ⊎ ((i : RwPoint) × (seat_of x.after p ≡ Some (Calling Upgrade i (Some hold.Upgradable))) × at_upgrade i × (((q : ℕ) → any_of reading (entries q seen.plain) ≡ false) → 1 ≤ 1 - 1))
-        own_at seen Asking good there at =
-            ⊎_elim inl (λ on. inr (Asking, on.0, tt, λ none. absurd (true≢false (sym (open_now seen good there none) ∙ on.1)))) (own seen good there (seen.state.words == weight asking) refl)
-        own_at seen l good there at = absurd (grind (arith, at))
+        own_at seen l good there at = grind (arith, true≢false, open_now, own)
 
         comes_at : (seen : World) (l : RwPoint) (q : ℕ) (d : RwCall) (i : RwPoint) (j : Option Hold) → leaving.Waits f goal p Upgrade (Some hold.Upgradable) at_upgrade (any_of reading) (λ l. 1) 1 seen l
             → seat_of seen q ≡ Some (Calling d i j) → any_of reading (entries q seen.plain) ≡ false → let y = scene_at m seen q Step (Some (Calling d i j)) in IsOpenStep seen.plain q y.change
             → (goal q Step y.outcome (seat_of y.after q) ≡ true) ⊎ (any_of reading (entries_after seen.plain y.change (entries q seen.plain)) ≡ false)
-        comes_at seen Asking q d i j w there none opens = inr (no_reader seen w.3 w.0 q (scene_at m seen q Step (Some (Calling d i j))).change none opens)
-        comes_at seen l q d i j w there none opens = absurd (grind (arith, w.1))
+        comes_at seen l q d i j w there none opens = grind (arith, no_reader)
 
         releases_at : (q : ℕ) (c : RwCall) (l : RwPoint) (h : Option Hold) (w : ℕ) (u : Option V) → StandsSo (rw_notes v cap) (any_of reading) q c l h → (a : Answer V) × ((m.step w u c l h).next ≡ Answers a None)
         releases_at q Release l (Some hold.Read) w u so = (Done, refl)

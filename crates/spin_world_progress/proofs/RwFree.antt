@@ -66,13 +66,11 @@ all_its u (h ∷ hs) none = grind (arith, none, all_its u hs)
 
 -- if somebody holds and all holders only read, somebody reads
 reads_some : (hs : List Holder) → is_empty hs ≡ false → only_read hs ≡ true → reads hs ≡ true
-reads_some [] some all = absurd (cc (some))
-reads_some (h ∷ hs) some all = grind (arith, all)
+reads_some hs some all = grind arith
 
 -- a test and its negation: one of the two passes
 same_answer : (b : Bool) → (if b then b else not b) ≡ true
-same_answer true = refl
-same_answer false = refl
+same_answer b = grind arith
 
 -- if all holders of a party only read, they pass the test `reads_so` (below) of a reader, or of a party without
 -- holders
@@ -101,8 +99,7 @@ kind_counts u k [] is = absurd (cc (is))
 kind_counts u k (h ∷ hs) is = grind (arith, is, kind_counts u k hs, sum_by-cons (λ (g : Holder). one_of k g.kind) h hs)
 
 writes_alone : (k : Kind) (hs : List Holder) → same_kind writing k ≡ true → 1 ≤ count_kind k hs → (0 < count_kind writing hs → length hs ≡ 1) → 2 ≤ length hs → ⊥
-writes_alone writing hs writes some alone many = omega (arith, alone (omega (arith, some)), many)
-writes_alone k hs writes some alone many = absurd (grind (arith, writes))
+writes_alone k hs writes some alone many = grind arith
 
 some_holds : (q : ℕ) (hs : List Holder) → reads (its q hs) ≡ true → 1 ≤ length (its q hs)
 some_holds q hs reader = by (its q hs) reader
@@ -112,19 +109,13 @@ some_holds q hs reader = by (its q hs) reader
     by (x ∷ xs) is = omega arith
 
 no_kind : (hs : List Holder) (k : Kind) → is_empty hs ≡ true → kind_in hs ≡ Some k → ⊥
-no_kind [] k none is = absurd (cc (is))
-no_kind (h ∷ hs) k none is = absurd (true≢false (sym none))
+no_kind hs k none is = grind (arith, true≢false)
 
 kind_holds : (u : ℕ) (k : Kind) (hs : List Holder) → kind_of u hs ≡ Some k → 1 ≤ length (its u hs)
-kind_holds u k hs is = by (its u hs) is
-  where
-    by : (xs : List Holder) → kind_in xs ≡ Some k → 1 ≤ length xs
-    by [] is = absurd (cc (is))
-    by (x ∷ xs) is = omega arith
+kind_holds u k hs is = grind arith
 
 none_word : (hs : List Holder) → kind_in hs ≡ None → sum_by (λ (h : Holder). weight h.kind) hs ≡ 0
-none_word [] none = refl
-none_word (h ∷ hs) none = absurd (cc (none))
+none_word hs none = grind arith
 
 one_word : (k : Kind) (hs : List Holder) → length hs ≤ 1 → kind_in hs ≡ Some k → sum_by (λ (h : Holder). weight h.kind) hs ≡ weight k
 one_word k [] few is = absurd (cc (is))
@@ -168,12 +159,7 @@ kind_later u a h hs one is = grind (arith, one, is, kind_holds u a hs is)
 
 lead_kind : (p : ℕ) (hs : List Holder) → same_kind reading (leading hs) ≡ false → length (its (lead p hs) hs) ≤ 1 → kind_of (lead p hs) hs ≡ Some (leading hs)
 lead_kind p [] leads one = absurd (true≢false leads)
-lead_kind p (h ∷ hs) leads one = by (same_kind reading h.kind) refl (lead_kind p hs) leads one
-  where
-    by : (z : Bool) → same_kind reading h.kind ≡ z → (same_kind reading (leading hs) ≡ false → length (its (lead p hs) hs) ≤ 1 → kind_of (lead p hs) hs ≡ Some (leading hs))
-        → same_kind reading (if z then leading hs else h.kind) ≡ false → length (its (if z then lead p hs else h.party) (h ∷ hs)) ≤ 1 → kind_of (if z then lead p hs else h.party) (h ∷ hs) ≡ Some (if z then leading hs else h.kind)
-    by true is rest leads one = kind_later (lead p hs) (leading hs) h hs one (rest leads (its_fewer (lead p hs) h hs one))
-    by false is rest leads one = rw (eqb_self h.party) refl
+lead_kind p (h ∷ hs) leads one = grind (arith, lead_kind p hs, kind_later, eqb_self h.party)
 
 reads_in : (q : ℕ) (hs : List Holder) → reads (its q hs) ≡ true → reads hs ≡ true
 reads_in q [] is = is
@@ -280,12 +266,10 @@ reader_long w room k b out n few = grind (arith, few)
 
 -- at the start no load exceeds `rounds_by`
 theirs_start : (w room : Bool) (a : Kind) (k : Option Kind) (b own reader out some : Bool) → (same_kind reading a ≡ true → k ≡ None) → (same_kind reading a ≡ false → k ≡ Some a) → (reader ≡ true → some ≡ true) → theirs_of w room k b own reader out ≤ rounds_by a some
-theirs_start w room reading k b own reader out some none leads reads = let is = none refl in grind (arith, is, reads)
-theirs_start w room a k b own reader out some none leads reads = let is = leads refl in grind (arith, is, reads)
+theirs_start w room a k b own reader out some none leads reads = grind arith
 
 mine_start : (c : RwCall) (room : Bool) (l : RwPoint) (a : Kind) (k : Option Kind) (b some : Bool) → (same_kind reading a ≡ true → k ≡ None) → (same_kind reading a ≡ false → k ≡ Some a) → mine_of c room l k b ≤ rounds_by a some
-mine_start c room l reading k b some none leads = let is = none refl in grind (arith, is)
-mine_start c room l a k b some none leads = let is = leads refl in grind (arith, is)
+mine_start c room l a k b some none leads = grind arith
 
 -- when a reader leaves, no load rises above n
 theirs_gone : (w room : Bool) (k : Option Kind) (b later own reader out : Bool) (n : ℕ) → base k ≤ n → ((j : Kind) → k ≡ Some j → (room ≡ true) × (same_kind writing j ≡ false)) → (b ≡ false → later ≡ false)
@@ -359,8 +343,7 @@ module _ {V : Type 0} (v : V) (cap : ℕ) (some : 1 ≤ cap) where
   Grants seen q c l h = let y = sc seen q c l h in goal q Step y.outcome (seat_of y.after q) ≡ true
 
   weak : (seen : World) (q : ℕ) (c : RwCall) (h : Option Hold) (next : Next RwPoint (Answer V)) → let n = goes_on seen.state q c h next in goal q Weak n.outcome (slice_get n.next.seats q) ≡ true
-  weak seen q c h (Continue l) = refl
-  weak seen q c h (Answers a rest) = grind arith
+  weak seen q c h next = grind arith
 
   abbrev Sits : (Entries → Bool) → ℕ → Option RwSeat → Type 0
   Sits = walk.SitsSo (rw_notes v cap)
@@ -377,15 +360,7 @@ module _ {V : Type 0} (v : V) (cap : ℕ) (some : 1 ≤ cap) where
   -- a step of the party u, which is a holder of this kind, or no holder (`None`)
   its_step : (seen : World) (u : ℕ) (c : RwCall) (l : RwPoint) (h : Option Hold) (kind : Option Kind) → seat_of seen u ≡ Some (Calling c l h) → Sits (λ e. same_kinds kind (kind_in e.holders)) u (Some (Calling c l h)) → let y = sc seen u c l h in
       Grants seen u c l h ⊎ ((y.change ≡ None) ⊎ ((same_kinds kind (from y.change) ≡ true) × ((is_out y.change ≡ true) × (is_asking kind ≡ false) × (leaves (Some (Calling c l h)) ≡ true) × (seat_of y.after u ≡ Some Idle) ⊎ (is_turn y.change ≡ true) × (leaves (Some (Calling c l h)) ≡ false) × (leaves (seat_of y.after u) ≡ false))))
-  its_step seen u c l h kind there so =
-      grind (
-        arith,
-        so,
-        get-set_same seen.state.seats u Idle _ there,
-        get-set_same seen.state.seats u (Holding hold.Read) _ there,
-        get-set_same seen.state.seats u (Holding hold.Upgradable) _ there,
-        get-set_same seen.state.seats u (Calling Upgrade Asking (Some hold.Upgradable)) _ there,
-      )
+  its_step seen u c l h kind there so = grind (arith, get-set_same)
 
   -- if u holds alone, its step makes a plain step or is a grant
   its_step_alone : (seen : World) (u : ℕ) (c : RwCall) (l : RwPoint) (h : Option Hold) (kind : Kind) → seen.state.words ≡ weight kind → Sits (λ e. same_kinds (Some kind) (kind_in e.holders)) u (Some (Calling c l h)) → (sc seen u c l h).change ≡ None → Grants seen u c l h
@@ -431,9 +406,7 @@ module _ {V : Type 0} (v : V) (cap : ℕ) (some : 1 ≤ cap) where
       nothing_mine l mine_at = row_tells (rw_notes v cap) c l None p s (seen.span p) (λ e. is_empty e.holders) _ (in_call f p good mine_at).knows (grind (arith, comes))
 
       reader_beside : {l : RwPoint} → Known seen → seat_of seen p ≡ Some (Calling c l None) → b ≡ true → (q : ℕ) × (q ≡ u → ⊥) × (q ≡ p → ⊥) × (reads (its q s.holders) ≡ true)
-      reader_beside {l} known mine_at some =
-          let z = witness u s.holders some in
-          (z.0, z.1, λ e. true≢false (sym (ap (λ i. is_empty (its i s.holders)) e ∙ nothing_mine l mine_at) ∙ z.2), reads_some (its z.0 s.holders) z.2 (known z.0 z.1))
+      reader_beside {l} known mine_at some = grind (arith, witness, true≢false, nothing_mine, reads_some)
 
       -- a step of a reader, or of a party that holds nothing
 
@@ -447,13 +420,7 @@ module _ {V : Type 0} (v : V) (cap : ℕ) (some : 1 ≤ cap) where
 
         -- a step that does not change the plain lock changes no other party's load
         unchanged : y.change ≡ None → theirs_by (is_write c) room u s.holders q (seat_of y.after q) ≤ n → walk.Falls f x seen l q y n
-        unchanged none his =
-            let same : y.after.plain ≡ s = ap (apply_some s) none in
-            record {
-              his = subst (λ (z : Plain). theirs_by (is_write c) room u z.holders q (seat_of y.after q) ≤ n) (sym same) his;
-              mine = subst (λ (z : Plain). mine_by c room u z.holders l ≤ max (mine_by c room u s.holders l) n) (sym same) (omega arith);
-              others = λ o other not_his. subst (λ (z : Plain). theirs_by (is_write c) room u z.holders o (seat_of seen o) ≤ max (theirs_by (is_write c) room u s.holders o (seat_of seen o)) n) (sym same) (omega arith);
-            }
+        unchanged none his = grind (arith, after, room)
 
         its_same : (o : ℕ) → (q ≡ o → ⊥) → its o y.after.plain.holders ≡ its o s.holders
         its_same o not_his = ap (λ (e : Entries). e.holders) (entries-other s q o y.change not_his made.opens)
@@ -585,12 +552,7 @@ module _ {V : Type 0} (v : V) (cap : ℕ) (some : 1 ≤ cap) where
 
         own : (ko : Option Kind) → kind ≡ ko → (z : Bool) → b ≡ z → walk.Own f x seen l n mine_sc
         own ko kind_is true b_is = let o = lets cap c seen.state.words in ⊎_elim inl (λ (g : GoesTo (onward o)). on (onward o) g (rw b_is (omega arith))) (goes o refl)
-        own None kind_is false b_is =
-            ⊎_elim inl (λ (g : GoesTo (Exchange 0) × (own_rank c (Exchange 0) ≤ own_rank c l - 1)). on (Exchange 0) g.0 (rw (b_is, kind_is) (omega (arith, g.1, before_none))))
-            (goes_free (word_is b_is ∙ none_word (its u s.holders) kind_is))
-          where
-            before_none : own_rank c l ≤ suc n
-            before_none = subst (λ z. mine_of c room l None z ≤ suc n) b_is (subst (λ o. mine_of c room l o b ≤ suc n) kind_is within.mine)
+        own None kind_is false b_is = grind (arith, on, goes_free (word_is b_is ∙ none_word (its u s.holders) kind_is))
         own (Some reading) kind_is false b_is = by (is_write c) refl room refl
           where
             before_one : mine_of c room l (Some reading) false ≤ suc n
@@ -612,42 +574,24 @@ module _ {V : Type 0} (v : V) (cap : ℕ) (some : 1 ≤ cap) where
     -- Other moves
 
     its_none : (hs : List Holder) (q : ℕ) (his : Option RwSeat) → its q hs ≡ [] → theirs_by (is_write c) room u hs q his ≡ 0
-    its_none hs q his none = by (q == u) refl
-      where
-        by : (z : Bool) → (q == u) ≡ z → theirs_by (is_write c) room u hs q his ≡ 0
-        by true is = rw (is, ap kind_in (ap (λ i. its i hs) (sym (eqb-true q u is)) ∙ none)) (grind arith)
-        by false other = rw (other, ap reads none) refl
+    its_none hs q his none = grind (arith, room, eqb-true, reads)
 
     busy_by : (seen : World) → Invariant f seen → (l : RwPoint) (q : ℕ) → 1 ≤ walk.theirs f x seen l q → is_busy (seat_of seen q) ≡ true
-    busy_by seen good l q long = by (is_empty (its q seen.plain.holders)) refl
-      where
-        by : (z : Bool) → is_empty (its q seen.plain.holders) ≡ z → is_busy (seat_of seen q) ≡ true
-        by true none = absurd (omega (arith, long, its_none seen.plain.holders q (seat_of seen q) (empty_is (its q seen.plain.holders) none)))
-        by false some = walk.busy_so (rw_notes v cap) holds_lock q _ refl (λ h so. grind (arith, so)) (walk.sits_so (rw_notes v cap) holds_lock seen good q (ap not some))
+    busy_by seen good l q long = grind (arith, its_none, empty_is)
 
     -- a party that is in no call has not asked to upgrade
     asks_not : (seen : World) → Invariant f seen → (q : ℕ) (j : Option Hold) → seat_of seen q ≡ Some (resting j) → (q == u) ≡ true → is_asking (kind_of u seen.plain.holders) ≡ false
-    asks_not seen good q j at is = by (is_asking (kind_of u seen.plain.holders)) refl
-      where
-        by : (z : Bool) → is_asking (kind_of u seen.plain.holders) ≡ z → z ≡ false
-        by false not_so = refl
-        by true asks = absurd (grind (arith, subst (Sits (λ e. is_asking (kind_in e.holders)) q) at (walk.sits_so (rw_notes v cap) (λ e. is_asking (kind_in e.holders)) seen good q (ap (λ i. is_asking (kind_of i seen.plain.holders)) (eqb-true q u is) ∙ asks))))
+    asks_not seen good q j at is = grind (arith, eqb-true)
 
     rests_in : (j : Option Hold) → leaves (Some (resting j)) ≡ false
-    rests_in None = refl
-    rests_in (Some h) = refl
+    rests_in j = grind arith
 
     release_leaves : (d : RwCall) (i : RwPoint) (j : Option Hold) → is_release (asks_of d j) ≡ true → leaves (Some (Calling d i j)) ≡ true
     release_leaves d i j is = grind (arith, is)
 
     begins_by : (seen : World) → Invariant f seen → (l : RwPoint) (q : ℕ) (d : RwCall) (i : RwPoint) (j : Option Hold) → seat_of seen q ≡ Some (resting j)
         → (x.theirs seen.plain l q (Some (Calling d i j)) ≤ walk.theirs f x seen l q) × (is_release (m.asks d j) ≡ true → x.theirs seen.plain l q (Some (Calling d i j)) ≤ walk.theirs f x seen l q - 1)
-    begins_by seen good l q d i j at =
-        let hs = seen.plain.holders in
-        rw (ap leaves at ∙ rests_in j) (
-          theirs_begun (is_write c) room (kind_of u hs) (beside u hs) (q == u) (reads (its q hs)) (leaves (Some (Calling d i j))),
-          λ is. rw (release_leaves d i j is) (theirs_leaving (is_write c) room (kind_of u hs) (beside u hs) (q == u) (reads (its q hs)) (asks_not seen good q j at)),
-        )
+    begins_by seen good l q d i j at = grind (arith, leaves, rests_in, theirs_begun, room, beside, reads, release_leaves, theirs_leaving, asks_not)
 
     known_after : (seen : World) (q : ℕ) (move : Move RwCall V) (l : RwPoint) → walk.Waits f x seen l → walk.Reaches f x (scene m seen q move) ⊎ Known (scene m seen q move).after
     known_after seen q move l w =
@@ -675,13 +619,7 @@ module _ {V : Type 0} (v : V) (cap : ℕ) (some : 1 ≤ cap) where
         hs = seen.plain.holders
 
         by : (z : Bool) → beside u hs ≡ z → (o : Option Kind) → kind_of u hs ≡ o → ⊥
-        by true is o kind_is =
-            let z = reader_beside seen w.3 w.2 w.0 is in
-            omega (
-              arith,
-              reader_some (is_write c) room (kind_of u hs) (beside u hs) (leaves (seat_of seen z.0)),
-              subst (λ r. theirs_of (is_write c) room (kind_of u hs) (beside u hs) false r (leaves (seat_of seen z.0)) ≤ 0) z.3 (subst (λ o. theirs_of (is_write c) room (kind_of u hs) (beside u hs) o (reads (its z.0 hs)) (leaves (seat_of seen z.0)) ≤ 0) (ne_eqb z.0 u (λ e. absurd (z.1 e))) (none.theirs z.0 z.2)),
-            )
+        by true is o kind_is = grind (arith, reader_beside seen w.3 w.2 w.0 is, reader_some, ne_eqb)
         by false is None kind_is = omega (arith, own_some c l, subst (λ z. mine_of c room l None z ≤ 0) is (subst (λ o. mine_of c room l o (beside u hs) ≤ 0) kind_is none.mine))
         by false is (Some a) kind_is =
             alone_some c room l a (reads (its u hs)) (leaves (seat_of seen u)) (subst (λ z. mine_of c room l (Some a) z ≤ 0) is (subst (λ o. mine_of c room l o (beside u hs) ≤ 0) kind_is none.mine))

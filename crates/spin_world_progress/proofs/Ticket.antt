@@ -29,30 +29,24 @@ in_queue p n k (t ∷ ts) numbers e = grind (arith, in_queue p n (suc k) ts)
 
 -- if p has a ticket that is not the first, the number of p's ticket is above the first ticket's number
 later : (p n k : ℕ) (ts : List Queued) → numbered_from k ts → own p ts ≡ queued p n false ∷ [] → (first_party ts ≡ p → ⊥) → k < n
-later p n k [] numbers e ne = absurd (cc (e))
-later p n k (t ∷ ts) numbers e ne = grind (arith, in_queue p n (suc k) ts, ne)
+later p n k ts numbers e ne = grind (arith, in_queue)
 
 -- an empty queue stays empty until a party takes a ticket
 stays_empty : (s : Plain) (q : ℕ) (step : Option Change) → is_empty s.tickets ≡ true → IsOpenStep s q step → (apply_some s step).next ≤ s.next → (apply_some s step).tickets ≡ []
-stays_empty s q None none opens same = empty_is s.tickets none
-stays_empty s q (Some c) none opens same = grind (arith, none, opens, same, empty_is s.tickets none)
+stays_empty s q step none opens same = grind (arith, empty_is)
 
 -- the party of the first ticket has a ticket
 first_own : (ts : List Queued) → is_empty ts ≡ false → is_empty (own (first_party ts) ts) ≡ false
-first_own [] some = some
-first_own (t ∷ ts) some = grind (arith, eqb_self)
+first_own ts some = grind (arith, eqb_self)
 
 -- if the first ticket is p's and has not entered, this ticket may enter
 first_turn : (p n : ℕ) (ts : List Queued) → own p ts ≡ queued p n false ∷ [] → p ≡ first_party ts → is_first p false ts ≡ true
-first_turn p n [] mine is = absurd (cc (mine))
-first_turn p n (t ∷ ts) mine is = grind (arith, eqb_self, mine, is)
+first_turn p n ts mine is = grind (arith, eqb_self)
 
 -- another party's step does not change the first ticket's party and number
 leaves_first : (s : Plain) (q : ℕ) (step : Option Change) → is_empty s.tickets ≡ false → Numbered s → (q ≡ first_party s.tickets → ⊥) → IsOpenStep s q step → BelongsTo ticket step
     → (first_party (apply_some s step).tickets ≡ first_party s.tickets) × (serving_word (apply_some s step) ≡ serving_word s)
-leaves_first s q None some numbered ne may belongs = (refl, refl)
-leaves_first s q (Some c) some numbered ne may belongs =
-    grind (arith, some, ne, may, belongs, serving-moves s c numbered)
+leaves_first s q step some numbered ne may belongs = grind (arith, serving-moves)
 
 -- How long it takes until the first ticket leaves
 
@@ -76,13 +70,11 @@ left_few his = grind arith
 
 -- `ahead` of the party of the first ticket
 ahead_own : (t s : ℕ) (ts : List Queued) (his : Option (Seat TicketCall TicketPoint)) → is_empty ts ≡ false → ahead t s ts (first_party ts) his ≡ 3 * (t - s) + left_to his - 2
-ahead_own t s [] his some = absurd (true≢false some)
-ahead_own t s (x ∷ xs) his some = rw (eqb_self x.party) refl
+ahead_own t s ts his some = grind (arith, true≢false, eqb_self)
 
 -- `ahead` of any other party is 0
 ahead_other : (t s : ℕ) (ts : List Queued) (q : ℕ) (his : Option (Seat TicketCall TicketPoint)) → (q ≡ first_party ts → ⊥) → ahead t s ts q his ≡ 0
-ahead_other t s [] q his ne = refl
-ahead_other t s (x ∷ xs) q his ne = grind (arith, ne)
+ahead_other t s ts q his ne = grind arith
 
 -- `ahead` does not rise while the first ticket's party is the same
 ahead_same : (t s : ℕ) (ts us : List Queued) (q : ℕ) (his : Option (Seat TicketCall TicketPoint)) → is_empty ts ≡ false → first_party us ≡ first_party ts → ahead t s us q his ≤ ahead t s ts q his
@@ -119,8 +111,7 @@ two e = nat_lt 1 (length e.tickets)
 
 -- a step never lowers the next number
 next_grows : (s : Plain) (step : Option Change) → s.next ≤ (apply_some s step).next
-next_grows s None = omega arith
-next_grows s (Some c) = grind arith
+next_grows s step = grind arith
 
 -- How many rounds a party without a ticket waits at most until it has one and enters. `taken` is how many tickets are
 -- still to be taken, its own included. `next` says whether its next step tries to take the next number. If only its own
@@ -220,9 +211,7 @@ module _ {V : Type 0} (v : V) (first : ℕ) where
         by false is = grind (arith, is)
 
     nobody : (q : ℕ) → length seen.state.seats ≤ q → is_empty (own q seen.plain.tickets) ≡ true
-    nobody q past =
-        let none : entries q seen.plain ≡ no_entries = subst (StandsFor seen.plain q (seen.span q)) (slice_get_past seen.state.seats q past) (good.parties q).stands in
-        ap (λ (e : Entries). is_empty e.tickets) none
+    nobody q past = grind (arith, slice_get_past seen.state.seats q past)
 
     most_tickets : length seen.plain.tickets ≤ length seen.state.seats
     most_tickets = omega (arith, all_in (length seen.state.seats) seen.plain.tickets nobody, few (length seen.state.seats) seen.plain.tickets each_one)
@@ -328,25 +317,12 @@ module _ {V : Type 0} (v : V) (first : ℕ) where
         near = let here = in_queue p t (serving_word s) s.tickets numbered.1 mine in omega (arith, here.0, here.1, w.2, most_tickets seen w.3, numbered.0)
 
     own_ticket : (seen : World) (t r : ℕ) → (w : walk.Waits f x seen (Await t)) → walk.Own f x seen (Await t) r (its seen (Await t))
-    own_ticket seen t r w =
-        ⊎_elim (λ (is : d ≡ p). inl (rw (turn_of seen (Await t) w p t mine_there ∙ first_turn p t seen.plain.tickets mine_there (sym is), eqb_self p) refl))
-        (λ (ne : d ≡ p → ⊥).
-        let late : (seen.state.words.serving == t) ≡ false = ne_eqb seen.state.words.serving t (λ e. absurd (omega (arith, e, serving_is seen (Await t) w, behind seen (Await t) w t refl ne))) in
-        inr (Await t, rw late (get-set_same seen.state.seats p (Calling Lock (Await t) None) _ w.0), tt, rw (late, ne_eqb d p (λ e. absurd (ne e))) (omega arith), rw late (λ o other not_its. omega arith)))
-        (cases_eq d p)
-      where
-        d : ℕ
-        d = first_party seen.plain.tickets
-
-        mine_there : own p seen.plain.tickets ≡ queued p t false ∷ []
-        mine_there = mine seen (Await t) w t refl
+    own_ticket seen t r w = grind (arith, turn_of, first_turn, eqb_self, ne_eqb, serving_is, behind, get-set_same, cases_eq, own, mine)
 
     -- Before p has a ticket
 
     no_ticket : (seen : World) (l : TicketPoint) → walk.Waits f x seen l → at_door l → is_empty (own p seen.plain.tickets) ≡ true
-    no_ticket seen LoadNext w door = ap (λ (e : Entries). is_empty e.tickets) (in_call f p w.3 w.0).knows.0.stand
-    no_ticket seen (Take j) w door = ap (λ (e : Entries). is_empty e.tickets) (in_call f p w.3 w.0).knows.0.stand
-    no_ticket seen l w door = absurd (grind (arith, door))
+    no_ticket seen l w door = grind (arith, in_call)
 
     -- while p has no ticket, there are fewer tickets than parties
     queue_few : (seen : World) (l : TicketPoint) → walk.Waits f x seen l → at_door l → seen.plain.next - serving_word seen.plain + 1 ≤ n
@@ -364,15 +340,7 @@ module _ {V : Type 0} (v : V) (first : ℕ) where
       -- the call's step finds the next number, and the call then tries to take it
       goes_for_next : N < ticket_limit → mine_by p n N seen.plain l ≡ doorway n (N - seen.plain.next) false → ((o : ℕ) (his : Option TicketSeat) → theirs_by N seen.plain (Take seen.state.words.next) o his ≡ theirs_by N seen.plain l o his)
           → seat_of sc.after p ≡ Some (Calling Lock (Take seen.state.words.next) None) → sc.after.plain ≡ seen.plain → walk.Own f x seen l r sc
-      goes_for_next room stale same at plain =
-          let fresh : mine_by p n N seen.plain (Take seen.state.words.next) ≡ doorway n (N - seen.plain.next) true = ap (doorway n (N - seen.plain.next)) (eq-eqb seen.state.words.next seen.plain.next (next_is seen l w)) in
-          inr (
-            Take seen.state.words.next,
-            at,
-            room,
-            rw (plain, fresh) (doorway_next n (N - seen.plain.next) r (omega (arith, stale, within.mine))),
-            rw plain (λ o other not_its. omega (arith, same o (seat_of seen o))),
-          )
+      goes_for_next room stale same at plain = grind (arith, eq-eqb seen.state.words.next seen.plain.next (next_is seen l w), doorway_next n (N - seen.plain.next) r (omega (arith, stale, within.mine)))
 
     -- the party takes its ticket, whose number was the next one
     own_taken : (seen : World) (j r : ℕ) → (w : walk.Waits f x seen (Take j)) → walk.Within f x seen (Take j) (suc r) → walk.After f x seen p (its seen (Take j)) → seen.state.words.next ≡ j → nat_lt seen.state.words.next ticket_limit ≡ true → walk.Own f x seen (Take j) r (its seen (Take j))
@@ -512,37 +480,13 @@ module _ {V : Type 0} (v : V) (first : ℕ) where
 
     first_begins : (seen : World) (l : TicketPoint) → walk.Waits f x seen l → (t q : ℕ) (c : TicketCall) (i : TicketPoint) (h : Option Hold) → seat_of seen q ≡ Some (resting h) → m.begin c h ≡ Some i
         → ahead t (serving_word seen.plain) seen.plain.tickets q (Some (Calling c i h)) ≤ ahead t (serving_word seen.plain) seen.plain.tickets q (seat_of seen q) - 1
-    first_begins seen l w t q c i h at may = by (is_empty seen.plain.tickets) refl
-      where
-        d : ℕ
-        d = first_party seen.plain.tickets
-
-        less : is_empty seen.plain.tickets ≡ false → seat_of seen d ≡ Some (resting h) → left_to (Some (Calling c i h)) + 1 ≤ left_to (seat_of seen d)
-        less some there = grind (arith, there, may, subst (SitsSo has_ticket d) there (his_sits seen l w some))
-
-        by : (b : Bool) → is_empty seen.plain.tickets ≡ b
-            → ahead t (serving_word seen.plain) seen.plain.tickets q (Some (Calling c i h)) ≤ ahead t (serving_word seen.plain) seen.plain.tickets q (seat_of seen q) - 1
-        by true none = omega (arith, ap (λ ts. ahead t (serving_word seen.plain) ts q (Some (Calling c i h))) (empty_is seen.plain.tickets none))
-        by false some =
-            ⊎_elim
-            (λ (is : d ≡ q).
-            subst (λ z. seat_of seen z ≡ Some (resting h) → ahead t (serving_word seen.plain) seen.plain.tickets z (Some (Calling c i h)) ≤ ahead t (serving_word seen.plain) seen.plain.tickets z (seat_of seen z) - 1) is
-            (λ there. omega (arith, less some there, ahead_own t (serving_word seen.plain) seen.plain.tickets (Some (Calling c i h)) some, ahead_own t (serving_word seen.plain) seen.plain.tickets (seat_of seen d) some)) at)
-            (λ (ne : d ≡ q → ⊥). omega (arith, ahead_other t (serving_word seen.plain) seen.plain.tickets q (Some (Calling c i h)) (λ e. ne (sym e))))
-            (cases_eq d q)
+    first_begins seen l w t q c i h at may = grind (arith, some, his_sits, empty_is, ahead_own, ahead_other, cases_eq)
 
     busy_by : (seen : World) (l : TicketPoint) → walk.Waits f x seen l → (t q : ℕ) → 1 ≤ ahead t (serving_word seen.plain) seen.plain.tickets q (seat_of seen q) → is_busy (seat_of seen q) ≡ true
-    busy_by seen l w t q long = by (is_empty seen.plain.tickets) refl
-      where
-        by : (b : Bool) → is_empty seen.plain.tickets ≡ b → is_busy (seat_of seen q) ≡ true
-        by true none = absurd (omega (arith, long, ap (λ ts. ahead t (serving_word seen.plain) ts q (seat_of seen q)) (empty_is seen.plain.tickets none)))
-        by false some =
-            ⊎_elim (λ (is : first_party seen.plain.tickets ≡ q). subst (λ z. is_busy (seat_of seen z) ≡ true) is (walk.busy_so (ticket_notes v first) has_ticket _ _ refl (λ h is. grind (arith, is)) (his_sits seen l w some)))
-            (λ (ne : first_party seen.plain.tickets ≡ q → ⊥). absurd (omega (arith, long, ahead_other t (serving_word seen.plain) seen.plain.tickets q (seat_of seen q) (λ e. ne (sym e))))) (cases_eq (first_party seen.plain.tickets) q)
+    busy_by seen l w t q long = grind (arith, empty_is, some, his_sits, ahead_other, cases_eq)
 
     busy_at : (seen : World) (l : TicketPoint) → walk.Waits f x seen l → (q : ℕ) → 1 ≤ theirs_by N seen.plain l q (seat_of seen q) → is_busy (seat_of seen q) ≡ true
-    busy_at seen (Await t) w q long = busy_by seen (Await t) w t q long
-    busy_at seen l w q long = busy_by seen l w seen.plain.next q (grind (arith, w.1, long))
+    busy_at seen l w q long = grind (arith, busy_by, next)
 
     some_load : (seen : World) (l : TicketPoint) → walk.Waits f x seen l → walk.Within f x seen l 0 → ⊥
     some_load seen (Await t) w none =
@@ -557,15 +501,11 @@ module _ {V : Type 0} (v : V) (first : ℕ) where
 
     -- the loads at the start are at most the bound
     loads_few : (seen : World) (l : TicketPoint) → walk.Waits f x seen l → walk.Within f x seen l (max 2 (3 * n - 2) + (N - seen.plain.next))
-    loads_few seen (Await t) w = record { mine = omega (arith, bit_few (first_party seen.plain.tickets == p)); theirs = λ q ne. omega (arith, near seen (Await t) w t refl, ahead_most t (serving_word seen.plain) seen.plain.tickets q (seat_of seen q), left_few (seat_of seen q)) }
-    loads_few seen LoadNext w = record { mine = (doorway_fits n (N - seen.plain.next) false).1; theirs = λ q ne. door_few seen LoadNext w tt q }
-    loads_few seen (Take j) w = record { mine = (doorway_fits n (N - seen.plain.next) (j == seen.plain.next)).1; theirs = λ q ne. door_few seen (Take j) w tt q }
-    loads_few seen l w = absurd (grind (arith, w.1))
+    loads_few seen l w = grind (arith, bit_few, near, ahead_most, left_few, doorway_fits, next, door_few)
 
     begins_by : (seen : World) (l : TicketPoint) → walk.Waits f x seen l → (q : ℕ) (c : TicketCall) (i : TicketPoint) (h : Option Hold) → seat_of seen q ≡ Some (resting h) → m.begin c h ≡ Some i
         → theirs_by N seen.plain l q (Some (Calling c i h)) ≤ theirs_by N seen.plain l q (seat_of seen q) - 1
-    begins_by seen (Await t) w q c i h at may = first_begins seen (Await t) w t q c i h at may
-    begins_by seen l w q c i h at may = grind (arith, w.1, first_begins seen l w seen.plain.next q c i h at may)
+    begins_by seen l w q c i h at may = grind (arith, first_begins, next)
 
     walks : walk.Walks f x
     walks =
@@ -584,8 +524,7 @@ module _ {V : Type 0} (v : V) (first : ℕ) where
 
   await_at : (t p : ℕ) (c : TicketCall) (l : TicketPoint) (h : Option Hold) → StandsSo (ticket_notes v first) (λ e. waits_by t e.tickets) p c l h
       → Some (Calling c l h) ≡ Some (Calling Lock (Await t) None)
-  await_at t p Lock (Await n) None is = ap (λ i. Some (Calling Lock (Await i) None)) (eqb-true n t (and_parts (n == t) true is).0)
-  await_at t p c l h is = absurd (grind (arith, is))
+  await_at t p c l h is = grind (arith, eqb-true, and_parts)
 
   -- a waiting call is at a point of a `lock`
   lock_at : (N p : ℕ) (c : TicketCall) (l : TicketPoint) (h : Option Hold) (s : Plain) (span : List Mark) → (asks_of c h).waits ≡ true → Knows (ticket_notes v first) c l h p s span → N < ticket_limit → (Some (Calling c l h) ≡ Some (Calling Lock l None)) × at_lock N l
@@ -610,10 +549,7 @@ module _ {V : Type 0} (v : V) (first : ℕ) where
     last rounds = (seen_after m seen (joined rounds)).plain.next
 
     last_is : (rounds : List (List (ℕ × Move TicketCall V))) → (after m now (joined rounds)).words.next ≡ last rounds
-    last_is rounds =
-        let there = seen_after m seen (joined rounds) in
-        ap (λ (x : State TicketWords V TicketCall TicketPoint). x.words.next) (sym (state-seen_after m seen (joined rounds) ∙ ap (λ x. after m x (joined rounds)) (state_is f n past)))
-        ∙ next_of there (good_after f seen (joined rounds) (good f n past))
+    last_is rounds = grind (arith, joined rounds, state-seen_after m seen (joined rounds), after, state_is f n past, next_of (seen_after m seen (joined rounds)) (good_after f seen (joined rounds) (good f n past)))
 
     many : length seen.state.seats ≡ n
     many = ap (λ (x : State TicketWords V TicketCall TicketPoint). length x.seats) (state_is f n past) ∙ (parties past (at_first m n) ∙ length-replicate n _)
