@@ -1,5 +1,5 @@
-//! The worked schedules, which the tests read where they run: of each object in `data`, and of the gallery. Each stands
-//! below a heading, and below it its transcript.
+//! The worked schedules, which the tests read where they run: of each object in `data`, and of the page of schedules.
+//! Each stands below a heading, and below it its transcript.
 
 use std::alloc::Global;
 use std::fs;
