@@ -172,9 +172,9 @@ impl RelaxStrategy for Yield {
     }
 }
 
-// The most hints that a call gives with the strategy `SpinThenYield`. They take about as long as a switch to another
-// thread.
-const SPIN_LIMIT: u32 = 32;
+// The strategy `SpinThenYield` spins in a pause of at most so many hints, less one for each four that the call has given.
+// So a call spins for about as long as a switch to another thread takes. In a queue it spins only near the front.
+const SPIN_LIMIT: u32 = 24;
 
 // If no other thread wants the processor, a yield takes about as long as so many hints.
 const HINTS_A_YIELD: u32 = 16;
@@ -182,9 +182,9 @@ const HINTS_A_YIELD: u32 = 16;
 /// The strategy that spins like [`Spin`] while a call has not waited for long, and then yields like [`Yield`].
 ///
 /// Use it where more threads may wait than there are processors. There a queue with [`Spin`] nearly stands still, since
-/// the thread that is next may have no processor. Where each thread has a processor, `SpinThenYield` is as fast as
-/// `Spin`. A call gives at most 32 hints in all. A pause that yields does so again if it has many hints, so that waiting
-/// threads disturb the holder no more often than with `Spin`.
+/// the thread that is next may have no processor. Where each thread has a processor, `SpinThenYield` is about as fast as
+/// `Spin`. A call gives fewer than a hundred hints in all. In place of a pause of many hints it yields several times, so
+/// that it looks no more often than with `Spin`.
 ///
 /// # Examples
 /// ```
@@ -204,7 +204,7 @@ impl RelaxStrategy for SpinThenYield {
     }
 
     fn pause_after<W: Wait>(rt: &W, hints: u32, given: u32) {
-        if given.saturating_add(hints) <= SPIN_LIMIT {
+        if hints.saturating_add(given / 4) <= SPIN_LIMIT {
             return Spin::pause(rt, hints);
         }
         for _ in 0..(hints / HINTS_A_YIELD).max(1) {

@@ -15,7 +15,9 @@ mod texts;
 /// A mutual exclusion lock on which a waiting thread spins.
 ///
 /// It contains a [`TicketMutex`], so threads are served in the order of their tickets. The contract does not
-/// say which lock that is. A waiting thread passes the time with the strategy `R`.
+/// say which lock that is. A waiting thread passes the time with the strategy `R`. With [`Spin`] each waiting thread
+/// needs a processor: else the next in the queue may have none, and the queue nearly stands still. Use the strategy
+/// `SpinThenYield` then, or a `SpinMutex`.
 ///
 /// # Contract
 /// While a guard or a hold of the lock lives, no other call acquires the lock. A guard gives a value of `T`,

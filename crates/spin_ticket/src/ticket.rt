@@ -29,8 +29,8 @@ pub use spin_core::laws::{a_guard_reads_the_last_value_written, two_guards_read_
 /// A mutual exclusion lock that serves its threads in the order of their tickets, and on which a waiting thread spins.
 ///
 /// Each call of [`lock`](Self::lock) takes a ticket with the next number, and enters when that number is served. With
-/// more spinning threads than cores a call may wait for a thread that is not scheduled. Use `SpinMutex` then, or the
-/// strategy `Yield`. A waiting thread relaxes with strategy `R`.
+/// more spinning threads than processors a call may wait for a thread that is not scheduled, and the queue nearly stands
+/// still. Use `SpinMutex` then, or the strategy `SpinThenYield`. A waiting thread relaxes with strategy `R`.
 ///
 /// # Contract
 /// While a guard or a hold of the lock lives, no other call acquires it. Threads enter in the order of their tickets
