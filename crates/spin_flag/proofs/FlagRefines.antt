@@ -8,7 +8,7 @@ use Rattle.spin_step.specs.Orders.{IsInOrder}
 use Rattle.spin_step.specs.FlagCalls.{flag_table}
 use Rattle.spin_step.specs.declared.answer.Answer.TheVariants.{Granted}
 use Rattle.spin_step.specs.declared.flag_calls.FlagCall.{FlagCall}
-use Rattle.spin_step.specs.declared.flag_calls.FlagCall.TheVariants.{Lock, TryLock, TryLockWeak, IsLocked, Release}
+use Rattle.spin_step.specs.declared.flag_calls.FlagCall.TheVariants.{Lock, TryLock, Release}
 use Rattle.spin_step.specs.declared.flag_calls.FlagPoint.{FlagPoint}
 use Rattle.spin_step.specs.declared.flag_calls.FlagPoint.TheVariants.{First, Second}
 use Rattle.spin_step.specs.declared.place.Hold.{Hold}
@@ -16,7 +16,7 @@ use Rattle.spin_step.specs.declared.place.Hold.TheVariants.{Write}
 use Rattle.spin_step.specs.declared.place.Seat.{Seat}
 use Rattle.spin_step.specs.declared.place.Seat.TheVariants.{Calling, Holding}
 use Rattle.spin_core.specs.Cell.{reads, writes, Meets}
-use Rattle.spin_core.specs.Views.{Part, idle, holds, HasPart, IsLockOf}
+use Rattle.spin_core.specs.Views.{Part, holds, HasPart, IsLockOf}
 use Rattle.spin_core.specs.declared.tie.Opening.{Opening}
 use Rattle.spin_core.specs.declared.trace.Trace.{Trace}
 use Rattle.spin_core.proofs.Leaving.{flag_word-up}
@@ -33,35 +33,13 @@ kind (Calling Lock l None) = (refl, λ p. refl)
 kind v = grind arith
 
 module _ {T : Type 0} (value : T) where
-  abbrev Is : FlagCall → FlagPoint → Option Hold → ℕ → Plain → Part → Type 0
-  Is = Sound (flag_table value) flag_meaning
-
-  tries : (p : ℕ) (plain : Plain) (l : FlagPoint) → Is Lock First None p plain idle × Is TryLock l None p plain idle × Is TryLockWeak l None p plain idle
-  tries p plain l = let grants = flag_lock-grants plain p false in (
-    record { opens = grind (arith, grants); entries = grind arith; knows = grind arith; counts = grind (arith, grants); same = grind arith; bounded = tt },
-    record { opens = grind (arith, grants); entries = grind arith; knows = grind arith; counts = grind (arith, grants); same = grind arith; bounded = tt },
-    record { opens = grind (arith, grants); entries = grind arith; knows = grind arith; counts = grind (arith, grants); same = grind arith; bounded = tt },
-  )
-
-  looks : (p : ℕ) (plain : Plain) (l : FlagPoint) → Is Lock Second None p plain idle × Is IsLocked l None p plain idle
-  looks p plain l = (
-    record { opens = tt; entries = grind arith; knows = grind arith; counts = refl; same = refl; bounded = tt },
-    record { opens = tt; entries = refl; knows = tt; counts = refl; same = refl; bounded = tt },
-  )
-
-  frees : (l : FlagPoint) (p : ℕ) (plain : Plain) → IsInOrder plain → HasPart plain p (holds writing) → Is Release l (Some Write) p plain (holds writing)
-  frees l p plain order has =
-      let found = is_holder-from_entries p writing plain.holders (ap (λ e. e.holders) has.0) in
-      record { opens = (refl, found); entries = release-own plain p writing; knows = tt; counts = flag_unlock-gives plain p writing true (writes_alone plain p order.exclusive found) found; same = refl; bounded = tt }
-
-  sound : (c : FlagCall) (l : FlagPoint) (h : Option Hold) (p : ℕ) (plain : Plain) (vs : List View) (from : Part) → ComesFrom (flag_table value) flag_meaning c l h from → plain.cap ≡ 0 → IsInOrder plain → IsLockOf (part_of flag_meaning) vs plain → Unit {0} → HasPart plain p from → Is c l h p plain from
-  sound Lock First None p plain vs from comes room order is fine has = let e : from ≡ idle = grind (arith, comes) in rw e (tries p plain First).0
-  sound Lock Second None p plain vs from comes room order is fine has = let e : from ≡ idle = grind (arith, comes) in rw e (looks p plain Second).0
-  sound TryLock l None p plain vs from comes room order is fine has = let e : from ≡ idle = grind (arith, comes) in rw e (tries p plain l).1
-  sound TryLockWeak l None p plain vs from comes room order is fine has = let e : from ≡ idle = grind (arith, comes) in rw e (tries p plain l).2
-  sound IsLocked l None p plain vs from comes room order is fine has = let e : from ≡ idle = grind (arith, comes) in rw e (looks p plain l).1
-  sound Release l (Some Write) p plain vs from comes room order is fine has = let e : from ≡ holds writing = grind (arith, comes) in rw e (frees l p plain order (rw e at has))
-  sound c l h p plain vs from comes room order is fine has = absurd (grind (arith, comes))
+  sound : (c : FlagCall) (l : FlagPoint) (h : Option Hold) (p : ℕ) (plain : Plain) (vs : List View) (from : Part) → ComesFrom (flag_table value) flag_meaning c l h from → plain.cap ≡ 0 → IsInOrder plain → IsLockOf (part_of flag_meaning) vs plain → Unit {0} → HasPart plain p from
+      → Sound (flag_table value) flag_meaning c l h p plain from
+  sound Release l (Some Write) p plain vs from comes room order is fine has =
+      let e : from ≡ holds writing = grind (arith, comes) in
+      let found = is_holder-from_entries p writing plain.holders (ap (λ e. e.holders) (rw e at has).0) in
+      rw e (record { opens = (refl, found); entries = release-own plain p writing; knows = tt; counts = flag_unlock-gives plain p writing true (writes_alone plain p order.exclusive found) found; same = refl; bounded = tt })
+  sound c l h p plain vs from comes room order is fine has = grind (arith, comes, flag_lock-grants plain p false)
 
   pub flag_refines : Refines (flag_table value) flag_meaning
   flag_refines = record {

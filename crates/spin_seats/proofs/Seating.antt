@@ -24,7 +24,7 @@ use Rattle.spin_seats.specs.Rule.{IsWord, View, part, seated, seats_tables}
 use Rattle.spin_seats.specs.Seats.{seats, seats_word, entered}
 use Rattle.spin_seats.specs.Table.{seats_table, act_of}
 use Rattle.spin_seats.specs.declared.calls.SeatsCall.{SeatsCall}
-use Rattle.spin_seats.specs.declared.calls.SeatsCall.TheVariants.{TryEnter, TryEnterWeak, Enter, Count, Leave}
+use Rattle.spin_seats.specs.declared.calls.SeatsCall.TheVariants.{TryEnter, TryEnterWeak, Enter, Leave}
 use Rattle.spin_seats.specs.declared.calls.SeatsPoint.{SeatsPoint}
 use Rattle.spin_seats.specs.declared.calls.SeatsPoint.TheVariants.{First, Exchange}
 use Rattle.spin_seats.proofs.Taken.{enter-grants, leave-gives}
@@ -47,11 +47,6 @@ module _ (n : ℕ) where
   sound : (c : SeatsCall) (l : SeatsPoint) (h : Option Hold) (p : ℕ) (s : Plain) (vs : List View) (from : Part)
       → ComesFrom (seats_table n) (seats_meaning n) c l h from → s.cap ≡ seats n → IsInOrder s → IsLockOf (part n) vs s
       → seats_word s ≤ seats n → HasPart s p from → Sound (seats_table n) (seats_meaning n) c l h p s from
-  sound TryEnter l None p s vs from comes room order is few has = grind (arith, comes, grants p s vs room is few, few)
-  sound TryEnterWeak First None p s vs from comes room order is few has = grind (arith, comes, grants p s vs room is few, few)
-  sound TryEnterWeak (Exchange k) None p s vs from comes room order is few has = grind (arith, comes, grants p s vs room is few, few)
-  sound Enter l None p s vs from comes room order is few has = grind (arith, comes, grants p s vs room is few, few)
-  sound Count l None p s vs from comes room order is few has = grind (arith, comes, few)
   sound Leave l (Some hold.Read) p s vs from comes room order is few has =
       let e : from ≡ holds reading = grind (arith, comes) in
       let found = is_holder-from_entries p reading s.holders (ap (λ e. e.holders) (rw e at has).0) in
@@ -64,7 +59,7 @@ module _ (n : ℕ) where
         same = less;
         bounded = omega (arith, less, few);
       })
-  sound c l h p s vs from comes room order is few has = absurd (grind (arith, comes))
+  sound c l h p s vs from comes room order is few has = grind (arith, comes, grants p s vs room is few, few)
 
   operates : (c : SeatsCall) (l : SeatsPoint) (h : Option Hold) → is_section (act_of n c l h) ≡ false
   operates = grind arith

@@ -1,4 +1,3 @@
-pub mod Shapes
 pub mod TicketRefines
 pub mod TicketQueue
 pub mod Granted

@@ -37,3 +37,15 @@ fn a_hundred_sit_at_once(rt: HostRuntime) {
     drop(guards);
     equal(&rt, seats.count(), 0);
 }
+
+#[test]
+fn a_weak_try_takes_a_free_seat(rt: HostRuntime) {
+    let seats: Seats<1> = Seats::new();
+    let guard = seats.try_enter_weak().expect(&rt, "one is free");
+    let refused = seats.try_enter_weak().is_none();
+    let pass = seats.pass().try_enter_weak().err();
+    equal(&rt, (refused, pass.is_some()), (true, true));
+    drop(guard);
+    let granted = pass.expect(&rt, "all were taken").try_enter_weak();
+    equal(&rt, (granted.is_ok(), seats.count()), (true, 1));
+}
