@@ -1,6 +1,6 @@
 -- What the mutex must show for each kind of step: the pass may make the call, the words become those of the next state, and the answer is
 -- the machine's.
-use Rattle.std.proofs.Common.{◌≡◌, ℕ, ◌==◌, Bool, true, false, not, List, [], ◌∷◌, length, Some, refl, sym, ap, subst, ◌∙◌, ne_eqb, arith}
+use Rattle.std.proofs.Common.{◌≡◌, ℕ, ◌==◌, Bool, true, false, not, List, [], ◌∷◌, length, Some, refl, ap, ◌∙◌, ne_eqb, arith}
 use prog.Atomic.{either}
 use Rattle.spin_step.specs.Plain.{Plain, Holder, writing, gets, releases, to_write, is_open, apply, flag_word}
 use Rattle.spin_seated.specs.declared.mutex.Call.TheVariants.{TryLock, IsLocked}
@@ -8,7 +8,7 @@ use Rattle.spin_seated.specs.declared.lock.Answer.TheVariants.{Truth}
 use Rattle.spin_seated.specs.Histories.{state, Owed, Owes}
 use Rattle.spin_seated.specs.Locked.{Locked}
 use Rattle.spin_seated.specs.Mutex.{mutex, Knows, holds, tries, loads, reads, writes, frees}
-use Rattle.spin_seated.proofs.Holders.{held_by, alone_state, alone_is, is_held_by}
+use Rattle.spin_seated.proofs.Holders.{held_by, alone_state, alone_is}
 
 -- what the step function of `try_lock` ensures: if the flag is clear, the pass may acquire the lock, and `new` is the
 -- flag afterwards
@@ -27,14 +27,11 @@ tries_at p new takes s [] = (refl, ap (λ (n : ℕ). n ∷ s.value ∷ []) (take
 tries_at p new takes s (h ∷ hs) = (refl, ap (λ (b : Bool). either b new (length (h ∷ hs)) ∷ s.value ∷ []) (not_zero h hs), ap Truth (not_zero h hs))
 
 looks_at : (p : ℕ) (s : Locked) (hs : List Holder) → Owed mutex p 0 (λ n. n) (held_by s hs) (Some (IsLocked, Truth (not (length hs == 0))))
-looks_at p s [] = (refl, refl, refl)
-looks_at p s (h ∷ hs) = (refl, refl, ap (λ (b : Bool). Truth (not b)) (not_zero h hs))
+looks_at p s hs = grind (arith, not_zero)
 
 module _ (x : Knows) where
   pub tries_owed : (old new : ℕ) → old ≡ 0 → Takes new → Owes mutex x 0 (λ n. either (n == old) new n) (tries old)
-  tries_owed old new is takes =
-      subst (λ (o : ℕ). Owes mutex x 0 (λ n. either (n == o) new n) (tries o)) (sym is)
-      (λ log legal has small. let s : Locked = state mutex x.opening log in tries_at x.pass new takes s s.lock.holders)
+  tries_owed old new is takes = grind (arith, tries, tries_at)
 
   pub loads_owed : Owes mutex x 0 (λ n. n) (loads 0)
   loads_owed log legal has small = let s : Locked = state mutex x.opening log in looks_at x.pass s s.lock.holders
@@ -46,8 +43,4 @@ module _ (x : Knows) where
   writes_owed new held log legal has small = (has ∙ held, refl, refl)
 
   pub frees_owed : (new : ℕ) → Leaves new → holds x ≡ true → Owes mutex x 0 (λ _. new) (λ _. frees new new)
-  frees_owed new leaves held log legal has small =
-      let s : Locked = state mutex x.opening log in
-      let mine : is_held_by x.pass s ≡ true = has ∙ held in
-      let one : flag_word s.lock ≡ 1 = ap length (alone_is x.opening.passes x.pass s.lock.holders (alone_state x.opening log legal) mine) in
-      (mine, ap (λ (n : ℕ). n ∷ s.value ∷ []) (leaves s.lock x.pass one mine), refl)
+  frees_owed new leaves held = grind (arith, alone_is, alone_state)

@@ -1,5 +1,5 @@
 -- Histories that grow.
-use Rattle.std.proofs.Common.{◌≡◌, ℕ, ◌<◌, ◌≢◌, ◌==◌, Bool, true, false, if◌then◌else◌, List, [], ◌∷◌, ◌++◌, Option, Some, None, refl, sym, ap, ◌∙◌, append_assoc, append-nil, length, length-append, eq-eqb, ne_eqb, subst, arith}
+use Rattle.std.proofs.Common.{◌≡◌, ℕ, ◌<◌, ◌≢◌, ◌==◌, Bool, true, if◌then◌else◌, List, [], ◌∷◌, ◌++◌, Option, refl, sym, ap, ◌∙◌, append_assoc, append-nil, length, length-append, eq-eqb, ne_eqb, subst, arith}
 use Rattle.std.proofs.lemmas.Bool.{false≢true}
 use Rattle.std.proofs.lemmas.List.{append_cancel_right}
 use Rattle.spin_seated.specs.declared.history.Entry.{Entry}
@@ -23,8 +23,7 @@ module _ {X : Type 0} where
 
 module _ {C A : Type 0} where
   joined : (b : Bool) (e : Entry C A) (xs ys zs : List (Entry C A)) → zs ≡ xs ++ ys → (if b then e ∷ zs else zs) ≡ (if b then e ∷ xs else xs) ++ ys
-  joined true e xs ys zs is = ap (λ (l : List (Entry C A)). e ∷ l) is
-  joined false e xs ys zs is = is
+  joined b e xs ys zs is = grind arith
 
   pub calls_by-append : (p : ℕ) (xs ys : List (Entry C A)) → calls_by p (xs ++ ys) ≡ calls_by p xs ++ calls_by p ys
   calls_by-append p [] ys = refl
@@ -73,17 +72,14 @@ module _ {K S C A H : Type 0} (m : Machine K S C A H) where
   module _ (p : ℕ) (steady : (q : ℕ) (d : C) (s : S) → q ≢ p → m.holds p (m.next q d s) ≡ m.holds p s) where
     passed_by : (s : S) (e : Entry C A) (es : List (Entry C A)) (b : Bool) → (e.pass == p) ≡ b → (if b then e ∷ calls_by p es else calls_by p es) ≡ []
         → (calls_by p es ≡ [] → m.holds p (after m (m.next e.pass e.call s) es) ≡ m.holds p (m.next e.pass e.call s)) → m.holds p (after m (m.next e.pass e.call s) es) ≡ m.holds p s
-    passed_by s e es true own alone rest = absurd (cc alone)
-    passed_by s e es false other alone rest = rest alone ∙ steady e.pass e.call s (λ same. false≢true (sym other ∙ eq-eqb e.pass p same))
+    passed_by s e es b own alone rest = grind (arith, false≢true, eq-eqb)
 
     pub stands : (s : S) (log : List (Entry C A)) → calls_by p log ≡ [] → m.holds p (after m s log) ≡ m.holds p s
     stands s [] alone = refl
     stands s (e ∷ es) alone = passed_by s e es (e.pass == p) refl alone (stands (m.next e.pass e.call s) es)
 
     pub stands_on : (k : K) (log seen : List (Entry C A)) → BeginsWith log seen → calls_by p log ≡ calls_by p seen → m.holds p (state m k log) ≡ m.holds p (state m k seen)
-    stands_on k log seen begins own =
-        let alone : calls_by p begins.rest ≡ [] = nothing_more (calls_by p seen) (calls_by p begins.rest) (sym (calls_by-append p seen begins.rest) ∙ (ap (calls_by p) (sym begins.is) ∙ own)) in
-        ap (λ (l : List (Entry C A)). m.holds p (state m k l)) begins.is ∙ (ap (m.holds p) (after-append (m.start k) seen begins.rest) ∙ stands (state m k seen) begins.rest alone)
+    stands_on k log seen begins own = grind (arith, nothing_more, calls_by-append, after-append, stands)
 
   -- the place of a call in the history: the calls before it, and what it found and left
   pub record MadeAt (x : Known K C A) (c : C) (a : A) (y : Known K C A) : Type 0 where
@@ -122,16 +118,10 @@ module _ {K S C A H : Type 0} (m : Machine K S C A H) where
     still log begins own = stands_on x.pass (λ q c s apart. tracked.steady x.pass q c s apart) x.opening log x.seen begins own
 
     pub after_meet : (log : List (Entry C A)) (y : Known K C A) → Met m x log y → holds m y ≡ holds m x
-    after_meet log y met =
-        ap (λ (p : ℕ). m.holds p (state m y.opening y.seen)) met.pass ∙ (ap (λ (k : K). m.holds x.pass (state m k y.seen)) met.opening ∙ (ap (λ (l : List (Entry C A)). m.holds x.pass (state m x.opening l)) met.history ∙ still log met.begins met.own))
+    after_meet log y met = grind (arith, still)
 
     pub after_own : (c : C) (a : A) (y : Known K C A) → Made m x c a y → holds m y ≡ m.held_after c a (holds m x)
-    after_own c a y made =
-        let at = made_at x c a y made in
-        let found : S = state m x.opening at.before in
-        ap (λ (p : ℕ). m.holds p (state m y.opening y.seen)) made.pass ∙ (ap (m.holds x.pass) at.left ∙ (tracked.own x.opening at.before x.pass c at.legal at.may
-        ∙ (ap (λ (b : A). m.held_after c b (m.holds x.pass found)) (sym at.answer) ∙ ap (m.held_after c a) (still at.before at.begins at.own))))
+    after_own c a y made = grind (arith, made_at x c a y made, still (made_at x c a y made).before (made_at x c a y made).begins (made_at x c a y made).own)
 
     pub after_step : (t : Option (C × A)) (y : Known K C A) → Turned m t x y → holds m y ≡ held_then m t (holds m x)
-    after_step None y same = ap (holds m) same
-    after_step (Some t) y made = after_own t.0 t.1 y made
+    after_step t y same = grind (arith, after_own)

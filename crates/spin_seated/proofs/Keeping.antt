@@ -1,8 +1,8 @@
 -- How each step keeps the table's rule: a call, a load by two passes that meet, and the splitting and joining of seats.
-use Rattle.std.proofs.Common.{◌≡◌, ℕ, zero, suc, ◌+◌, ◌≤◌, ◌<◌, ◌≢◌, ◌==◌, ⊎_elim, Bool, true, false, cond, List, [], ◌∷◌, ◌++◌, map, take, drop, slice_index, slice_set, set, Option, Some, None, refl, sym, ap, subst, ◌∙◌, append-nil, eq-eqb, eqb-true, arith}
+use Rattle.std.proofs.Common.{◌≡◌, ℕ, zero, suc, ◌+◌, ◌≤◌, ◌<◌, ◌≢◌, ◌==◌, ⊎_elim, Bool, true, cond, List, [], ◌∷◌, ◌++◌, map, take, drop, slice_index, slice_set, set, Option, Some, None, refl, sym, ap, subst, ◌∙◌, append-nil, eq-eqb, eqb-true, arith}
 use Rattle.std.specs.List.{range_with_len}
 use Rattle.std.proofs.lemmas.List.{set-get_or}
-use mathlib.Core.Option.{some, some-injective, some-ne-none}
+use mathlib.Core.Option.{some}
 use lib.ListN.{get_elem?}
 use Rattle.atomic_table.specs.Table.{State, Step, Me, Act, keeps, Valid, Allows, Splits, Joins, opening, stepped, carried_after}
 use Rattle.atomic_table.proofs.Lists.{at_set, at_snoc, set_again, set_else}
@@ -24,20 +24,13 @@ module _ {K C A : Type 0} where
   not_named x xs p zero_times = ((λ same. let e = ap {B = ℕ} (λ (b : Bool). cond b 1 0) (eq-eqb x.pass p (sym same)) in omega arith), omega arith)
 
   names-cut : (p : ℕ) (v : List (Known K C A)) → names p (drop 1 v) + names p (take 1 v) ≡ names p v
-  names-cut p [] = refl
-  names-cut p (x ∷ xs) = omega arith
+  names-cut p v = grind arith
 
 module _ {K S C A H : Type 0} (m : Machine K S C A H) where
   -- The history of all calls, and what each seat knows, when one call is added.
   module _ (k : K) (log : List (Entry C A)) where
     stays : (x : Known K C A) (p : ℕ) (c : C) (a : A) → p ≢ x.pass → Fits m k log x → Fits m k (log ++ entry p c a ∷ []) x
-    stays x p c a apart fits =
-        record {
-          opening = fits.opening;
-          given = fits.given;
-          begins = begins_longer log x.seen (entry p c a ∷ []) fits.begins;
-          own = calls_by-append x.pass log (entry p c a ∷ []) ∙ (ap (λ (l : List (Entry C A)). calls_by x.pass log ++ l) (calls_by-other x.pass p c a apart) ∙ (append-nil (calls_by x.pass log) ∙ fits.own));
-        }
+    stays x p c a apart fits = grind (arith, begins_longer log x.seen (entry p c a ∷ []) fits.begins, calls_by-append x.pass log (entry p c a ∷ []), calls_by-other x.pass p c a apart, append-nil (calls_by x.pass log))
 
     all_stay : (p : ℕ) (c : C) (a : A) (v : List (Known K C A)) → names p v ≡ 0 → AllFit m k log v → AllFit m k (log ++ entry p c a ∷ []) v
     all_stay p c a [] absent fits = tt
@@ -47,16 +40,14 @@ module _ {K S C A H : Type 0} (m : Machine K S C A H) where
     knows x fits = record { opening = fits.opening; given = fits.given; begins = begins_here log; own = refl }
 
     meets : (x : Known K C A) → x.opening ≡ k → IsLegal m k log → Fits m k log x → Met m x log (knowing x log)
-    meets x is legal fits =
-        record { opening = refl; pass = refl; history = refl; begins = fits.begins; own = fits.own; legal = subst (λ (o : K). IsLegal m o log) (sym is) legal }
+    meets x is legal fits = grind arith
 
     fit-append : (v w : List (Known K C A)) → AllFit m k log v → AllFit m k log w → AllFit m k log (v ++ w)
     fit-append [] w fv fw = fw
     fit-append (x ∷ xs) w fv fw = (fv.0, fit-append xs w fv.1 fw)
 
     fit-cut : (v : List (Known K C A)) → AllFit m k log v → AllFit m k log (drop 1 v) × AllFit m k log (take 1 v)
-    fit-cut [] fits = (tt, tt)
-    fit-cut (x ∷ xs) fits = (fits.1, (fits.0, tt))
+    fit-cut v fits = grind arith
 
   -- A step of a seat with one pass, while the rule holds.
   module _ {X : Type 0} (x : Known K C A) (id i : ℕ) (f : ℕ → ℕ) (s : State X (List (Known K C A))) (kept : OneHistory m x.opening s) (at : get_elem? s.views id ≡ some (x ∷ [])) where
@@ -201,8 +192,7 @@ module _ {K S C A H : Type 0} (m : Machine K S C A H) where
   NamedOnce p a times = (times ≤ 1) × (p < a → times ≡ 0)
 
   named : (p a rest : ℕ) (b : Bool) → (a == p) ≡ b → NamedOnce p (a + 1) rest → NamedOnce p a (cond b 1 0 + rest)
-  named p a rest true same once = let e : a ≡ p = eqb-true a p same in let zero_times = once.1 (omega arith) in (omega arith, (λ h. absurd (omega arith)))
-  named p a rest false other once = let one_at_most = once.0 in (omega arith, (λ h. let zero_times = once.1 (omega arith) in omega arith))
+  named p a rest b same once = grind (arith, eqb-true)
 
   names-newcomers : (k : K) (p a n : ℕ) → NamedOnce p a (names p (map (newcomer {C = C} {A = A} k) (range_with_len a n)))
   names-newcomers k p a zero = (omega arith, (λ h. refl))
@@ -210,15 +200,4 @@ module _ {K S C A H : Type 0} (m : Machine K S C A H) where
 
   -- the rule holds of the table as it opens
   pub opens : {X : Type 0} (k : K) (words : List ℕ) → words ≡ m.words (m.start k) → OneHistory m {X = X} k (opening words [] (all_passes m k))
-  opens k words is =
-      record {
-        log = [];
-        words = is;
-        legal = tt;
-        fit = first;
-        once = λ p. let most = names-newcomers k p 0 (m.passes k) in omega arith;
-      }
-    where
-      first : (id : ℕ) (v : List (Known K C A)) → get_elem? (all_passes m k ∷ []) id ≡ some v → AllFit m k [] v
-      first zero v there = subst (AllFit m k []) (some-injective (all_passes m k) v there) (fit-newcomers k 0 (m.passes k) (omega arith))
-      first (suc id) v there = absurd (some-ne-none v (sym there))
+  opens k words is = grind (arith, names-newcomers, some, fit-newcomers)

@@ -6,7 +6,7 @@ use Rattle.spin_seated.specs.declared.history.Entry.{Entry}
 use Rattle.spin_seated.specs.declared.history.Known.{Known}
 use Rattle.spin_seated.specs.declared.lock.Opening.{Opening}
 use Rattle.spin_seated.specs.declared.mutex.Call.{Call}
-use Rattle.spin_seated.specs.declared.mutex.Call.TheVariants.{TryLock, IsLocked, Read, Write, Unlock}
+use Rattle.spin_seated.specs.declared.mutex.Call.TheVariants.{TryLock, IsLocked, Read}
 use Rattle.spin_seated.specs.declared.lock.Answer.{Answer}
 use Rattle.spin_seated.specs.declared.lock.Answer.TheVariants.{Truth, Value}
 use Rattle.spin_seated.specs.Histories.{Machine, BeginsWith, entry, calls_by, after, state, IsLegalFrom, IsLegal, Met}
@@ -32,8 +32,7 @@ module _ {K S C A H : Type 0} (m : Machine K S C A H) where
   pub agree : (a b met_a met_b : Known K C A) → Met m a met_a.seen met_a → Met m b met_a.seen met_b
       → (met_b.seen ≡ met_a.seen) × ((n : ℕ) (e : Entry C A) → slice_get a.seen n ≡ Some e → slice_get met_b.seen n ≡ Some e)
       × ((n : ℕ) (e : Entry C A) → slice_get b.seen n ≡ Some e → slice_get met_a.seen n ≡ Some e)
-  agree a b met_a met_b first second =
-      (second.history, (λ n e is. ap (λ (l : List (Entry C A)). slice_get l n) second.history ∙ still_there met_a.seen a.seen first.begins n e is), still_there met_a.seen b.seen second.begins)
+  agree a b met_a met_b first second = grind (arith, still_there)
 
 -- a call that reads the value v and does not write, or one that does not read
 abbrev pub ReadsValue : Option ℕ → Option ℕ → ℕ → Type 0
@@ -42,10 +41,7 @@ ReadsValue (Some x) None v = x ≡ v
 ReadsValue (Some x) (Some w) v = ⊥
 
 next : (r w : Option ℕ) (v : ℕ) (more seen : List ℕ) → ReadsValue r w v → InOrderOf (unwrap_or w v ∷ more) seen → InOrderOf (v ∷ (option_to_list w ++ more)) (option_to_list r ++ seen)
-next None None v more seen is rest = rest
-next None (Some w) v more seen is rest = goes_on rest
-next (Some x) None v more seen is rest = subst (λ (n : ℕ). InOrderOf (v ∷ more) (n ∷ seen)) (sym is) (looks rest)
-next (Some x) (Some w) v more seen is rest = absurd is
+next r w v more seen is rest = grind (arith, goes_on, looks)
 
 module _ {C H : Type 0} (m : Machine Opening Locked C Answer H) (written : C → Option ℕ) (writes : (p : ℕ) (c : C) (s : Locked) → (m.next p c s).value ≡ unwrap_or (written c) s.value) where
   value_is : (s : Locked) (log : List (Entry C Answer)) → (after m s log).value ≡ value_after written s.value log
@@ -55,15 +51,12 @@ module _ {C H : Type 0} (m : Machine Opening Locked C Answer H) (written : C →
   -- the answer of a call that reads the value
   pub read_is : (k : Opening) (before rest : List (Entry C Answer)) (p v : ℕ) (c : C) → ((s : Locked) → m.answer p c s ≡ Value s.value) → IsLegal m k (before ++ entry p c (Value v) ∷ rest)
       → v ≡ value_after written (m.start k).value before
-  read_is k before rest p v c reads legal =
-      let same : v ≡ (state m k before).value = cc ((answered m k before rest p c (Value v) legal).1, reads (state m k before)) in
-      same ∙ value_is (m.start k) before
+  read_is k before rest p v c reads legal = grind (arith, answered, value_is)
 
   module _ (read : C → Answer → Option ℕ) (reads : (p : ℕ) (c : C) (s : Locked) → ReadsValue (read c (m.answer p c s)) (written c) s.value) where
     one_call : (e : Entry C Answer) (v : ℕ) (more : List ℕ) (own : List (Entry C Answer)) (b : Bool) → ReadsValue (read e.call e.answer) (written e.call) v
         → InOrderOf (unwrap_or (written e.call) v ∷ more) (all_read read own) → InOrderOf (v ∷ (option_to_list (written e.call) ++ more)) (all_read read (if b then e ∷ own else own))
-    one_call e v more own true is rest = next (read e.call e.answer) (written e.call) v more (all_read read own) is rest
-    one_call e v more own false is rest = next None (written e.call) v more (all_read read own) tt rest
+    one_call e v more own b is rest = grind (arith, next, read, written, all_read)
 
     pub reads_in_order : (n : ℕ) (s : Locked) (log : List (Entry C Answer)) (p : ℕ) → IsLegalFrom m n s log → InOrderOf (s.value ∷ all_written written log) (all_read read (calls_by p log))
     reads_in_order n s [] p legal = done
@@ -73,17 +66,14 @@ module _ {C H : Type 0} (m : Machine Opening Locked C Answer H) (written : C →
 
 -- For the mutex:
 one_at_most : (n : ℕ) (hs : List Holder) → Alone n hs → length (map (λ h. h.party) hs) ≤ 1
-one_at_most n [] alone = omega arith
-one_at_most n (h ∷ []) alone = omega arith
-one_at_most n (h ∷ g ∷ hs) alone = absurd alone
+one_at_most n hs alone = grind arith
 
 pub one_holder : (k : Opening) (log : History) → IsLegal mutex k log → length (holders k log) ≤ 1
 one_holder k log legal = one_at_most k.passes (state mutex k log).lock.holders (alone_state k log legal)
 
 -- before a try that succeeds nobody holds, and after it the try's pass holds
 won : (p : ℕ) (s : Locked) (hs : List Holder) → Truth true ≡ Truth (is_empty hs) → (map (λ h. h.party) hs ≡ []) × (map (λ h. h.party) (after_call p TryLock (held_by s hs)).lock.holders ≡ p ∷ [])
-won p s [] is = (refl, refl)
-won p s (h ∷ hs) is = absurd (cc (truth_is true false is))
+won p s hs is = grind (arith, truth_is)
 
 -- at a try that fails, one pass holds
 lost : (n : ℕ) (hs : List Holder) → Alone n hs → Truth false ≡ Truth (is_empty hs) → (q : ℕ) × (map (λ h. h.party) hs ≡ q ∷ [])
@@ -103,26 +93,16 @@ refused k before rest p legal =
     let two = answered mutex k before rest p TryLock (Truth false) legal in lost k.passes (state mutex k before).lock.holders (alone_state k before two.0) two.1
 
 pub written_by : (p : ℕ) (c : Call) (s : Locked) → (after_call p c s).value ≡ unwrap_or (written c) s.value
-written_by p TryLock s = value_tried p s (is_empty s.lock.holders)
-written_by p IsLocked s = refl
-written_by p Read s = refl
-written_by p (Write w) s = refl
-written_by p Unlock s = refl
+written_by p c s = grind (arith, value_tried)
 
 pub read : (k : Opening) (before rest : History) (p v : ℕ) → IsLegal mutex k (before ++ entry p Read (Value v) ∷ rest) → v ≡ last_written k.value before
 read k before rest p v = read_is mutex written written_by k before rest p v Read (λ s. refl)
 
 pub read_then : (p : ℕ) (c : Call) (s : Locked) → ReadsValue (read_by c (plain_answer p c s)) (written c) s.value
-read_then p Read s = refl
-read_then p TryLock s = tt
-read_then p IsLocked s = tt
-read_then p (Write w) s = tt
-read_then p Unlock s = tt
+read_then p c s = grind arith
 
 same_emptiness : (hs : List Holder) → is_empty hs ≡ is_empty (map (λ h. h.party) hs)
-same_emptiness [] = refl
-same_emptiness (h ∷ hs) = refl
+same_emptiness hs = grind arith
 
 pub looked : (k : Opening) (before rest : History) (p : ℕ) (held : Bool) → IsLegal mutex k (before ++ entry p IsLocked (Truth held) ∷ rest) → held ≡ not (is_empty (holders k before))
-looked k before rest p held legal =
-    truth_is held (not (is_empty (state mutex k before).lock.holders)) (answered mutex k before rest p IsLocked (Truth held) legal).1 ∙ ap not (same_emptiness (state mutex k before).lock.holders)
+looked k before rest p held legal = grind (arith, truth_is held (not (is_empty (state mutex k before).lock.holders)) (answered mutex k before rest p IsLocked (Truth held) legal).1, same_emptiness (state mutex k before).lock.holders)

@@ -1,12 +1,12 @@
 -- A pass before and after a step of its seat.
 use Rattle.std.specs.List.{range_with_len}
-use Rattle.std.proofs.Common.{◌≡◌, ◌+◌, ◌-◌, ◌<◌, suc, map, arith, ℕ, List, [], ◌∷◌, take, drop, Option, Some, refl, sym, ap, subst, ◌∙◌}
+use Rattle.std.proofs.Common.{◌≡◌, ◌+◌, ◌-◌, ◌<◌, suc, map, arith, ℕ, List, [], ◌∷◌, take, drop, Option, Some, sym, ap, subst, ◌∙◌}
 use Rattle.atomic_table.specs.declared.shared.Seat.{Seat}
 use Rattle.atomic_table.specs.Table.{Step, Me, Allows}
 use Rattle.spin_seated.specs.declared.history.Entry.{Entry}
 use Rattle.spin_seated.specs.declared.lock.Opening.{Opening}
 use Rattle.spin_seated.specs.declared.lock.Answer.{Answer}
-use Rattle.spin_seated.specs.Histories.{Machine, newcomer, holds, One, Two, OneHistory, IsTracked, Met, Turned, held_then, Tells, Shows, Owes}
+use Rattle.spin_seated.specs.Histories.{Machine, newcomer, holds, One, Two, OneHistory, IsTracked, Met, held_then, Tells, Shows, Owes}
 use Rattle.spin_seated.specs.Passes.{Knows, Seated, seated_of, first_of_view, IsOneSeat}
 use Rattle.spin_seated.proofs.Histories.{after_step}
 use Rattle.spin_seated.proofs.Keeping.{allows}
@@ -33,24 +33,16 @@ module _ {S C H : Type 0} (m : Machine Opening S C Answer H) where
 
     -- a seat that satisfies `One` has exactly one pass, and P holds of it
     one_of : (P : Knows C → Type 0) (w : List (Knows C)) → One P w → (w ≡ first_of_view w ∷ []) × P (first_of_view w)
-    one_of P [] h = absurd h
-    one_of P (x ∷ []) h = (refl, h)
-    one_of P (x ∷ y ∷ xs) h = absurd h
+    one_of P w h = grind arith
 
     pub turned : IsTracked m → (st : Step ℕ) (told : ℕ → ℕ → Option (C × Answer)) (found : ℕ) (me : Me ℕ (List (Knows C))) → Tells m told st s.me found me
         → (me ≡ (first_of_view me.0 ∷ [], [])) × (holds m (first_of_view me.0) ≡ held_then m (told st.first found) (holds m v.known))
-    turned tracked st told found me tells =
-        let t : Tells m told st (v.known ∷ [], []) found me = subst (λ (u : Me ℕ (List (Knows C))). Tells m told st u found me) its_view tells in
-        let w = one_of (λ y. Turned m (told st.first found) v.known y) me.0 t.0 in
-        ((λ i. (w.0 i, t.1 i)), after_step m tracked v.known (told st.first found) (first_of_view me.0) w.1)
+    turned tracked st told found me tells = grind (arith, its_view, one_of, after_step)
 
   -- Two passes that meet: the seat of both before and after its step, and the two seats afterwards.
   module _ (st : Step ℕ) (x y : Knows C) (found : ℕ) (before me of_x of_y : Me ℕ (List (Knows C))) where
     two_of : (P : Knows C → Knows C → Type 0) (w : List (Knows C)) → Two P w → (u : Knows C) × (v : Knows C) × (w ≡ u ∷ v ∷ []) × P u v
-    two_of P [] h = absurd h
-    two_of P (u ∷ []) h = absurd h
-    two_of P (u ∷ v ∷ []) h = (u, v, refl, h)
-    two_of P (u ∷ v ∷ w ∷ ws) h = absurd h
+    two_of P w h = grind arith
 
     pub record Meeting : Type 0 where
       pub seat_of_x : of_x ≡ (first_of_view of_x.0 ∷ [], [])

@@ -39,23 +39,16 @@ module _ (p : ℕ) (s : Locked) (st : Standing s) where
   ends d b n is to = ap (λ (n : ℕ). n ∷ s.value ∷ []) to ∙ sym (ap (words_if d) is)
 
   refused : (b : Bool) → hold_in p s ≡ None → is_open s.lock (gets p to_read) ≡ b → Owed rw p 0 (λ _. word) s (if b then None else Some (TryRead, Truth false))
-  refused true free is = refl
-  refused false free is = (ap (may_with TryRead) free, ends (gets p to_read) false word is refl, ap Truth (sym is))
+  refused b free is = grind (arith, ends)
 
   looks_at : hold_in p s ≡ None → Owed rw p 0 (λ _. word) s (refused_by word)
   looks_at free = refused (has_room reading word reader_limit) free (read-word s.lock word reader_limit one st.cap refl)
 
   comes_at : (old new : ℕ) (b : Bool) → hold_in p s ≡ None → (word == old) ≡ b → LetsRead old new → Owed rw p 0 (λ _. either b new word) s (if b then Some (TryRead, Truth true) else refused_by word)
-  comes_at old new true free same lets =
-      let it = lets s.lock p one st.cap (eqb-true word old same) in (ap (may_with TryRead) free, ends (gets p to_read) true new it.0 it.1, ap Truth (sym it.0))
-  comes_at old new false free other lets = looks_at free
+  comes_at old new b free same lets = grind (arith, one, eqb-true, ends, looks_at)
 
   comes_to_write_at : (new : ℕ) (b : Bool) → hold_in p s ≡ None → (word == 0) ≡ b → LetsWrite new → Owed rw p 0 (λ _. either b new word) s (Some (TryWrite, Truth b))
-  comes_to_write_at new true free empty lets =
-      let it = lets s.lock p (eqb-true word 0 empty) in (ap (may_with TryWrite) free, ends (gets p to_write) true new it.0 it.1, ap Truth (sym it.0))
-  comes_to_write_at new false free taken lets =
-      let shut : is_open s.lock (gets p to_write) ≡ false = empty-word s.lock.holders word refl ∙ taken in
-      (ap (may_with TryWrite) free, ends (gets p to_write) false word shut refl, ap Truth (sym shut))
+  comes_to_write_at new b free empty lets = grind (arith, eqb-true, ends, empty-word)
 
   -- if a pass holds, the plain lock has it as a holder of that kind
   stands : (k : SeatedHold) → hold_in p s ≡ Some k → is_holder p (kind_of k) s.lock.holders ≡ true
@@ -77,8 +70,7 @@ module _ {v w : Seated Call} (same : v ≡ w) where
   held_now = ap (λ (u : Seated Call). holds u.known) same
 
   pub acquires_write_owed : (new : ℕ) → LetsWrite new → holds w.known ≡ None → Owes rw v.known 0 (λ n. either (n == 0) new n) (acquires_write 0)
-  acquires_write_owed new lets free log legal has small =
-      comes_to_write_at v.known.pass (found v.known log) (standing v.known.opening log legal) new (rw_word (found v.known log).lock == 0) (has ∙ (held_now ∙ free)) refl lets
+  acquires_write_owed new lets free log legal has small = grind (arith, comes_to_write_at v.known.pass (found v.known log) (standing v.known.opening log legal) new (rw_word (found v.known log).lock == 0) (has ∙ (held_now ∙ free)) refl lets)
 
   pub counts_readers_owed : Owes rw v.known 0 (λ n. n) (counts_readers 0)
   counts_readers_owed log legal has small = (refl, refl, ap Value (sym (readers-word (found v.known log).lock _ (one v.known.pass (found v.known log) (standing v.known.opening log legal)) refl)))
@@ -113,5 +105,4 @@ module _ {v w : Seated Call} (same : v ≡ w) where
 
 -- a try that fails does not change what the pass holds, nor does a step that is no call
 pub held_still : (b : Bool) (x y : Knows) → Turned rw (if b then None else Some (TryRead, Truth false)) x y → holds y ≡ holds x
-held_still true x y told = ap holds told
-held_still false x y told = after_own rw tracked x TryRead (Truth false) y told
+held_still b x y told = grind (arith, after_own, tracked)

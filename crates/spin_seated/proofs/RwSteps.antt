@@ -1,8 +1,8 @@
 -- What a call does to the plain read-write lock, and what holds after a legal history.
-use Rattle.std.proofs.Common.{◌≡◌, ℕ, ◌≢◌, ◌==◌, ◌&&◌, Bool, true, false, if◌then◌else◌, List, [], ◌∷◌, ◌++◌, Option, Some, None, filter, refl, sym, ap, subst, ◌∙◌, eq-eqb}
+use Rattle.std.proofs.Common.{arith, ◌≡◌, ℕ, ◌≢◌, ◌==◌, Bool, true, if◌then◌else◌, List, [], ◌∷◌, Option, Some, None, filter, refl, sym, ap, subst, ◌∙◌, eq-eqb}
 use mathlib.Core.Logic.{dite}
 use native.Mathlib.Decide.{ℕ_discrete}
-use Rattle.spin_step.specs.Plain.{Plain, reading, writing, Holder, holder, Change, gets, releases, turns, to_read, to_write, is_open, is_holder, without_holder, with_kind}
+use Rattle.spin_step.specs.Plain.{Plain, Holder, holder, Change, releases, turns, is_open, is_holder}
 use Rattle.spin_step.specs.Parties.{party_of, IsOpenStep, IsExclusive, Entries, entries, entries_after}
 use Rattle.spin_step_more.specs.Readers.{reader_limit}
 use Rattle.spin_step.proofs.Holders.{is_holder-from_entries, same_kind-self}
@@ -10,23 +10,16 @@ use Rattle.spin_step.proofs.Exclusive.{exclusive-free, exclusive-kept}
 use Rattle.spin_step.proofs.InOrder.{cap-kept}
 use Rattle.spin_step.proofs.Entries.{entries-other, entries-own}
 use Rattle.spin_seated.specs.declared.history.Entry.{Entry}
-use Rattle.spin_seated.specs.declared.rwlock.SeatedHold.TheVariants as hold
 use Rattle.spin_seated.specs.Histories.{state, IsLegal, IsTracked}
-use Rattle.spin_seated.specs.Rw.{Opening, Locked, Answer, Call, TryRead, TryWrite, ReaderCount, WriterCount, Read, Write, UnlockRead, UnlockWrite, Downgrade, SeatedHold, kind_of, held, hold_in, may_with, change, where_open, after_call, plain_answer, held_after, rw}
+use Rattle.spin_seated.specs.Rw.{Opening, Locked, Answer, Call, SeatedHold, kind_of, held, hold_in, may_with, change, where_open, after_call, plain_answer, held_after, rw}
 use Rattle.spin_seated.proofs.Histories.{always}
 
 -- a step that is made only if it is open is an open step of its party
 opens : (c : Change) (s : Plain) (b : Bool) → is_open s c ≡ b → IsOpenStep s (party_of c) (if b then Some c else None)
-opens c s true is = (refl, is)
-opens c s false is = tt
+opens c s b is = grind arith
 
 step_opens : (p : ℕ) (c : Call) (s : Plain) → IsOpenStep s p (where_open s (change p c))
-step_opens p TryRead s = opens (gets p to_read) s (is_open s (gets p to_read)) refl
-step_opens p TryWrite s = opens (gets p to_write) s (is_open s (gets p to_write)) refl
-step_opens p UnlockRead s = opens (releases p reading) s (is_open s (releases p reading)) refl
-step_opens p UnlockWrite s = opens (releases p writing) s (is_open s (releases p writing)) refl
-step_opens p Downgrade s = opens (turns p writing reading) s (is_open s (turns p writing reading)) refl
-step_opens p _ s = tt
+step_opens p c s = grind (arith, opens, releases, turns)
 
 abbrev pub own : ℕ → Locked → List Holder
 own p s = filter (λ h. h.party == p) s.lock.holders
@@ -44,9 +37,7 @@ places p None = []
 places p (Some k) = holder p (kind_of k) ∷ []
 
 held-places : (p : ℕ) (h : Option SeatedHold) → held (places p h) ≡ h
-held-places p None = refl
-held-places p (Some hold.Read) = refl
-held-places p (Some hold.Write) = refl
+held-places p h = grind arith
 
 -- after each legal history a writer holds alone, each pass is at most one holder, and the cap is `reader_limit`
 pub record Standing (s : Locked) : Type 0 where
@@ -63,30 +54,16 @@ module _ (p : ℕ) (s : Locked) where
   moved c = ap (λ (e : Entries). e.holders) (entries-own s.lock p (where_open s.lock (change p c)) (step_opens p c s.lock))
 
   tried : (c : Change) (k : SeatedHold) (b : Bool) → own p s ≡ [] → places_after (Some c) ≡ places p (Some k) → places_after (if b then Some c else None) ≡ places p (if b then Some k else None)
-  tried c k true none is = is
-  tried c k false none is = none
+  tried c k b none is = grind arith
 
   pub there : (k : SeatedHold) → own p s ≡ places p (Some k) → is_holder p (kind_of k) s.lock.holders ≡ true
   there k is = is_holder-from_entries p (kind_of k) s.lock.holders is
 
   gone : (k : SeatedHold) → own p s ≡ places p (Some k) → places_after (where_open s.lock (Some (releases p (kind_of k)))) ≡ []
-  gone k is =
-      ap (λ (b : Bool). places_after (if b then Some (releases p (kind_of k)) else None)) (there k is)
-      ∙ (ap (without_holder p (kind_of k)) is ∙ simp (eq-eqb p p refl, same_kind-self (kind_of k)))
+  gone k is = grind (arith, releases, there, eq-eqb, same_kind-self)
 
   own_after : (c : Call) (h : Option SeatedHold) → own p s ≡ places p h → may_with c h ≡ true → own p (after_call p c s) ≡ places p (held_after c (plain_answer p c s) h)
-  own_after TryRead None is may = moved TryRead ∙ tried (gets p to_read) hold.Read (is_open s.lock (gets p to_read)) is (ap (λ (l : List Holder). l ++ holder p reading ∷ []) is)
-  own_after TryWrite None is may = moved TryWrite ∙ tried (gets p to_write) hold.Write (is_open s.lock (gets p to_write)) is (ap (λ (l : List Holder). l ++ holder p writing ∷ []) is)
-  own_after UnlockRead (Some hold.Read) is may = moved UnlockRead ∙ gone hold.Read is
-  own_after UnlockWrite (Some hold.Write) is may = moved UnlockWrite ∙ gone hold.Write is
-  own_after Downgrade (Some hold.Write) is may =
-      moved Downgrade ∙ (ap (λ (b : Bool). places_after (if b && true then Some (turns p writing reading) else None)) (there hold.Write is)
-      ∙ (ap (with_kind p writing reading) is ∙ simp (eq-eqb p p refl)))
-  own_after ReaderCount h is may = is
-  own_after WriterCount h is may = is
-  own_after Read (Some k) is may = is
-  own_after (Write v) (Some hold.Write) is may = is
-  own_after _ _ is may = absurd cc
+  own_after c h is may = grind (arith, moved, tried, gone, turns, there, eq-eqb)
 
   placed : (q : ℕ) (t : Locked) (h : Option SeatedHold) → own q t ≡ places q h → own q t ≡ places q (hold_in q t)
   placed q t h is = is ∙ ap (places q) (sym (held-places q h) ∙ ap held (sym is))

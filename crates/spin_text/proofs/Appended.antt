@@ -60,10 +60,7 @@ module _ (a b c : Option (List ℕ)) (text piece : List ℕ) (so_far : AppendsBu
 
 -- first bytes of a text are first bytes of a longer text that begins with it
 pub beginning_longer : (a b : Option (List ℕ)) (text more all : List ℕ) → all ≡ text ++ more → AppendsBeginning a b text → AppendsBeginning a b all
-beginning_longer a b text more all is part =
-    let P : List ℕ → Type 0 = λ t. AppendsBeginning a b t in
-    let Q : List ℕ → Type 0 = λ t. Appends a b t in
-    subst P (sym is) (part.0, omega (arith, part.1, length-append text more), subst Q (sym (take-append-le part.0 text more part.1)) part.2)
+beginning_longer a b text more all is part = grind (arith, length-append text more, take-append-le part.0 text more part.1)
 
 -- the bytes of a list from place i up to its end
 pub rest_is : (xs line : List ℕ) (n i : ℕ) → length xs ≡ n → drop i xs ≡ line → take (n - i) (drop i xs) ≡ line

@@ -1,5 +1,5 @@
 -- Known bytes that are read in pieces.
-use Rattle.std.proofs.Common.{arith, ◌≡◌, ℕ, List, [], ◌++◌, append_assoc, append-nil, take, subst, Option, Some, None, sym, ◌∙◌, ap}
+use Rattle.std.proofs.Common.{arith, ◌≡◌, ℕ, List, [], ◌++◌, append_assoc, take, Option}
 use Rattle.std.specs.Io.KnownBytes.{Consumes}
 
 -- at first nothing was read

@@ -1,9 +1,7 @@
 -- Reading the first line inverts its spelling.
-use Rattle.std.proofs.Common.{◌≡◌, ℕ, ◌^◌, ◌<◌, true, ◌&&◌, nat_le, Option, Some, None, List, [], ◌∷◌, ◌++◌, codes, decimal, cond, arith, refl, sym, ◌∙◌, ap, subst}
+use Rattle.std.proofs.Common.{◌≡◌, ℕ, ◌^◌, ◌<◌, true, Option, Some, List, [], ◌∷◌, ◌++◌, codes, decimal, arith, refl, sym, ◌∙◌, ap, subst}
 use Rattle.std.specs.Str.{bytes_eq}
-use Rattle.std.proofs.lemmas.Bool.{leb-true, le-leb}
-use Rattle.spin_step_more.specs.Readers.{reader_limit}
-use Rattle.spin_step_more.specs.Starvers.{most_starvers}
+use Rattle.std.proofs.lemmas.Bool.{leb-true}
 use Rattle.spin_text.specs.declared.header.Header.{Header}
 use Rattle.spin_text.specs.declared.header.Header.TheVariants.{Flag, Ticket, Rw, Fair, Barrier, Once}
 use Rattle.spin_text.specs.Objects.{CallOf, calls_of, header_words, HeaderFits, IsWithin, PartiesFit}
@@ -124,13 +122,9 @@ parties_then n make few = ap (λ o. o >>= λ m. Some (make m)) (parties_again n 
 pub header_again : (h : Header) → HeaderFits h → read_header (header_words h) ≡ Some h
 unfolding read_header read_flag_header read_ticket_header read_rw_header read_fair_header read_barrier_header read_once_header
 header_again (Flag value parties) fits = number_then value _ _ fits.0 ∙ parties_then parties (Flag value) fits.1
-header_again (Ticket value first parties) fits =
-    number_then value _ _ fits.0 ∙ number_then first _ _ fits.1 ∙ parties_then parties (Ticket value first) fits.2
-header_again (Rw value cap parties) fits =
-    number_then value _ _ fits.0 ∙ within_then 1 reader_limit cap _ _ (omega arith) fits.1 ∙ parties_then parties (Rw value cap) fits.2
-header_again (Fair value cap spins parties) fits =
-    number_then value _ _ fits.0 ∙ within_then 1 most_starvers cap _ _ (omega arith) fits.1
-    ∙ within_then 0 1024 spins _ _ (omega arith) fits.2 ∙ parties_then parties (Fair value cap spins) fits.3
+header_again (Ticket value first parties) fits = grind (arith, number_then, parties_then parties (Ticket value first) fits.2)
+header_again (Rw value cap parties) fits = grind (arith, number_then, within_then, parties_then parties (Rw value cap) fits.2)
+header_again (Fair value cap spins parties) fits = grind (arith, number_then, within_then, parties_then parties (Fair value cap spins) fits.3)
 header_again (Barrier n parties) fits = number_then n _ _ fits.0 ∙ parties_then parties (Barrier n) fits.1
 header_again (Once parties) fits = parties_then parties Once fits
 

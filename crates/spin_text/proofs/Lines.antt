@@ -1,11 +1,10 @@
 -- The lines of a transcript, which are written while the moves are played.
-use Rattle.std.proofs.Common.{◌≡◌, ℕ, zero, suc, ◌+◌, ◌<◌, ◌^◌, ◌==◌, ◌&&◌, Bool, true, false, if◌then◌else◌, Option, Some, None, List, [], ◌∷◌, ◌++◌, length, take, drop, get_or, sym, ◌∙◌, ap, refl, subst, arith, append_assoc, append-nil, zero-add, length-take-le}
+use Rattle.std.proofs.Common.{◌≡◌, ℕ, zero, suc, ◌+◌, ◌<◌, ◌^◌, ◌==◌, ◌&&◌, Bool, if◌then◌else◌, Option, Some, None, List, [], ◌∷◌, ◌++◌, length, take, drop, get_or, sym, ◌∙◌, ap, refl, subst, arith, append_assoc, append-nil, zero-add, length-take-le}
 use Rattle.std.proofs.lemmas.List.{take-append-drop}
 use Rattle.spin_step.specs.declared.answer.Answer.{Answer}
 use Rattle.spin_step.specs.declared.schedule.Event.{Event}
 use Rattle.spin_step.specs.declared.schedule.Move.{Move}
 use Rattle.spin_step.specs.declared.schedule.Outcome.{Outcome}
-use Rattle.spin_step.specs.declared.schedule.Outcome.TheVariants as outcome
 use Rattle.spin_step.specs.Machines.{Machine}
 use Rattle.spin_step.specs.Schedules.{State, Happened, happens, after, events_of, with_begins, with_begin, begin_of, begins_after, last_begin, is_begun}
 use Rattle.spin_world_core.proofs.Schedules.{events_of-append, length-events_of}
@@ -17,11 +16,7 @@ use Rattle.spin_text.specs.Transcripts.{event_line, event_lines, end_line, sched
 event_lines_more : {W : Type 0} (numbers : W → List ℕ) (line : ℕ) (es : List (Event W ℕ (Answer ℕ))) (e : Event W ℕ (Answer ℕ))
     → event_lines numbers line (es ++ e ∷ []) ≡ event_lines numbers line es ++ event_line (line + length es) e.party e.outcome (numbers e.words)
 event_lines_more numbers line [] e = ap (λ n. event_line n e.party e.outcome (numbers e.words) ++ []) (omega arith) ∙ append-nil (event_line (line + 0) e.party e.outcome (numbers e.words))
-event_lines_more numbers line (x ∷ es) e =
-    let first = event_line line x.party x.outcome (numbers x.words) in
-    let place : line + 1 + length es ≡ line + suc (length es) = omega arith in
-    ap (λ l. first ++ l) (event_lines_more numbers (line + 1) es e ∙ ap (λ n. event_lines numbers (line + 1) es ++ event_line n e.party e.outcome (numbers e.words)) place)
-    ∙ sym (append_assoc first (event_lines numbers (line + 1) es) (event_line (line + suc (length es)) e.party e.outcome (numbers e.words)))
+event_lines_more numbers line (x ∷ es) e = grind (arith, event_lines_more numbers (line + 1) es e, append_assoc)
 
 -- if the event that began the call is in this transcript, it is one of the first n events
 abbrev IsBelow : ℕ → Option ℕ → Type 0
@@ -113,17 +108,12 @@ told_next {W = W} machine object held from now next begins begins' schedule rest
 with_begins_append : {W V A : Type 0} (before xs ys : List (Event W V A))
     → with_begins before (xs ++ ys) ≡ with_begins before xs ++ with_begins (before ++ xs) ys
 with_begins_append before [] ys = ap (λ b. with_begins b ys) (sym (append-nil before))
-with_begins_append before (x ∷ xs) ys =
-    ap (λ es. (record x { outcome = with_begin (last_begin x.party 0 None before) x.outcome }) ∷ es)
-    (with_begins_append (before ++ x ∷ []) xs ys ∙ ap (λ b. with_begins (before ++ x ∷ []) xs ++ with_begins b ys) (append_assoc before (x ∷ []) xs))
+with_begins_append before (x ∷ xs) ys = rw (with_begins_append (before ++ x ∷ []) xs ys, append_assoc before (x ∷ []) xs)
 
 lines_begin : {W : Type 0} (numbers : W → List ℕ) (line : ℕ) (xs ys : List (Event W ℕ (Answer ℕ)))
     → (more : List ℕ) × (event_lines numbers line (xs ++ ys) ≡ event_lines numbers line xs ++ more)
 lines_begin numbers line [] ys = (event_lines numbers line ys, refl)
-lines_begin numbers line (x ∷ xs) ys =
-    let rest = lines_begin numbers (line + 1) xs ys in
-    let first = event_line line x.party x.outcome (numbers x.words) in
-    (rest.0, ap (λ l. first ++ l) rest.1 ∙ sym (append_assoc first (event_lines numbers (line + 1) xs) rest.0))
+lines_begin numbers line (x ∷ xs) ys = grind (arith, lines_begin numbers (line + 1) xs ys, append_assoc)
 
 -- the lines of the first moves are the first lines of all moves
 pub first_lines : {W C L : Type 0} (m : Machine W ℕ C L (Answer ℕ)) (from : State W ℕ C L) (schedule : List (ℕ × Move C ℕ)) (k : ℕ)

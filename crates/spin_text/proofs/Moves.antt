@@ -1,11 +1,11 @@
 -- Reading an entry inverts its spelling.
-use Rattle.std.proofs.Common.{arith, ◌≡◌, ℕ, true, ◌&&◌, Option, Some, List, [], ◌∷◌, codes, decimal, refl, ◌∙◌, ap, subst}
+use Rattle.std.proofs.Common.{arith, ◌≡◌, ℕ, true, ◌&&◌, Option, Some, List, [], ◌∷◌, codes, decimal, ◌∙◌, ap, subst}
 use Rattle.std.specs.Str.{bytes_eq}
 use Rattle.std.proofs.lemmas.Slice.Eq.{bytes_eq-Decides}
 use Rattle.spin_step.specs.declared.schedule.Move.{Move}
 use Rattle.spin_step.specs.declared.schedule.Move.TheVariants.{Begin, Step, Weak, Read, Write, Leak, OwnerGet, OwnerSet}
 use Rattle.spin_text.specs.Spelling.{Calls, move_words, MoveFits, entry_words, EntryFits}
-use Rattle.spin_text.specs.Reading.{◌>>=◌, word_at, number_at, last_word, last_number, owner_move, plain_move, read_move, read_entry, is_end}
+use Rattle.spin_text.specs.Reading.{word_at, number_at, last_word, last_number, owner_move, plain_move, read_move, read_entry, is_end}
 use Rattle.spin_text.specs.Readable.{ReadsCalls}
 use Rattle.spin_text.proofs.Options.{chosen, bound, some_is, and_true, last_takes}
 use Rattle.spin_text.proofs.Numerals.{number_at_takes, number_at_again, last_number_takes, last_number_again}

@@ -151,9 +151,7 @@ last_number_again n fits = ap last (number_at_again n [] fits)
 -- reading a word as a line gives the number that the word spells
 pub number_alone : (word : List ℕ) (r : Option ℕ) → r ≡ last_number (words_of word) → IfSome r (λ n. IsNumber word n)
 number_alone word None read = tt
-number_alone word (Some n) read =
-    let one = last_number_takes (words_of word) n (sym read) in
-    subst (λ w. IsNumber w n) (sym (same_bytes word (decimal n) one.1)) (is_number n one.0)
+number_alone word (Some n) read = grind (arith, last_number_takes (words_of word) n (sym read), same_bytes word (decimal n) (last_number_takes (words_of word) n (sym read)).1, is_number n (last_number_takes (words_of word) n (sym read)).0)
 
 pub no_number_alone : (word : List ℕ) (r : Option ℕ) → r ≡ last_number (words_of word)
     → IfNone r ((n : ℕ) → n < 2 ^ 64 → ¬ (IsNumber word n))

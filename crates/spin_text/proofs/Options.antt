@@ -1,5 +1,5 @@
 -- How reading goes on: by a test, or from one result to the next. Also what follows from the result of a call.
-use Rattle.std.proofs.Common.{arith, ◌≡◌, ℕ, Bool, true, false, ◌&&◌, Option, Some, None, Result, Ok, Err, OnOk, OnErr, IfErr, IfNone, List, [], ◌∷◌, cond, refl, sym, ap, subst}
+use Rattle.std.proofs.Common.{arith, ◌≡◌, ℕ, Bool, true, false, ◌&&◌, Option, Some, Result, Err, OnOk, OnErr, IfErr, IfNone, List, [], cond}
 use Rattle.spin_text.specs.declared.text.RunError.{RunError}
 use Rattle.spin_text.specs.declared.text.RunError.TheVariants.{Memory}
 use Rattle.spin_text.specs.Texts.{StopsWriting}

@@ -7,7 +7,6 @@ use Rattle.spin_step.specs.declared.schedule.Move.{Move}
 use Rattle.spin_step.specs.Machines.{Machine}
 use Rattle.spin_text.specs.declared.header.Header.{Header}
 use Rattle.spin_text.specs.declared.text.RunError.{RunError}
-use Rattle.spin_text.specs.declared.text.RunError.TheVariants as errors
 use Rattle.spin_text.specs.Ends.{AppendsSome, AppendsSomeBeginning}
 use Rattle.spin_text.specs.Lines.{words_by_line}
 use Rattle.spin_text.specs.Spelling.{Calls, entry_words, EntryFits, EntriesFit}
@@ -28,16 +27,12 @@ read_entries read (line ∷ lines) = read_entry read line >>= λ e. (read_entrie
 module _ {C : Type 0} (calls : Calls C) (read : List (List ℕ) → Option C) (reads : ReadsCalls calls read) where
   pub entries_again : (es : List (ℕ × Move C ℕ)) → EntriesFit calls es → read_entries read (map (entry_words calls) es) ≡ Some es
   entries_again [] fits = refl
-  entries_again (e ∷ es) fits =
-      ap (λ o. o >>= λ x. (read_entries read (map (entry_words calls) es) >>= λ xs. Some (x ∷ xs))) (entry_again calls read reads e fits.0)
-      ∙ ap (λ o. o >>= λ xs. Some (e ∷ xs)) (entries_again es fits.1)
+  entries_again (e ∷ es) fits = rw (entry_again calls read reads e fits.0, entries_again es fits.1)
 
   -- lines are no entries if a line among them spells none
   pub entries_stop : (es : List (ℕ × Move C ℕ)) (line : List (List ℕ)) → EntriesFit calls es → read_entry read line ≡ None → read_entries read (map (entry_words calls) es ++ (line ∷ [])) ≡ None
   entries_stop [] line fits is = ap (λ o. o >>= λ x. Some (x ∷ [])) is
-  entries_stop (e ∷ es) line fits is =
-      ap (λ o. o >>= λ x. (read_entries read (map (entry_words calls) es ++ (line ∷ [])) >>= λ xs. Some (x ∷ xs))) (entry_again calls read reads e fits.0)
-      ∙ ap (λ o. o >>= λ xs. Some (e ∷ xs)) (entries_stop es line fits.1 is)
+  entries_stop (e ∷ es) line fits is = rw (entry_again calls read reads e fits.0, entries_stop es line fits.1 is)
 
   -- if some entries fit and one more entry fits, then all of them fit
   pub entries_more : (es : List (ℕ × Move C ℕ)) (e : ℕ × Move C ℕ) → EntriesFit calls es → EntryFits calls e → EntriesFit calls (es ++ (e ∷ []))
@@ -47,15 +42,7 @@ module _ {C : Type 0} (calls : Calls C) (read : List (List ℕ) → Option C) (r
   -- if the next line spells an entry, the entries read so far grow by it
   pub entries_step : (es all_entries : List (ℕ × Move C ℕ)) (e : ℕ × Move C ℕ) (line : List (List ℕ)) (left further all : List (List (List ℕ))) → EntriesFit calls es → map (entry_words calls) es ++ left ≡ all → left ≡ line ∷ further
       → read_entry read line ≡ Some e → all_entries ≡ es ++ (e ∷ []) → EntriesFit calls all_entries × (map (entry_words calls) all_entries ++ further ≡ all)
-  entries_step es all_entries e line left further all fits spelled next found is =
-      let P : List (ℕ × Move C ℕ) → Type 0 = λ xs. EntriesFit calls xs × (map (entry_words calls) xs ++ further ≡ all) in
-      let entry = entry_takes calls read reads line e found in
-      let words = entry_words calls in
-      subst P (sym is) (
-        entries_more es e fits entry.0,
-        ap (λ l. l ++ further) (map-append words es (e ∷ [])) ∙ append_assoc (map words es) (words e ∷ []) further
-            ∙ ap (λ l. map words es ++ l) (ap (λ w. w ∷ further) (sym entry.1) ∙ sym next) ∙ spelled,
-      )
+  entries_step es all_entries e line left further all fits spelled next found is = grind (arith, entry_takes calls read reads line e found, entries_more es e fits (entry_takes calls read reads line e found).0, map-append (entry_words calls) es (e ∷ []), append_assoc (map (entry_words calls) es) ((entry_words calls) e ∷ []) further)
 
 -- if the first line spells an entry, it is the first entry of the lines
 pub first_entry : {C : Type 0} (read : List (List ℕ) → Option C) (left further : List (List (List ℕ))) (line : List (List ℕ)) (e : ℕ × Move C ℕ) → left ≡ line ∷ further
@@ -70,9 +57,7 @@ module _ {C : Type 0} (calls : Calls C) (read : List (List ℕ) → Option C) (r
   -- reading the lines of some entries finds these entries
   entries_found : (es : List (ℕ × Move C ℕ)) → EntriesFit calls es → entries_in read (map (entry_words calls) es) ≡ es
   entries_found [] fits = refl
-  entries_found (e ∷ es) fits =
-      ap (λ o. cons_option o (entries_in read (map (entry_words calls) es))) (entry_again calls read reads e fits.0)
-      ∙ ap (λ l. e ∷ l) (entries_found es fits.1)
+  entries_found (e ∷ es) fits = rw (entry_again calls read reads e fits.0, entries_found es fits.1)
 
   -- each line that spells an entry is read
   pub all_read : (es : List (ℕ × Move C ℕ)) → EntriesFit calls es → AllRead read (map (entry_words calls) es)
@@ -87,12 +72,7 @@ module _ {C : Type 0} (calls : Calls C) (read : List (List ℕ) → Option C) (r
       (es ++ (e ∷ []), more.0, more.1, omega (arith, so_far.3, length-append es (e ∷ [])))
 
   pub checked_all : (n : ℕ) (left all : List (List (List ℕ))) → Checked calls left all n → left ≡ [] → AllSpell calls read all
-  checked_all n left all so_far over =
-      let es = so_far.0 in
-      let words = map (entry_words calls) es in
-      let P : List (List (List ℕ)) → Type 0 = AllSpell calls read in
-      let Q : List (ℕ × Move C ℕ) → Type 0 = λ xs. EntriesFit calls xs × (words ≡ map (entry_words calls) xs) in
-      subst P (sym (append-nil words) ∙ ap (λ l. words ++ l) (sym over) ∙ so_far.2) (subst Q (sym (entries_found es so_far.1)) (so_far.1, refl))
+  checked_all n left all so_far over = grind (arith, append-nil (map (entry_words calls) (so_far.0)), entries_found (so_far.0) so_far.1)
 
 pub read_script : List (List (List ℕ)) → Option Script
 read_script [] = None
@@ -107,8 +87,7 @@ script_again s fits =
 
 -- two scripts of one text are equal
 pub one_script : (bytes : List ℕ) (s t : Script) → Spells bytes s → Spells bytes t → s ≡ t
-one_script bytes s t first second =
-    some_is (sym (script_again s first.fits) ∙ ap read_script (sym first.words ∙ second.words) ∙ script_again t second.fits)
+one_script bytes s t first second = rw (some_is (sym (script_again s first.fits) ∙ ap read_script (sym first.words ∙ second.words) ∙ script_again t second.fits))
 
 -- lines that cannot be read are not the lines of a script
 no_script : (lines : List (List (List ℕ))) → read_script lines ≡ None → ¬ AreOfScript lines
@@ -119,12 +98,7 @@ unfolding read_script
 header_stops line none = ap (λ o. o >>= λ h. (read_entries (read_of h) [] >>= λ es. Some (record { header = h; entries = es }))) none
 
 pub bad_header : (line : List (List ℕ)) (all more : List (List (List ℕ))) → all ≡ line ∷ more → None ≡ read_header line → IsFirstBad all 1
-bad_header line all more is none =
-    subst (λ lines. IsFirstBad lines 1) (sym is) (record {
-      there = (omega arith, omega arith);
-      before = λ less. absurd (omega (arith, less));
-      bad = no_script (line ∷ []) (header_stops line (sym none));
-    })
+bad_header line all more is none = grind (arith, no_script (line ∷ []) (header_stops line (sym none)))
 
 entry_stops : (h : Header) (es : List (ℕ × Move (CallOf h) ℕ)) (line : List (List ℕ)) → HeaderFits h → EntriesFit (calls_of h) es → read_entry (read_of h) line ≡ None
     → read_script (header_words h ∷ (map (entry_words (calls_of h)) es ++ (line ∷ []))) ≡ None

@@ -22,8 +22,7 @@ module _ {V : Type 0} (value : Option V) where
   goes_next : (s : OnceState V) (p : ℕ) (c : OnceCall V) (l : OncePoint) (h : Option Hold) → s.words ≡ 0 → slice_get s.seats p ≡ Some (Calling c l h)
       → has_closure (asks_of c) ≡ true → (l ≡ Run → ⊥) → let next = (happens m s p Step).next in
       (slice_get next.seats p ≡ Some (Calling c (next_point l) h)) × (next_point l ≡ TryBegin → next.words ≡ 0)
-  goes_next s p c l h zero at closure not =
-      grind (arith, zero, at, not, get-set_same s.seats p (Calling c (next_point l) h) (Calling c l h) at)
+  goes_next s p c l h zero at closure not = grind (arith, get-set_same)
 
   module _ (n : ℕ) (past : Entries V) (p : ℕ) (c : OnceCall V) (h : Option Hold) (zero : (once_after m n past).words ≡ 0) (closure : has_closure (asks_of c) ≡ true) where
     by_exchange : IsCalling m n past p c TryBegin h → RunsClosure m n (past ++ (p, Step) ∷ []) p
@@ -43,16 +42,12 @@ module _ {V : Type 0} (value : Option V) where
     runs_soon l at = grind (arith, by_exchange, by_look l at, not_at_run value n past p c l h at 0 refl)
 
   pub a_later_closure_may_run : (n : ℕ) (past : Entries V) → MayRunAgain m n past
-  a_later_closure_may_run n past = record {
-    clears = λ p is. grind (arith, after-append m (at_first m n) past ((p, Step) ∷ []));
-    begins = λ p c l h zero at closure. runs_soon n past p c h zero closure l at;
-  }
+  a_later_closure_may_run n past = grind (arith, after-append, at_first, runs_soon)
 
   -- a closure begins only by the exchange, which follows a look
   looks_at : (seen : Seen ℕ V (OnceCall V) OncePoint) (p : ℕ) (o : Option (Seat (OnceCall V) OncePoint)) → Invariant (once_facts value) seen → slice_get seen.state.seats p ≡ o → step_at m seen.state p Step o ≡ Some (gets p to_begin)
       → has_just_looked p (seen.span p) ≡ true
-  looks_at seen p (Some (Calling c l h)) good there e = grind (arith, (in_call (once_facts value) p good there).knows)
-  looks_at seen p _ good there e = absurd (cc (e))
+  looks_at seen p o good there e = grind (arith, in_call, once_facts)
 
   pub looks_first : (n : ℕ) (past : Entries V) → LooksFirst m n past
   looks_first n past = λ p e. looks_at (seen_at m n past) p _ (good (once_facts value) n past) refl e

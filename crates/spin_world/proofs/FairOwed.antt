@@ -98,16 +98,9 @@ module _ {V : Type 0} (v : V) (cap patience : ℕ) where
     registers_in_time w s old = grind arith
 
   owes : OwesAll (fair_notes v cap patience)
-  owes p Lock (Attempt n) None s w span =
-      let won = goes_on patience p s span (Some (gets p to_lock_unregistered)) plain refl refl in
-      grind (arith, lock_means p s w, won, missed patience p s span n plain refl, missed patience p s span n weak refl, nothing_left p)
-  owes p Lock (Look n) None s w span = λ at. (
-    grind (arith, held p s w, looked_held patience p s span n, looked_late patience p s span n, nothing_left p, loads_in_time p, eqb_self p),
-    grind (arith, held p s w, looked_free patience p s span n, nothing_left p, eqb_self p),
-  )
-  owes p Lock Load None s w span = let looks = full patience p s span (few_to_load p) plain refl in
-      let in_time = λ (ms : List Mark). registers_in_time p ms w s in
-      grind (arith, starve_means p s w, loaded patience p s span w, in_time, looks, nothing_left p)
+  owes p Lock (Attempt n) None s w span = grind (arith, goes_on patience p s span (Some (gets p to_lock_unregistered)) plain refl refl, lock_means p s w, missed patience p s span n plain refl, missed patience p s span n weak refl, nothing_left p)
+  owes p Lock (Look n) None s w span = grind (arith, held p s w, looked_held patience p s span n, looked_late patience p s span n, nothing_left p, loads_in_time p, eqb_self p, looked_free patience p s span n)
+  owes p Lock Load None s w span = grind (arith, full patience p s span (few_to_load p) plain refl, registers_in_time, starve_means p s w, loaded patience p s span w, nothing_left p)
   owes p Lock (Register n) None s w span = λ at.
       let looks = full patience p s span (few_to_register p s n) again refl refl in (
         starve_means p s w (cc (at.encodes)) at.shape,
@@ -118,25 +111,20 @@ module _ {V : Type 0} (v : V) (cap patience : ℕ) where
   owes p Lock SetFlag None s w span =
       let won = goes_on patience p s span (Some (gets p to_lock_starving)) plain refl refl in
       grind (arith, lock_starved_means p s w, won, goes_on patience p s span None plain refl, nothing_left p)
-  owes p Lock Await None s w span =
-      grind (arith, held p s w, looked_starving patience p s span, nothing_left p, eqb_self p)
-  owes p Lock Unregister None s w span = let left = goes_on patience p s span (Some (stops_starving p)) plain refl in
-      grind (arith, unstarve_means p s w, is_starver-from_entries p, left)
+  owes p Lock Await None s w span = grind (arith, held p s w, looked_starving patience p s span, nothing_left p, eqb_self p)
+  owes p Lock Unregister None s w span = grind (arith, goes_on patience p s span (Some (stops_starving p)) plain refl, unstarve_means p s w, is_starver-from_entries p)
   owes p Lock _ _ s w span = tt
   owes p TryLock l h s w span = grind (arith, lock_means p s w)
   owes p TryLockStarver l h s w span = grind (arith, lock_means p s w, eqb-true w 1, word_starved w s)
   owes p IsLocked l h s w span = grind (arith, held p s w)
   owes p Starve l h s w span = grind (arith, starve_means p s w)
   owes p Release l h s w span = grind (arith, unlock_means p s w)
-  owes p _ l h s w span = let starves = is_starver-from_entries p in
-      grind (arith, lock_fair_means p s w, lock_starved_means p s w, held p s w, unstarve_means p s w, starves)
+  owes p _ l h s w span = grind (arith, is_starver-from_entries p, lock_fair_means p s w, lock_starved_means p s w, held p s w, unstarve_means p s w)
 
   -- If nobody disturbs the call, its exchange acquires a free lock, at once or after a look. A party that has begun to
   -- register then registers, gets the lock, and stops starving.
   soon : SoonAll (fair_notes v cap patience)
-  soon p Lock l h s w span = grind (arith, empty_is s.holders, empty_is s.starvers, flag_clear w s, not_there p s)
-  soon p StarverLock l h s w span = grind (arith, flag_clear w s)
-  soon p _ _ _ s w span = tt
+  soon = grind (arith, empty_is, flag_clear, not_there)
 
   others : (p q : ℕ) (c : FairCall) (l : FairPoint) (s : Plain) (step : Option Change) (r : StepKind) (span : List Mark) → (q ≡ p → ⊥) → KnowsAt patience c l p s span → KnowsAt patience c l p (apply_some s step) (mark_of q step r s ∷ span)
   others p q Lock (Register n) s step r span ne knows = registering-other patience p q s step r span ne n knows

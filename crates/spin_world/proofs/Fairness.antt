@@ -15,9 +15,7 @@ held_first p removed h hs rest before held = grind (arith, before)
 held_before : (p q : ℕ) (k : Kind) (hs : List Holder) → is_holder p writing (without_holder q k hs) ≡ true
     → is_holder p writing hs ≡ true
 held_before p q k [] held = held
-held_before p q k (h ∷ hs) held =
-    held_first p ((h.party == q) && same_kind k h.kind) h hs (without_holder q k hs) (held_before p q k hs) held
+held_before p q k (h ∷ hs) held = grind (arith, held_first p ((h.party == q) && same_kind k h.kind) h hs (without_holder q k hs) (held_before p q k hs) held)
 
 pub comes_after_starvers : (s : Plain) (p : ℕ) (step : Option Change) → IsOpenStep s p step → BelongsTo fair step → is_holder p writing s.holders ≡ false → is_starver p s.starvers ≡ false → is_holder p writing (apply_some s step).holders ≡ true → s.starvers ≡ []
-comes_after_starvers s p step may belongs idle newcomer holds =
-    grind (arith, empty_is s.starvers, λ (q : ℕ) (k : Kind). held_before p q k s.holders)
+comes_after_starvers s p step may belongs idle newcomer holds = grind (arith, empty_is, held_before)

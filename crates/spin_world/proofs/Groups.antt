@@ -23,8 +23,7 @@ module _ (n : ℕ) where
   counted : (seen : Seen BarrierWords ℕ BarrierCall BarrierPoint) (es : Entries) → Invariant f seen
       → (seen_after m seen es).plain.arrivals ≡ seen.plain.arrivals + steps_made is_arrival m seen es
   counted seen [] good = omega arith
-  counted seen (e ∷ es) good = let here = kept f seen e.0 e.1 good in
-      omega (arith, one_more seen.plain (scene m seen e.0 e.1).change here.keeps.belongs, counted (scene m seen e.0 e.1).after es here.good)
+  counted seen (e ∷ es) good = grind (arith, kept f seen e.0 e.1 good, one_more seen.plain (scene m seen e.0 e.1).change (kept f seen e.0 e.1 good).keeps.belongs, counted (scene m seen e.0 e.1).after es (kept f seen e.0 e.1 good).good)
 
   -- The party has any seat o. `last` is the place that the next arrival gets in its group, or 0 if this arrival fills
   -- the group.
@@ -49,9 +48,7 @@ module _ (n : ℕ) where
   leaves_at : (seen : Seen BarrierWords ℕ BarrierCall BarrierPoint) (p : ℕ) (c : BarrierCall) (l : BarrierPoint) (h : Option Hold)
       → Invariant f seen → slice_get seen.state.seats p ≡ Some (Calling c l h) → own p (seen.span p) ≡ arrives p ∷ []
       → ((happens m seen.state p Step).outcome ≡ Answered Follower None) ↔ (may_leave seen.plain (arrived p (seen.span p)) ≡ true)
-  leaves_at seen p c l h good there has = let is = is_barrier n seen.plain seen.state.words good.encodes good.shape in
-      let tells = λ (g : ℕ). barrier_may_leave-tells seen.plain (arrived p (seen.span p)) n _ _ g is in
-      grind (arith, there, (in_call f p good there).knows, tells)
+  leaves_at seen p c l h good there has = grind (arith, is_barrier, barrier_may_leave-tells, in_call)
 
   pub followers_leave : (parties : ℕ) (past : Entries) → FollowersLeave m parties past
   followers_leave parties past = λ p c l h there has. let state = state-seen_at m parties past in

@@ -24,8 +24,7 @@ module _ {V : Type 0} (v : V) (first : ℕ) where
   served : (seen : Seen TicketWords V TicketCall TicketPoint) (es : Schedule TicketCall V) → Invariant f seen
       → serving_word (seen_after m seen es).plain ≡ serving_word seen.plain + tickets_gone m seen es
   served seen [] good = omega arith
-  served seen (e ∷ es) good = let here = kept f seen e.0 e.1 good in
-      omega (arith, moves_some seen.plain e.0 (scene m seen e.0 e.1).change good.shape.numbered here.keeps.opens, served (scene m seen e.0 e.1).after es here.good)
+  served seen (e ∷ es) good = grind (arith, kept f seen e.0 e.1 good, moves_some, served (scene m seen e.0 e.1).after es (kept f seen e.0 e.1 good).good)
 
   pub in_order : (n : ℕ) (past : Schedule TicketCall V) → InOrder (state_at m n past).words (seen_at m n past).plain
   in_order n past = grind (arith, numbers_are f n past, good f n past)

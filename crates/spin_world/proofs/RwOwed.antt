@@ -1,5 +1,5 @@
 -- What has to be shown of the table of the read-write lock.
-use Rattle.spin_world.proofs.RwNames.{◌≡◌, ℕ, ◌≤◌, true, Option, Some, None, ◌∷◌, length, refl, ap, sym, ◌∙◌, arith, eq-eqb, length-append, Plain, Kind, upgradable, asking, writing, weight, to_read, to_read_upgradable, to_write, to_upgrade, to_upgrade_asked, Change, gets, releases, turns, is_holder, may_turn, rw_word, entries, IsExclusive, reader_limit, tells, read, read_upgradable, write, upgrade, upgrade_asked, released, is_holder-from_entries, is_holder-own, length-without_holder, empty_is, room_to_come, one_of_each, read-word, upgradable_read-word, upgradable-word, tells-holder, readers-word, writers-word, only_upgradable-word, only_asking-word, empty-word, Hold, RwCall, TryRead, Read, TryUpgradeableRead, UpgradeableRead, Write, ReaderCount, WriterCount, Upgrade, Downgrade, DowngradeToUpgradeable, Release, RwPoint, First, Exchange, Asking, holds, entries_at, Notes, Means, OwesAll, SoonAll, no_queue, [], turned_to}
+use Rattle.spin_world.proofs.RwNames.{◌≡◌, ℕ, ◌≤◌, true, Option, Some, None, ◌∷◌, length, refl, ap, sym, ◌∙◌, arith, eq-eqb, length-append, Plain, Kind, upgradable, asking, weight, to_read, to_read_upgradable, to_write, to_upgrade, to_upgrade_asked, Change, gets, releases, turns, is_holder, may_turn, rw_word, entries, IsExclusive, reader_limit, tells, read, read_upgradable, write, upgrade, upgrade_asked, released, is_holder-from_entries, is_holder-own, length-without_holder, empty_is, room_to_come, one_of_each, read-word, upgradable_read-word, upgradable-word, tells-holder, readers-word, writers-word, only_upgradable-word, only_asking-word, empty-word, Hold, RwCall, TryRead, Read, TryUpgradeableRead, UpgradeableRead, ReaderCount, WriterCount, Upgrade, Downgrade, DowngradeToUpgradeable, Release, RwPoint, First, Exchange, Asking, holds, entries_at, Notes, Means, OwesAll, SoonAll, no_queue, [], turned_to}
 use Rattle.std.specs.Prelude.{min, max}
 use Rattle.spin_step.proofs.Sums.{length-with_kind}
 use Rattle.spin_step_more.proofs.ReaderSteps.{rw_read-grants, rw_upgradable-grants, rw_write-grants, rw_upgrade-grants, rw_upgrade_asked-grants, rw_release-gives, rw_turn-gives}
@@ -95,12 +95,7 @@ module _ {V : Type 0} (v : V) (cap : ℕ) where
   -- if nobody disturbs the call, its exchange succeeds on a word that admits the party, at once or after a look
 
   soon : SoonAll (rw_notes v cap)
-  soon p Read l h s w span = grind (arith, read-word s w cap, one_of_each s, eq-eqb w w)
-  soon p UpgradeableRead l h s w span = grind (arith, upgradable_read-word s w cap, one_of_each s, eq-eqb w w)
-  soon p Write l h s w span = grind (arith, empty-word s.holders w)
-  soon p Upgrade l h s w span = let own = is_holder-own p writing s.holders in
-      grind (arith, own, only_asking-word s p w, only_upgradable-word s p w, one_of_each s, holder_by p)
-  soon p _ _ _ s w span = tt
+  soon = grind (arith, read-word, one_of_each, eq-eqb, upgradable_read-word, empty-word, is_holder-own, only_asking-word, only_upgradable-word, holder_by)
 
   pub rw_facts : Plays (rw_machine v cap) (rw_notes v cap)
   rw_facts = plays_of (record {

@@ -22,12 +22,9 @@ Rises k s span = (k ≤ serving_word s) × Stays k s span
 
 -- the refusal of a try has a moment
 pub try_refused : (p n : ℕ) (s : Plain) (span : List Mark) → Stays n s span → (serving_word s ≡ n → s.next ≡ n → is_left s.next ≡ false) → list_any (λ m. not (is_open_to m.before p to_take_and_enter)) (mark_of p None plain s ∷ span) ≡ true
-try_refused p n s span stays up =
-    grind (arith, up, any_passes (λ m. is_empty m.before.tickets ≡ false) (λ m. not (is_open_to m.before p to_take_and_enter)) span)
+try_refused p n s span stays up = grind (arith, any_passes)
 
 -- the answer of a load of the next number has a moment, if the party found k served before
 pub look_right : (b : Bool) (p k : ℕ) (s : Plain) (span : List Mark) → Queue s → Rises k s span → (s.next == k) ≡ b
     → list_any (λ m. same (not b) (is_held m.before)) (mark_of p None plain s ∷ span) ≡ true
-look_right b p k s span queue found is =
-    let any = any_passes (λ m. is_empty m.before.tickets ≡ false) (λ m. same true (is_held m.before)) span in
-    grind (arith, queue, nobody_stands s.next s.tickets, somebody_stands s.next s.tickets, any)
+look_right b p k s span queue found is = grind (arith, any_passes, same, nobody_stands, somebody_stands)

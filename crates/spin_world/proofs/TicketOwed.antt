@@ -43,13 +43,11 @@ module _ {V : Type 0} (v : V) (first : ℕ) where
     take_means = grind (arith, queue, serving-taken s p false queue.numbered, numbered-given s p (effect to_take_ticket) queue.numbered)
 
     enter_means : (t : ℕ) → entries p s ≡ entries_at p (queues t false) → IsMeant p s (gets p to_enter) (λ k. w) (passing (w.serving == t) w.serving)
-    enter_means t mine = let turn = enters_in_turn s p w.serving t queue.numbered serving_is in
-        grind (arith, turn, serving-entered s, numbered-given s p (effect to_enter) queue.numbered, queue, stands p t false s.tickets)
+    enter_means t mine = grind (arith, enters_in_turn, serving-entered, numbered-given, stands)
 
     serve_means : (t u : ℕ) → t ≡ u → first_alone_entered s.tickets ≡ true → entries p s ≡ entries_at p (queues u true)
         → (is_left t ≡ true) × IsMeant p s (serves p) (λ k. record w { serving = k }) (Some (t + 1))
-    serve_means t u same one mine = let here = entered_is_served s p u queue.numbered one in
-        grind (arith, here, ticket_serve-gives s p t, queue, numbered-serves s p, stands p u true s.tickets)
+    serve_means t u same one mine = grind (arith, entered_is_served, ticket_serve-gives, numbered-serves, stands)
 
   owes : OwesAll (ticket_notes v first)
   owes p TryLock (TryLoadServing n) None s w span =

@@ -35,8 +35,7 @@ module _ {W V C L A : Type 0} (m : Machine W V C L A) where
 none_from : {W V A : Type 0} (start p k : ℕ) (found : Option ℕ) (xs : List (Event W V A)) → k + length xs ≤ start → began_from start found ≡ None
     → began_from start (last_begin p k found xs) ≡ None
 none_from start p k found [] le none = none
-none_from start p k found (x ∷ xs) le none =
-    grind (arith, none_from start p (k + 1) (if (x.party == p) && is_begun x.outcome then Some k else found) xs)
+none_from start p k found (x ∷ xs) le none = grind (arith, none_from start p (k + 1) (if (x.party == p) && is_begun x.outcome then Some k else found) xs)
 
 -- a run tells the place where a call began as counted from the run's own start
 last_from : {W V A : Type 0} (start p k : ℕ) (found here : Option ℕ) (xs : List (Event W V A)) → began_from start found ≡ here
@@ -56,8 +55,7 @@ length-with_begins before (x ∷ xs) = ap suc (length-with_begins (before ++ x �
 -- a run that starts after the events xs has the events of the longer run, with places counted from its own start
 with_begins_from : {W V A : Type 0} (xs before ys : List (Event W V A)) → with_begins before ys ≡ map (event_from (length xs)) (with_begins (xs ++ before) ys)
 with_begins_from xs before [] = refl
-with_begins_from xs before (y ∷ ys) =
-    grind (arith, begin_from y.party xs before, with_begins_from xs (before ++ y ∷ []) ys, append_assoc xs before (y ∷ []))
+with_begins_from xs before (y ∷ ys) = grind (arith, begin_from y.party xs before, with_begins_from xs (before ++ y ∷ []) ys, append_assoc xs before (y ∷ []))
 
 -- Two runs of one world: the second run starts in the state in which the first has stopped, on the same object. They
 -- end as one run does, their transcripts are its transcript, cut in two, and both together tell its scenes.

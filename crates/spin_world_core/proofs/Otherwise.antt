@@ -1,6 +1,6 @@
 -- Ways to show that a lock is wrong: a part of a claim is false, a party takes four undisturbed steps without an answer,
 -- or a step is no single operation.
-use Rattle.std.proofs.Common.{◌≡◌, ℕ, ◌+◌, ◌<◌, ◌⊎◌, true, false, List, [], ◌∷◌, ◌++◌, slice_set, get_or, refl, arith}
+use Rattle.std.proofs.Common.{◌≡◌, ℕ, ◌+◌, ◌<◌, ◌⊎◌, true, false, List, [], ◌∷◌, ◌++◌, slice_set, get_or, arith}
 use Rattle.spin_step.specs.StepKinds.{is_weak}
 use Rattle.spin_step.specs.Calls.{LockKind, Asked, Mark}
 use Rattle.spin_world_core.specs.Spans.{own_count}
@@ -24,8 +24,7 @@ owns kind p (m ∷ ms) are = grind (arith, owns kind p ms are.1)
 -- a call that continues after k such steps breaks the law that allows fewer
 pub too_many : (kind : LockKind) (p : ℕ) (what : Asked) (k : ℕ) (recent : List Mark) (first : Mark) (older : List Mark) → UndisturbedTakes (λ n. n < k) kind p what (recent ++ first ∷ older)
     → is_open_now p what older first.before ≡ true → AllOf (IsOwn p) (recent ++ first ∷ []) → own_count p (recent ++ first ∷ []) ≡ k → ⊥
-too_many kind p what k recent first older law may own count =
-    let few = law recent first older refl may (owns kind p (recent ++ first ∷ []) own) in omega (arith, few, count)
+too_many kind p what k recent first older law may own count = grind (arith, owns)
 
 -- a call that continues after four steps breaks the law
 pub four_steps : (kind : LockKind) (p : ℕ) (what : Asked) {a b c d : Mark} {older : List Mark} → UndisturbedTakes (λ n. n < 4) kind p what (a ∷ b ∷ c ∷ d ∷ older)

@@ -1,6 +1,6 @@
 -- When an owner's move is open: every party leaves the value to the owner.
 use Rattle.std.proofs.Common.{pred, arith}
-use Rattle.spin_world_core.proofs.Names.{◌≡◌, ℕ, Bool, true, false, Option, Some, None, List, [], ◌∷◌, zero, suc, slice_get, refl, sym, ◌∙◌, list_all, and_from, true≢false, Plain, Seat, Mark, Machine, is_owners, yields_to_owner, Seen, StandsFor, YieldsToOwner, IsOwners}
+use Rattle.spin_world_core.proofs.Names.{◌≡◌, ℕ, Bool, true, false, Option, Some, None, List, [], ◌∷◌, zero, suc, slice_get, refl, list_all, and_from, true≢false, Plain, Seat, Mark, Machine, is_owners, yields_to_owner, Seen, StandsFor, YieldsToOwner, IsOwners}
 
 pub all-get : {X : Type 0} (test : X → Bool) (xs : List X) (q : ℕ) (x : X) → list_all test xs ≡ true → slice_get xs q ≡ Some x → test x ≡ true
 all-get test [] q x all e = absurd (cc (e))
@@ -18,6 +18,4 @@ yields_at s q span (Some x) stands away = grind (arith, away x refl)
 module _ {W V C L A : Type 0} (m : Machine W V C L A) where
   -- if there is an owner, and every party leaves the value to it, the owner's move is open
   pub none_owns : (seen : Seen W V C L) → is_owners m seen.state ≡ false → m.owned ≡ true → IsOwners seen → ⊥
-  none_owns seen closed owned all =
-      let away = all-from yields_to_owner seen.state.seats (λ q x e. grind (arith, rw e at (all q))) in
-      true≢false (sym (and_from m.owned _ owned away) ∙ closed)
+  none_owns seen closed owned all = grind (arith, all-from, true≢false)

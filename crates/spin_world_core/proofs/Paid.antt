@@ -207,8 +207,7 @@ module _ {W V C L A B : Type 0} {t : Table W V C L A} {m : Machine W V C L B} {n
 
     pub knows_beside : (span : List Mark) (q : ℕ) (step : Option Change) (r : StepKind) → (q ≡ p → ⊥) → n.Shape s → IsOpenStep s q step
         → BelongsTo kind step → Knows n c l h p s span → Knows n c l h p (apply_some s step) (mark_of q step r s ∷ span)
-    knows_beside span q step r ne shape may belongs knows = others_at q step r span (row_of n c l h) ne may
-        (f.pays.others p q c l h s step r span ne shape may belongs) knows
+    knows_beside span q step r ne shape may belongs knows = grind (arith, others_at)
 
     -- what a party knows when its call begins
     begins_at : (o : Option Row) → entries p s ≡ entries_held p h → BeginsRow n c l h p s o → KnowsRow n c l h p s [] o

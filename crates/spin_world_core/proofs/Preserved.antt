@@ -1,5 +1,5 @@
 -- One event keeps all that is promised, for any machine that plays a table (`Plays`).
-use Rattle.spin_world_core.proofs.Names.{true, and_parts, slice_get-map, OwnerSet, is_owners, yields_to_owner, let_go, seen_by_owner, owner_writes, IsOwners, seat_of, slice_get_within, ◌≡◌, ℕ, ◌≤◌, ◌==◌, Bool, false, Option, Some, None, List, [], ◌∷◌, suc, if◌then◌else◌, slice_get, slice_set, refl, sym, ◌∙◌, subst, arith, ne_eqb, Plain, Ask, Change, apply_some, IsOpenStep, Entries, entries, IsExclusive, entries-other, entries-own, Hold, Seat, Calling, Next, Continue, Answers, Move, Step, Weak, StepKind, is_weak, by_step, encoded, BelongsTo, Mark, Machine, seated, goes_on, placed, resting, may_write, Seen, Scene, scene_at, scene_of, mark_of, own, failures, changes, if_completed, entries_held, StandsFor, is_writer, Keeps, IsRight, IsInTime, UndisturbedTakes, AnsweredSoon, Gets, GetsWhenDue, TriesOn, tries_of, Table, HasPhase}
+use Rattle.spin_world_core.proofs.Names.{true, and_parts, slice_get-map, OwnerSet, is_owners, let_go, owner_writes, IsOwners, seat_of, slice_get_within, ◌≡◌, ℕ, ◌≤◌, ◌==◌, Bool, false, Option, Some, None, List, [], ◌∷◌, suc, if◌then◌else◌, slice_get, slice_set, refl, sym, ◌∙◌, subst, arith, ne_eqb, Plain, Ask, Change, apply_some, IsOpenStep, Entries, entries, IsExclusive, entries-other, entries-own, Hold, Seat, Calling, Next, Continue, Answers, Move, Step, Weak, StepKind, is_weak, by_step, encoded, BelongsTo, Mark, Machine, seated, goes_on, placed, resting, may_write, Seen, Scene, scene_at, scene_of, mark_of, own, failures, changes, if_completed, entries_held, StandsFor, is_writer, Keeps, IsRight, IsInTime, UndisturbedTakes, AnsweredSoon, Gets, GetsWhenDue, TriesOn, tries_of, Table, HasPhase}
 use Rattle.spin_world_core.specs.Runs.{held_at, InItsCall, InTime, IsCounted, IsWeakCall, OwnSteps, asked, entries_so_far}
 use Rattle.spin_step.proofs.Exclusive.{exclusive-kept}
 use Rattle.spin_step.specs.declared.schedule.Outcome.TheVariants as outcome
@@ -206,14 +206,10 @@ module _ {W V C L A B : Type 0} {t : Table W V C L A} {by : Machine W V C L B} {
 
     pub good_let_go : (v wr : Option V) → HasPhase t.lock_kind.makes_value seen.plain.phase v → v ≡ wr
         → Invariant (record seen { state = let_go (record seen.state { value = v }); written = wr })
-    good_let_go v wr phase written =
-        let seats = (let_go seen.state).seats in
-        let parties : (q : ℕ) → OfParty seen.state.words seen.plain q (seen.span q) (slice_get seats q) =
-        λ q. grind (arith, slice_get-map seen_by_owner seen.state.seats q, good.parties q) in search (good, parties)
+    good_let_go v wr phase written = grind (arith, let_go, slice_get-map)
 
     pub owns : is_owners m seen.state ≡ true → IsOwners seen
-    owns may = λ q. yields_at seen.plain q (seen.span q) (seat_of seen q) (good.parties q).stands
-        (λ x e. all-get yields_to_owner seen.state.seats q x (and_parts _ _ may).1 e)
+    owns may = grind (arith, yields_at, all-get, and_parts)
 
     pub owner_writes_kept : (v : V) (y : Seat C L) (o : Option V) → seen.state.value ≡ o
         → Kept (scene_of seen p (OwnerSet v) (Some y) (owner_writes seen.state v o) None step_kind.plain None)

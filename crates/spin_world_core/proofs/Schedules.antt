@@ -6,15 +6,13 @@ use Rattle.spin_step.specs.declared.schedule.Outcome.TheVariants as outcome
 pub with_begins-append : {W V A : Type 0} (before xs ys : List (Event W V A))
     → with_begins before (xs ++ ys) ≡ with_begins before xs ++ with_begins (before ++ xs) ys
 with_begins-append before [] ys = grind (arith, append-nil)
-with_begins-append before (x ∷ xs) ys =
-    grind (arith, with_begins-append (before ++ x ∷ []) xs ys, append_assoc before (x ∷ []) xs)
+with_begins-append before (x ∷ xs) ys = grind (arith, with_begins-append (before ++ x ∷ []) xs ys, append_assoc before (x ∷ []) xs)
 
 -- the last event that begins a call of the party, in two lists of events one after the other
 pub last_begin-append : {W V A : Type 0} (p k : ℕ) (found : Option ℕ) (xs ys : List (Event W V A))
     → last_begin p k found (xs ++ ys) ≡ last_begin p (k + length xs) (last_begin p k found xs) ys
 last_begin-append p k found [] ys = grind arith
-last_begin-append p k found (x ∷ xs) ys =
-    grind (arith, last_begin-append p (k + 1) (if (x.party == p) && is_begun x.outcome then Some k else found) xs ys)
+last_begin-append p k found (x ∷ xs) ys = grind (arith, last_begin-append p (k + 1) (if (x.party == p) && is_begun x.outcome then Some k else found) xs ys)
 
 module _ {W V C L A : Type 0} (m : Machine W V C L A) where
   pub events_of-append : (s : State W V C L) (xs ys : Schedule C V) → events_of m s (xs ++ ys) ≡ events_of m s xs ++ events_of m (after m s xs) ys

@@ -15,8 +15,7 @@ none_leaked (s ∷ seats) none = grind (arith, none_leaked seats, count_by-cons 
 -- after the owner's use as many parties share the value as before
 pub shares_seen : {C L : Type 0} (seats : List (Seat C L)) → count_by shares (map seen_by_owner seats) ≡ count_by shares seats
 shares_seen [] = refl
-shares_seen (s ∷ seats) =
-    grind (arith, count_by-cons shares (seen_by_owner s) (map seen_by_owner seats), shares_seen seats, count_by-cons shares s seats)
+shares_seen (s ∷ seats) = grind (arith, count_by-cons shares (seen_by_owner s) (map seen_by_owner seats), shares_seen seats, count_by-cons shares s seats)
 
 -- after the owner's use no party has leaked and is not gone
 pub leaked_seen : {C L : Type 0} (seats : List (Seat C L)) → count_by has_leaked (map seen_by_owner seats) ≡ 0

@@ -23,8 +23,7 @@ module _ {W V C L A : Type 0} (m : Machine W V C L A) where
 
   pub tells_after : (s : State W V C L) (schedule : Schedule C V) (events : List (Event W V A)) → events ≡ with_begins [] (events_of m s schedule)
       → TellsAfterAnyPast m s schedule events
-  tells_after s schedule events is = λ n past reached.
-      rw is (rw (state-seen_at m n past, reached) at (tells_from (seen_at m n past) schedule []))
+  tells_after s schedule events is = grind (arith, state-seen_at, tells_from, seen_at)
 
 -- The place
 
@@ -61,8 +60,7 @@ module _ {W V C L A : Type 0} (m : Machine W V C L A) where
   stage-seen_after : (seen : Seen W V C L) (p : ℕ) (es : Schedule C V)
       → stage_of (seat_of (seen_after m seen es) p) ≡ stage_after p (stage_of (seat_of seen p)) (scenes m seen es)
   stage-seen_after seen p [] = refl
-  stage-seen_after seen p (e ∷ es) =
-      stage-seen_after (scene m seen e.0 e.1).after p es ∙ ap (λ stage. stage_after p stage (scenes m (scene m seen e.0 e.1).after es)) (brought seen p e.0 e.1)
+  stage-seen_after seen p (e ∷ es) = grind (arith, stage-seen_after (scene m seen e.0 e.1).after p es, brought seen p e.0 e.1)
 
   length-seen_after : (seen : Seen W V C L) (es : Schedule C V) → length (seen_after m seen es).state.seats ≡ length seen.state.seats
   length-seen_after seen [] = refl

@@ -1,7 +1,7 @@
 -- In an endless fair schedule there are as many rounds as needed.
-use Rattle.spin_world_progress.proofs.Names.{◌≡◌, ℕ, zero, suc, ◌+◌, ◌<◌, ◌≤◌, true, Option, Some, None, List, [], ◌∷◌, ◌++◌, length, slice_get, refl, ap, sym, ◌∙◌, subst, arith, ⊎_elim, cases_lt, slice_get_past, Machine, State, after, joined, max, ◌-◌, Seat, Idle, Calling, Holding, Leaked, Gone, Move, cases_eq, Test, occurs, MovesOn, IsRound, AreRounds, stretch, IsFair}
+use Rattle.spin_world_progress.proofs.Names.{◌≡◌, ℕ, zero, suc, ◌+◌, ◌<◌, ◌≤◌, true, Option, List, [], ◌∷◌, ◌++◌, length, slice_get, refl, ap, sym, ◌∙◌, subst, arith, ⊎_elim, cases_lt, slice_get_past, Machine, State, after, joined, max, ◌-◌, Seat, Move, cases_eq, Test, occurs, MovesOn, IsRound, AreRounds, stretch, IsFair}
 use Rattle.spin_step.proofs.Schedules.{after-append}
-use Rattle.spin_world_progress.proofs.Progress.{or_left, occurs-append, awaited_of}
+use Rattle.spin_world_progress.proofs.Progress.{or_left, occurs-append}
 
 stretch-append : {X : Type 0} (schedule : ℕ → X) (start a b : ℕ) → stretch schedule start (a + b) ≡ stretch schedule start a ++ stretch schedule (start + a) b
 stretch-append schedule start zero b = grind arith

@@ -1,10 +1,10 @@
 -- A flag is granted within four rounds. Its holder leaves within two rounds, and a waiting party takes two rounds to make
 -- its exchange.
-use Rattle.spin_world_progress.proofs.Names.{seat_of, ◌≡◌, ℕ, ◌≤◌, ◌⊎◌, ◌||◌, Bool, true, false, Option, Some, None, List, [], ◌∷◌, slice_get, refl, arith, inl, inr, ◌==◌, Holder, is_empty, entries, Hold, Calling, Next, Continue, Answers, Answer, Move, Step, Weak, Machine, goes_on, after, at_first, Seen, scene_at, entries_after, empty_is, ◌-◌, filter, not, Done, flag_machine, get-set_same, eqb_self, Invariant, StandsSo, Test, grants_any, refuses_weakly}
+use Rattle.spin_world_progress.proofs.Names.{seat_of, ◌≡◌, ℕ, ◌≤◌, ◌⊎◌, ◌||◌, Bool, true, false, Option, Some, None, List, [], ◌∷◌, slice_get, refl, arith, ◌==◌, Holder, is_empty, entries, Hold, Calling, Next, Answers, Answer, Move, Step, Weak, Machine, goes_on, after, at_first, Seen, scene_at, entries_after, empty_is, ◌-◌, filter, not, Done, flag_machine, get-set_same, eqb_self, Invariant, StandsSo, Test, grants_any, refuses_weakly}
 use Rattle.spin_step.specs.declared.flag_calls.FlagCall.{FlagCall}
 use Rattle.spin_step.specs.declared.flag_calls.FlagCall.TheVariants.{Lock, Release}
 use Rattle.spin_step.specs.declared.flag_calls.FlagPoint.{FlagPoint}
-use Rattle.spin_step.specs.declared.flag_calls.FlagPoint.TheVariants.{First, Second}
+use Rattle.spin_step.specs.declared.flag_calls.FlagPoint.TheVariants.{Second}
 use Rattle.spin_world.proofs.FlagOwed.{flag_notes, flag_facts}
 use Rattle.spin_world_progress.specs.Flag.{LocksInFour, IsDeadlockFree}
 use Rattle.spin_world_progress.proofs.Endless.{at_last}

@@ -1,6 +1,6 @@
 -- In any four rounds a call with a closure is answered, or some closure fails.
-use Rattle.spin_world_progress.proofs.Names.{seat_of, Bool, suc, eqb-true, eq-eqb, Seat, Outcome, ◌≡◌, ℕ, ◌≤◌, ◌⊎◌, ◌==◌, true, false, Option, Some, None, List, [], ◌∷◌, slice_get, if◌then◌else◌, refl, ap, sym, ◌∙◌, subst, arith, inl, inr, ⊎_elim, cases_eq, ne_eqb, Plain, Phase, nothing, running, complete, Change, is_running, once_word, apply_some, IsOpenStep, Answer, Hold, Calling, Next, Move, Step, BelongsTo, Seen, Scene, scene, scene_at, opening, State, seen_after, once_machine, eqb_self, get-set_same, Plays, of_event, Invariant, in_call, kept, good_first, state_is, numbers_are}
-use Rattle.spin_world.proofs.OnceNames.{OnceCall, CallOnce, TryCallOnceOk, TryCallOnceErr, InitFromRef, OncePoint, Look, TryBegin, Await, Run, asks_of, Entries, once_after, has_closure, OnceMachine}
+use Rattle.spin_world_progress.proofs.Names.{seat_of, Bool, suc, eqb-true, eq-eqb, Seat, Outcome, ◌≡◌, ℕ, ◌≤◌, ◌⊎◌, ◌==◌, true, false, Option, Some, List, [], ◌∷◌, slice_get, if◌then◌else◌, refl, ap, sym, ◌∙◌, subst, arith, inl, inr, ⊎_elim, cases_eq, ne_eqb, Plain, Phase, nothing, running, complete, Change, is_running, once_word, apply_some, IsOpenStep, Answer, Hold, Calling, Next, Move, Step, BelongsTo, Seen, Scene, scene, scene_at, opening, State, seen_after, once_machine, eqb_self, get-set_same, Plays, of_event, Invariant, in_call, kept, good_first, state_is, numbers_are}
+use Rattle.spin_world.proofs.OnceNames.{OnceCall, OncePoint, Look, TryBegin, Await, Run, asks_of, Entries, once_after, has_closure, OnceMachine}
 use Rattle.spin_world.proofs.OnceOwed.{once_notes, once_facts}
 use Rattle.spin_step.specs.OnceKind.{once}
 use Rattle.spin_world.proofs.Keeping.{run_here}

@@ -1,6 +1,6 @@
 -- What events keep of a party that waits in a call, of a party that has leaked, and of others.
-use Rattle.spin_world_progress.proofs.Names.{seat_of, not, is_empty, goes_on, ◌⊎◌, inl, inr, ⊎_elim, subst, cases_eq, is_step, eqb_self, ◌≡◌, ℕ, ◌==◌, ◌&&◌, ◌||◌, Bool, true, false, Option, Some, None, List, [], ◌∷◌, ◌++◌, slice_get, refl, ap, sym, ◌∙◌, arith, eqb-true, false≢true, may_read, and_parts, list_all, Machine, State, happens, owner_writes, resting, after, is_owners, Seen, Scene, scene, Hold, Seat, Idle, Calling, Holding, Leaked, Gone, Next, Continue, Answers, Move, Outcome, Test, occurs, is_awaited, MovesOn, get-set_other, seat_with, of_event}
-use Rattle.spin_world_core.proofs.Names.{true≢false, option_map, seen_by_owner, slice_get-map, yields_to_owner}
+use Rattle.spin_world_progress.proofs.Names.{seat_of, not, is_empty, goes_on, ◌⊎◌, inl, inr, ⊎_elim, subst, cases_eq, is_step, eqb_self, ◌≡◌, ℕ, ◌==◌, ◌&&◌, ◌||◌, Bool, true, false, Option, Some, List, [], ◌∷◌, ◌++◌, slice_get, refl, ap, sym, ◌∙◌, arith, eqb-true, false≢true, may_read, and_parts, Machine, State, happens, owner_writes, resting, after, is_owners, Seen, Scene, scene, Hold, Seat, Calling, Holding, Leaked, Gone, Next, Move, Outcome, Test, occurs, is_awaited, MovesOn, get-set_other, seat_with, of_event}
+use Rattle.spin_world_core.proofs.Names.{true≢false, option_map, seen_by_owner, slice_get-map}
 use Rattle.spin_world_core.proofs.Owners.{all-get}
 use Rattle.spin_step.specs.Parties.{Entries}
 use Rattle.spin_step.specs.declared.schedule.Outcome.TheVariants as outcome

@@ -1,5 +1,5 @@
 -- A registered party may starve in a `lock` of a fair lock.
-use Rattle.spin_world_progress.proofs.Names.{◌≡◌, ℕ, zero, suc, ◌+◌, ◌≤◌, ◌==◌, nat_lt, min, not, is_empty, filter, true, false, Some, None, List, [], ◌∷◌, ◌++◌, slice_get, refl, ap, ◌∙◌, arith, lt-ltb, most_starvers, is_starver, Calling, Holding, Move, Begin, Step, State, Machine, Answer, after, at_first, happens, opening, seen_after, calls, row_tells, ends_or_weak, fair_machine}
+use Rattle.spin_world_progress.proofs.Names.{◌≡◌, ℕ, zero, suc, ◌+◌, ◌≤◌, ◌==◌, nat_lt, min, not, is_empty, filter, true, false, Some, None, List, [], ◌∷◌, ◌++◌, slice_get, refl, ap, arith, lt-ltb, most_starvers, is_starver, Calling, Holding, Move, Begin, Step, State, Machine, Answer, after, at_first, opening, seen_after, calls, row_tells, ends_or_weak, fair_machine}
 use Rattle.std.proofs.lemmas.Bool.{le-ltb}
 use Rattle.spin_step.proofs.Schedules.{after-append}
 use Rattle.spin_step.specs.Asks.{waits_or_starves}

@@ -1,7 +1,7 @@
 -- A party that has asked to upgrade gets its upgrade in three rounds. All other readers leave within the first two
 -- rounds.
 use Rattle.spin_step.specs.Plain.{to_read_upgradable, to_write, to_lock_unregistered, to_lock_starving, to_lock_starving_alone, to_upgrade, to_upgrade_asked, comes, given}
-use Rattle.spin_world_progress.proofs.Names.{Plays, seat_of, ◌≡◌, ℕ, ◌≤◌, ◌==◌, Bool, true, false, Option, Some, None, List, [], ◌∷◌, slice_get, refl, ap, sym, ◌∙◌, arith, Plain, Kind, reading, upgradable, asking, writing, Holder, Change, gets, releases, turns, is_holder, with_kind, count_kind, weight, rw_word, entries, apply_some, IsOpenStep, IsExclusive, ◌-◌, ◌⊎◌, ◌||◌, filter, inl, inr, ⊎_elim, sum_by-cons, list_any, same_kind, without_holder, effect, apply, is_open, is_open_to, Ask, to_read, entries_after, entries-own, against, one_of, by_kinds, all_kinds, sum-less, Answer, Done, Hold, Seat, Calling, Next, Continue, Answers, Move, Step, Weak, Machine, after, at_first, goes_on, Seen, Scene, scene_at, opening, seen_after, get-set_same, eqb_self, Invariant, in_call, StandsSo, calls_so, RwCall, Upgrade, RwPoint, Asking, rw_machine, rw_notes, rw_facts, holder_by, Test, grants, refuses_weakly, UpgradesInThree, UpgradesAtLast}
+use Rattle.spin_world_progress.proofs.Names.{Plays, seat_of, ◌≡◌, ℕ, ◌≤◌, ◌==◌, Bool, true, false, Option, Some, None, List, [], ◌∷◌, slice_get, refl, sym, ◌∙◌, arith, Plain, Kind, reading, upgradable, asking, writing, Holder, Change, gets, releases, turns, is_holder, with_kind, count_kind, weight, rw_word, entries, apply_some, IsOpenStep, IsExclusive, ◌-◌, ◌⊎◌, ◌||◌, filter, sum_by-cons, list_any, same_kind, without_holder, effect, apply, is_open, is_open_to, Ask, to_read, entries_after, entries-own, against, one_of, by_kinds, all_kinds, sum-less, Answer, Done, Hold, Seat, Calling, Next, Answers, Move, Step, Weak, Machine, after, at_first, goes_on, Seen, Scene, scene_at, opening, seen_after, get-set_same, eqb_self, Invariant, in_call, StandsSo, calls_so, RwCall, Upgrade, RwPoint, Asking, rw_machine, rw_notes, rw_facts, holder_by, Test, grants, refuses_weakly, UpgradesInThree, UpgradesAtLast}
 use Rattle.spin_step.proofs.Exclusive.{Lets, lets}
 use Rattle.spin_world.proofs.RwNames.{Entries, one_of_each, only_asking-word, Release}
 use Rattle.spin_step_more.proofs.Readers.{beside_asking}

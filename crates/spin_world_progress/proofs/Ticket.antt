@@ -1,5 +1,5 @@
 -- In how many rounds a `lock` is granted: first until the call has its ticket, and then with this ticket.
-use Rattle.spin_world_progress.proofs.Names.{seat_of, Knows, empty_is, max, ◌++◌, ◌⊎◌, cases_lt, resting, if◌then◌else◌, ◌≡◌, ℕ, ◌+◌, ◌-◌, ◌<◌, ◌≤◌, ◌==◌, Bool, true, false, not, Option, Some, None, List, [], ◌∷◌, refl, ap, sym, ◌∙◌, arith, filter, slice_get, Plain, Change, is_empty, apply_some, IsOpenStep, entries, Seen, scene, opening, ticket_machine, Plays, after, at_first, seen_after, zero, ticket_limit, Answer, Hold, Calling, Holding, Move, Step, TicketWords, TicketCall, TicketPoint, Take, suc, ◌*◌, ◌&&◌, subst, inl, inr, ⊎_elim, length, nat_lt, and_parts, cases_eq, eqb-true, ne_eqb, eq-eqb, lt-ltb, Seat, Next, BelongsTo, Mark, joined, Machine, occurs, AreRounds, grants, Scene, StandsFor, scene_at, State, happens, eqb_self, get-set_same, Invariant, in_call, good_after, state-seen_after, good, state_is, numbers_are, StandsSo, calls_so, calls, EntersInRounds, IsNeverStarved, LocksInRounds, slice_get_past, no_entries, length-happens}
+use Rattle.spin_world_progress.proofs.Names.{seat_of, Knows, empty_is, max, ◌++◌, ◌⊎◌, cases_lt, resting, if◌then◌else◌, ◌≡◌, ℕ, ◌+◌, ◌-◌, ◌<◌, ◌≤◌, ◌==◌, Bool, true, false, not, Option, Some, None, List, [], ◌∷◌, refl, ap, sym, ◌∙◌, arith, filter, slice_get, Plain, Change, is_empty, apply_some, IsOpenStep, entries, Seen, scene, opening, ticket_machine, Plays, after, at_first, seen_after, zero, ticket_limit, Answer, Hold, Calling, Holding, Move, Step, TicketWords, TicketCall, TicketPoint, Take, suc, ◌*◌, ◌&&◌, subst, inl, inr, ⊎_elim, length, nat_lt, and_parts, cases_eq, eqb-true, ne_eqb, eq-eqb, lt-ltb, Seat, Next, BelongsTo, Mark, joined, Machine, occurs, AreRounds, grants, Scene, scene_at, State, happens, eqb_self, get-set_same, Invariant, in_call, good_after, state-seen_after, good, state_is, numbers_are, StandsSo, calls_so, calls, EntersInRounds, IsNeverStarved, LocksInRounds, slice_get_past, length-happens}
 use Rattle.spin_world.proofs.TicketNames.{Entries, Numbered, enters_in_turn, serving-taken, serving-entered, stands, serving-moves, asks_of, bit, Lock, Release, Await, queued, Queued, LoadNext, Serve, is_first, serving_word}
 use Rattle.spin_world.proofs.TicketOwed.{ticket_notes, ticket_facts}
 use Rattle.spin_step.specs.TicketKind.{ticket}

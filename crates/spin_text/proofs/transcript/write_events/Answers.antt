@@ -1,5 +1,4 @@
-use Rattle.std.proofs.Common.{◌≡◌, ◌++◌, ◌+◌, ◌-◌, ◌∙◌, List, ℕ, IsSome, length, take, drop, ap, sym, subst, arith}
-use Rattle.spin_step.specs.Schedules.{after}
+use Rattle.std.proofs.Common.{◌≡◌, ◌++◌, ◌+◌, ◌-◌, ◌∙◌, List, ℕ, length, take, drop, ap, sym, subst, arith}
 use Rattle.spin_text.specs.declared.piece.TheConstants.{LONGEST_LINE}
 use Rattle.spin_text.specs.Ends.{AppendsBut}
 use Rattle.spin_text.specs.Readable.{AllRead}
@@ -13,20 +12,8 @@ use Rattle.spin_text.proofs.transcript.write_events.Given.{Over}
 use Rattle.spin_text.proofs.transcript.write_events.Goals.{After-write_line}
 use Rattle.spin_text.proofs.transcript.write_events.Goals as goal
 
--- the first of the lines left is read as an entry
-pub unwrap-party-requires : goal.unwrap-party-requires
-unwrap-party-requires g c =
-    let next = ap lines_left c.in-Some.is ∙ c.first_line.ensures.lines in
-    subst IsSome (sym c.entry.ensures) (subst (AllRead g.O.Spelled.read) next c.loop-rest.invariant.read).0
-
 pub put_event-start-requires-clause-line : goal.put_event-start-requires-clause-line
-put_event-start-requires-clause-line g c =
-    let read = g.O.Spelled.read in
-    let next = ap lines_left c.in-Some.is ∙ c.first_line.ensures.lines in
-    let first = first_entry read _ (lines_left c.first_line.result.1) _ c.unwrap-party.result next (sym c.entry.ensures ∙ c.unwrap-party.ensures) in
-    told_line (g.O.Object.machine c.args.world.now.object) c.args.world.now.state c.loop-rest.world.state c.loop-rest.begins
-    (entries_in read (lines_left c.args.lines)) _ c.loop-rest.place c.unwrap-party.result c.act.result c.with_begin-outcome.result
-    c.loop-rest.invariant.told (c.loop-rest.invariant.left ∙ first) (omega (arith, c.loop-rest.invariant.counted, c.requires.counted)) c.with_begin-outcome.ensures.outcome
+put_event-start-requires-clause-line g c = grind (arith, first_entry, told_line)
 
 -- one more move was played, and its line is still to be written
 next : (g : Over) (c : After-write_line g) → let m = g.O.Object.machine c.args.world.now.object in
@@ -90,19 +77,7 @@ loop-rest-preserved g c =
     }
 
 pub returns-clause-state : goal.returns-clause-state
-returns-clause-state g c =
-    let read = g.O.Spelled.read in
-    let schedule = entries_in read (lines_left c.args.lines) in
-    let all = all_in_front schedule c.loop-rest.place (c.loop-rest.invariant.left ∙ ap (λ r. entries_in read (lines_left r)) c.in_default.is) in
-    c.loop-rest.invariant.told.table ∙ ap (after (g.O.Object.machine c.args.world.now.object) c.args.world.now.state) all
+returns-clause-state g c = grind (arith, all_in_front)
 
 pub returns-clause-bytes : goal.returns-clause-bytes
-returns-clause-bytes g c =
-    let read = g.O.Spelled.read in
-    let schedule = entries_in read (lines_left c.args.lines) in
-    let all = all_in_front schedule c.loop-rest.place (c.loop-rest.invariant.left ∙ ap (λ r. entries_in read (lines_left r)) c.in_default.is) in
-    let so_far = c.loop-rest.invariant.written in (
-      so_far.0,
-      so_far.1,
-      ap (schedule_lines (g.O.Object.machine c.args.world.now.object) c.args.world.now.state) (sym all) ∙ so_far.2,
-    )
+returns-clause-bytes g c = grind (arith, all_in_front)

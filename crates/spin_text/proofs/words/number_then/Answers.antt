@@ -1,4 +1,4 @@
-use Rattle.std.proofs.Common.{rules, ◌∙◌, ap, sym}
+use Rattle.std.proofs.Common.{arith, rules, ◌∙◌, ap, sym}
 use Rattle.spin_text.specs.Reading.{number_at, words_left}
 use Rattle.spin_text.proofs.Numerals.{number_first, no_number_first}
 use Rattle.spin_text.proofs.words.number_then.Goals as goal
@@ -8,9 +8,7 @@ unfolding number_at
 returns-in_err-line c = search rules
 
 pub returns-then-is_empty : goal.returns-then-is_empty
-returns-then-is_empty c =
-    sym (no_number_first c.in_ok-line.field-0.now c.in_ok-number.word.now _ c.in_ok-number.ensures.parts (λ n fits is. search rules))
-    ∙ ap (λ l. number_at (words_left l)) (sym c.in_ok-line.was)
+returns-then-is_empty c = grind (arith, no_number_first, rules)
 
 pub returns : goal.returns
 returns c =

@@ -1,5 +1,5 @@
 use Rattle.std.proofs.Common.{◌+◌, rules, ap, ◌∙◌, arith}
-use Rattle.spin_world_core.proofs.Playing.{forgotten, played_next, played_all}
+use Rattle.spin_world_core.proofs.Playing.{forgotten, played_next}
 use Rattle.spin_world_core.proofs.world.play.Goals as goal
 
 pub loop-place-preserved : goal.loop-place-preserved
@@ -17,9 +17,3 @@ loop-place-init g c = (
   search rules,
   c.requires.room,
 )
-
-pub returns-clause-table : goal.returns-clause-table
-returns-clause-table g c = (played_all (g.O.Object.machine c.args.object.now) c.args.table.now c.loop-place.table c.loop-place.begins c.loop-place.events.items c.args.schedule.now c.loop-place.place c.loop-place.invariant.0 c.loop-place-test.false).table
-
-pub returns-clause-events : goal.returns-clause-events
-returns-clause-events g c = (played_all (g.O.Object.machine c.args.object.now) c.args.table.now c.loop-place.table c.loop-place.begins c.loop-place.events.items c.args.schedule.now c.loop-place.place c.loop-place.invariant.0 c.loop-place-test.false).with_begins_so

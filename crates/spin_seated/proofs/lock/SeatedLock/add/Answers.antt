@@ -12,11 +12,6 @@ fetch_add-requires g c =
       allowed m o s v c.in-Some.is c.place.invariant c.place.view_is c.laws.ensures.tracked t.key t.table_id.slots c.args.word (λ n. (n + c.args.by) % 2 ^ 64) (step t.table_id.slots c.args.word c.args.by 0 none) g.T.Tells.told c.requires.own.1 c.requires.owes,
     )
 
-pub invariant_of-place : goal.invariant_of-place
-invariant_of-place g c =
-    let t = c.args.self.now.table.shared in
-    (turned g.C.Calls.machine c.place.inside.seat c.in-Some.seat c.args.place.now c.in-Some.is c.place.invariant c.place.view_is c.laws.ensures.tracked (step t.table_id.slots c.args.word c.args.by 0 none) g.T.Tells.told c.fetch_add.result c.fetch_add.new.seat.me c.fetch_add.ensures.2).0
-
 pub returns-clause-holds : goal.returns-clause-holds
 returns-clause-holds g c =
     let t = c.args.self.now.table.shared in

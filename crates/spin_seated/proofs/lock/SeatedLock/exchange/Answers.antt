@@ -13,11 +13,6 @@ compare_exchange-requires g c =
       allowed m o s v c.in-Some.is c.place.invariant c.place.view_is c.laws.ensures.tracked t.key t.table_id.slots c.args.word (λ n. either (n == c.args.old) c.args.new n) (step t.table_id.slots c.args.word c.args.old c.args.new none) g.T.Tells.told c.requires.own.1 c.requires.owes,
     )
 
-pub invariant_of-place : goal.invariant_of-place
-invariant_of-place g c =
-    let t = c.args.self.now.table.shared in
-    (turned g.C.Calls.machine c.place.inside.seat c.in-Some.seat c.args.place.now c.in-Some.is c.place.invariant c.place.view_is c.laws.ensures.tracked (step t.table_id.slots c.args.word c.args.old c.args.new none) g.T.Tells.told c.compare_exchange.result c.compare_exchange.new.seat.me c.compare_exchange.ensures.2).0
-
 pub returns-clause-holds : goal.returns-clause-holds
 returns-clause-holds g c =
     let t = c.args.self.now.table.shared in

@@ -12,11 +12,6 @@ load-requires g c =
       allowed m o s v c.in-Some.is c.place.invariant c.place.view_is c.laws.ensures.tracked t.key t.table_id.slots c.args.word (λ n. n) (step t.table_id.slots c.args.word 0 0 none) g.T.Tells.told c.requires.own.1 c.requires.owes,
     )
 
-pub invariant_of-place : goal.invariant_of-place
-invariant_of-place g c =
-    let t = c.args.self.now.table.shared in
-    (turned g.C.Calls.machine c.place.inside.seat c.in-Some.seat c.args.place.now c.in-Some.is c.place.invariant c.place.view_is c.laws.ensures.tracked (step t.table_id.slots c.args.word 0 0 none) g.T.Tells.told c.load.result c.load.new.seat.me c.load.ensures.2).0
-
 pub returns-clause-holds : goal.returns-clause-holds
 returns-clause-holds g c =
     let t = c.args.self.now.table.shared in

@@ -1,19 +1,12 @@
-use Rattle.std.proofs.Common.{ap, sym, ◌∙◌, ◌++◌, arith}
+use Rattle.std.proofs.Common.{sym, ◌∙◌, ◌++◌, arith}
 use Rattle.atomic_table.specs.Table.{step}
 use mathlib.Core.Option.{none}
 use Rattle.spin_seated.proofs.Keeping.{joins, shows, splits}
-use Rattle.spin_seated.proofs.Passes.{its_table, its_view, meeting}
+use Rattle.spin_seated.proofs.Passes.{its_table, its_view}
 use Rattle.spin_seated.proofs.lock.SeatedLock.meet_at.Goals as goal
 
 pub join_seat-requires : goal.join_seat-requires
-join_seat-requires g c =
-    let t = c.args.self.now.table.shared in let a = c.in-Some-seat.seat in let b = c.in-Some.other in let there = sym c.take.ensures.value ∙ c.in-Some.is in (
-      its_table g.C.Calls.machine c.a.inside.seat a c.args.a.now c.in-Some-seat.is c.a.invariant c.a.view_is ∙ c.requires.first.0,
-      its_table g.C.Calls.machine c.b.inside.seat b c.args.b.now there c.b.invariant c.b.view_is ∙ c.requires.second.0,
-      ap (λ m. m.1) (its_view g.C.Calls.machine c.b.inside.seat b c.args.b.now there c.b.invariant c.b.view_is),
-      omega (arith, c.args.self.now.two_words),
-      joins g.C.Calls.machine t.key a.id a.me.0 b.id b.me.0,
-    )
+join_seat-requires g c = grind (arith, its_table, its_view, joins)
 
 pub load-requires : goal.load-requires
 load-requires g c =
@@ -26,23 +19,4 @@ load-requires g c =
     )
 
 pub split_seat-requires : goal.split_seat-requires
-split_seat-requires g c =
-    let t = c.args.self.now.table.shared in (
-      c.load.ensures.0 ∙ (c.join_seat.ensures.0 ∙ (its_table g.C.Calls.machine c.a.inside.seat c.in-Some-seat.seat c.args.a.now c.in-Some-seat.is c.a.invariant c.a.view_is ∙ c.requires.first.0)),
-      omega (arith, c.args.self.now.two_words),
-      splits g.C.Calls.machine t.key c.load.new.seat.id c.load.new.seat.me.0,
-    )
-
-pub invariant_of-a : goal.invariant_of-a
-invariant_of-a g c =
-    let t = c.args.self.now.table.shared in let a = c.in-Some-seat.seat in let b = c.in-Some.other in let there = sym c.take.ensures.value ∙ c.in-Some.is in
-    let at_a = its_view g.C.Calls.machine c.a.inside.seat a c.args.a.now c.in-Some-seat.is c.a.invariant c.a.view_is in let at_b = its_view g.C.Calls.machine c.b.inside.seat b c.args.b.now there c.b.invariant c.b.view_is in
-    (meeting g.C.Calls.machine (step t.table_id.slots 0 0 0 none) c.args.a.now.known c.args.b.now.known c.load.result c.join_seat.new.seat.me c.load.new.seat.me c.split_seat.new.seat.me c.split_seat.result.me
-    (c.join_seat.ensures.2 ∙ (λ i. ((at_b i).0 ++ (at_a i).0, (at_a i).1))) c.load.ensures.2 c.split_seat.ensures.2 c.split_seat.ensures.4).seat_of_x
-
-pub invariant_of-b : goal.invariant_of-b
-invariant_of-b g c =
-    let t = c.args.self.now.table.shared in let a = c.in-Some-seat.seat in let b = c.in-Some.other in let there = sym c.take.ensures.value ∙ c.in-Some.is in
-    let at_a = its_view g.C.Calls.machine c.a.inside.seat a c.args.a.now c.in-Some-seat.is c.a.invariant c.a.view_is in let at_b = its_view g.C.Calls.machine c.b.inside.seat b c.args.b.now there c.b.invariant c.b.view_is in
-    (meeting g.C.Calls.machine (step t.table_id.slots 0 0 0 none) c.args.a.now.known c.args.b.now.known c.load.result c.join_seat.new.seat.me c.load.new.seat.me c.split_seat.new.seat.me c.split_seat.result.me
-    (c.join_seat.ensures.2 ∙ (λ i. ((at_b i).0 ++ (at_a i).0, (at_a i).1))) c.load.ensures.2 c.split_seat.ensures.2 c.split_seat.ensures.4).seat_of_y
+split_seat-requires g c = grind (arith, its_table, splits)

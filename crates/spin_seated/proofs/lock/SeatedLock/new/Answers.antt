@@ -1,8 +1,6 @@
-use Rattle.std.proofs.Common.{ℕ, List, [], ◌∷◌, ◌++◌, ◌≡◌, ◌∙◌, ap, sym, arith}
+use Rattle.std.proofs.Common.{[], ◌∷◌, ◌++◌, ◌≡◌, ◌∙◌, sym, arith}
 use Rattle.std.proofs.lemmas.List.FromFn.{map-range_with_len_more}
-use Rattle.atomic_table.specs.Table.{Me}
-use Rattle.spin_seated.specs.Histories.{holds}
-use Rattle.spin_seated.specs.Passes.{Knows, first_of_view, new_pass}
+use Rattle.spin_seated.specs.Passes.{first_of_view, new_pass}
 use Rattle.spin_seated.proofs.Keeping.{opens, splits}
 use Rattle.spin_seated.proofs.Passes.{kept_rest, given_first}
 use Rattle.spin_seated.proofs.lock.SeatedLock.new.Goals as goal
@@ -11,18 +9,13 @@ pub of_words-requires : goal.of_words-requires
 of_words-requires g c = opens g.C.Calls.machine _ _ (sym (c.laws.ensures.words _))
 
 pub split_seat-own-requires : goal.split_seat-own-requires
-split_seat-own-requires g c =
-    (c.loop.invariant.own, omega (arith, c.loop.invariant.words), splits g.C.Calls.machine c.in_ok-table.table.shared.key c.loop.seat.id c.loop.seat.me.0)
+split_seat-own-requires g c = grind (arith, splits)
 
 pub invariant_of-push : goal.invariant_of-push
-invariant_of-push g c =
-    let own = given_first c.in_ok-table.table.shared.key c.loop.counter c.args.passes c.loop-test.true c.loop.seat.me c.split_seat-own.new.seat.me c.split_seat-own.result.me c.loop.invariant.rest c.split_seat-own.ensures.4 in
-    own ∙ ap (λ (q : Me ℕ (List (Knows g.row.C.Denot))). (first_of_view q.0 ∷ [], [])) (sym own)
+invariant_of-push g c = grind (arith, given_first)
 
 pub invariant_of-push-in-loop : goal.invariant_of-push-in-loop
-invariant_of-push-in-loop g c =
-    let own = given_first c.in_ok-table.table.shared.key c.loop.counter c.args.passes c.loop-test.true c.loop.seat.me c.split_seat-own.new.seat.me c.split_seat-own.result.me c.loop.invariant.rest c.split_seat-own.ensures.4 in
-    sym (c.nothing.ensures c.in_ok-table.table.shared.key c.loop.counter) ∙ ap (λ (q : Me ℕ (List (Knows g.row.C.Denot))). holds g.C.Calls.machine (first_of_view q.0)) (sym own)
+invariant_of-push-in-loop g c = grind (arith, given_first)
 
 pub loop-preserved : goal.loop-preserved
 loop-preserved g c =

@@ -1,11 +1,10 @@
-use Rattle.std.proofs.Common.{ap, length, sym, ◌∙◌}
+use Rattle.std.proofs.Common.{arith, ap, length, sym, ◌∙◌}
 use Rattle.spin_world_core.proofs.Playing.{can_reached, reached_next}
 use Rattle.spin_world_core.proofs.Schedules.{length-happens}
 use Rattle.spin_world_core.proofs.world.World.act.Goals as goal
 
 pub act-requires : goal.act-requires
-act-requires g c = let object = c.self.inside.object in
-    can_reached (g.O.Object.machine object) c.self.inside.table (c.laws.ensures object).can c.self.invariant.0
+act-requires g c = grind (arith, can_reached)
 
 pub invariant_of-self : goal.invariant_of-self
 invariant_of-self g c =

@@ -1,23 +1,19 @@
 use Rattle.std.proofs.Common.{rules, refl}
-use Rattle.spin_world_core.proofs.Names.{◌≡◌, ℕ, List, ◌++◌, length, take, ◌∙◌, subst, arith, length-take-le, length-append, IsReached, TellsAfterAnyPast}
+use Rattle.spin_world_core.proofs.Names.{◌≡◌, ℕ, List, ◌++◌, length, take, subst, arith, length-take-le, length-append, IsReached, TellsAfterAnyPast}
 use Rattle.spin_world_core.proofs.Transcripts.{tells_after}
 use Rattle.spin_world_core.proofs.Playing.{can_reached, further}
 use Rattle.spin_world_core.proofs.Begins.{begins_told}
 use Rattle.spin_world_core.proofs.world.World.run.Goals as goal
 
 pub play-requires-clause-can : goal.play-requires-clause-can
-play-requires-clause-can g c = λ k.
-    let m = g.O.Object.machine c.self.inside.object in
-    let reached = further m c.self.inside.table _ (take k c.args.schedule.now) refl c.self.invariant.0 in
-    can_reached m _ (c.laws.ensures c.self.inside.object).can reached
+play-requires-clause-can g c = grind (arith, further, can_reached)
 
 -- the first n elements of what is written back into a vector of length n have this length
 kept_length : {X : Type 0} (n : ℕ) (xs ys : List X) → length xs ≡ n → length (take n (xs ++ ys)) ≡ length xs
 kept_length n xs ys is = grind (arith, length-take-le, length-append)
 
 pub invariant_of-self : goal.invariant_of-self
-invariant_of-self g c =
-    (further (g.O.Object.machine c.self.inside.object) c.self.inside.table c.play.new.table c.args.schedule.now c.play.ensures.table c.self.invariant.0, kept_length c.self.inside.begins.len c.play.new.begins _ (c.play.auto.begins ∙ c.deref_mut.ensures.len) ∙ c.play.ensures.parties)
+invariant_of-self g c = grind (arith, further, kept_length)
 
 pub returns-in_err-events : goal.returns-in_err-events
 returns-in_err-events g c = let lawful = c.laws.ensures c.args.self.now.object in

@@ -4,9 +4,6 @@ use Rattle.spin_world_core.proofs.Begins.{begins_told}
 use Rattle.spin_world_core.proofs.Joined.{two_in_one, promised_after}
 use Rattle.spin_world_core.proofs.world.two_runs.run_in_two.Goals as goal
 
-pub returns-in_err-first-clause-promised : goal.returns-in_err-first-clause-promised
-returns-in_err-first-clause-promised g c = promised_after (g.O.Object.machine c.args.world.now.object) c.args.world.now.state c.args.schedule.now (c.laws.ensures c.args.world.now.object)
-
 pub returns-in_err-second-clause-promised : goal.returns-in_err-second-clause-promised
 returns-in_err-second-clause-promised g c = promised_after (g.O.Object.machine c.args.world.now.object) c.args.world.now.state c.args.schedule.now (c.laws.ensures c.args.world.now.object)
 

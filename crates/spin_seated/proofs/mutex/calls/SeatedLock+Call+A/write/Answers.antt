@@ -1,7 +1,0 @@
-use Rattle.std.proofs.Common.{ap, ◌∙◌}
-use Rattle.spin_seated.specs.Mutex.{holds}
-use Rattle.spin_seated.proofs.Debts.{writes_owed}
-use Rattle.spin_seated.proofs.mutex.calls.SeatedLock+Call+A.write.Goals as goal
-
-pub store-requires-clause-owes : goal.store-requires-clause-owes
-store-requires-clause-owes g c = writes_owed c.pass.inside.place.known c.args.value (ap (λ v. holds v.known) c.pass.view_is ∙ c.requires.holder)
