@@ -1,7 +1,7 @@
 -- The parties own at most what the plain lock has. So it is known how many of them may use the value together.
 use Rattle.std.proofs.Common.{◌≡◌, ℕ, suc, ◌+◌, ◌≤◌, ◌==◌, true, cond, List, [], ◌∷◌, length, filter, refl, sym, ap, ◌∙◌, arith, zero-add, eq-eqb, nat_lt}
 use Rattle.std.specs.Prelude.{sum_by}
-use Rattle.std.proofs.lemmas.List.Sums.{sum_by-cons, count_by-le-length}
+use Rattle.std.proofs.lemmas.List.Sums.{sum_by-cons, sum_by-le-sum_by, count_by-le-length}
 use Rattle.spin_step.specs.Plain.{Plain, writing as writer, Holder, Ticket, same_kind, count_kind}
 use Rattle.spin_step.specs.Parties.{none_entered, first_alone_entered, IsExclusive, OneHolds}
 use Rattle.spin_step.specs.Steps.{bit}
@@ -144,12 +144,23 @@ module _ {V : Type 0} (part : V → Part) where
   as_many : (p : ℕ) (x : Part) → length (entries_of 0 x).holders ≡ length (entries_of p x).holders
   as_many p x = grind arith
 
+  -- how many of the lock's holders a party is
+  abbrev has : V → ℕ
+  has v = length (entries_of 0 (part v)).holders
+
+  holds_all : (vs : List V) (s : Plain) → IsLockOf part vs s → sum_by has vs ≡ length s.holders
+  holds_all vs s is = exactly (λ h. h.party) (λ h. 1) part has (λ p x. length (entries_of p x).holders) (λ p v. as_many p (part v)) vs s.holders
+      (λ p. ones (filter (λ h. h.party == p) s.holders) ∙ ap (λ e. length e.holders) (is p).0) (λ p. refl) ∙ ones s.holders
+
   -- if parties hold the lock only to write, and the lock is in order (`IsInOrder`), it has at most one holder
   pub one_holds : ((v : V) → Writes (part v)) → (vs : List V) (s : Plain) → IsInOrder s → IsLockOf part vs s → OneHolds s
-  one_holds each vs s order is = let has : V → ℕ = λ v. length (entries_of 0 (part v)).holders in
-      let hold = exactly (λ h. h.party) (λ h. 1) part has (λ p x. length (entries_of p x).holders) (λ p v. as_many p (part v)) vs s.holders
-      (λ p. ones (filter (λ h. h.party == p) s.holders) ∙ ap (λ e. length e.holders) (is p).0) (λ p. refl) in
+  one_holds each vs s order is =
       let write = exactly (λ h. h.party) one_writes part has (λ p x. count_kind writer (entries_of p x).holders)
       (λ p v. as_many p (part v) ∙ sym (each v p)) vs s.holders
       (λ p. ap (λ e. count_kind writer e.holders) (is p).0) (λ p. refl) in
-      omega (arith, hold, write, ones s.holders, one_writer s order.exclusive)
+      omega (arith, holds_all vs s is, write, one_writer s order.exclusive)
+
+  -- if each party that uses the value holds the lock, to write, then one party at a time uses it
+  pub one_user : ((v : V) → Writes (part v) × (read v ≡ 0) × (written v ≤ has v)) → (cap : ℕ) → Within alone cap
+  one_user each cap vs s room order is =
+      omega (arith, none read (λ v. (each v).1) vs, sum_by-le-sum_by written has vs (λ v. (each v).2), holds_all vs s is, one_holds (λ v. (each v).0) vs s order is)

@@ -13,7 +13,7 @@ pub data Part : Type 0 where
   queues : ℕ → Bool → Part  -- its ticket has this number, and has or has not entered
   knows_served : ℕ → Part  -- it has nothing, and has found this number served
   starves : Part
-  holds_starving : Part  -- it writes, and is still a starver
+  holds_starving : Part  -- it holds, and is still a starver: it uses the value once it has stopped starving
 
 -- the party's entries in the plain lock
 abbrev pub entries_of : ℕ → Part → Entries
@@ -31,7 +31,6 @@ Knows s x = elim x [ knows_served n ↦ n ≤ serving_word s | _ ↦ Unit {0} ]
 abbrev pub use_of_part : Part → Use
 use_of_part (holds k) = if is_reader k then reads else writes
 use_of_part (queues n true) = writes
-use_of_part holds_starving = writes
 use_of_part _ = off
 
 -- the party with this number has this part in the lock

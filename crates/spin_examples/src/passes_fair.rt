@@ -1,7 +1,7 @@
 //! Three threads call one `FairMutex`, each by a pass of its own. The contracts say what the passes know.
 ghost use Rattle.std.specs.Prelude.{◌≡◌, ◌⊎◌};
 ghost use mathlib.Core.List.{IsPrefix};
-ghost use Rattle.spin.specs.FairPasses.{history, lock_of, name_of, starving_lock_of, Looked, HeldOnce, ServedOnce};
+ghost use Rattle.spin.specs.FairPasses.{history, lock_of, name_of, Looked, HeldOnce, ServedOnce};
 
 use spin::Spin;
 use spin::mutex::FairMutex;
@@ -31,7 +31,7 @@ fn look(pass: Pass<'_, u64, Spin>) -> (bool, Pass<'_, u64, Spin>)
 /// Adds 1 as a starver, unless the value is the largest number. The pass acquires the lock and releases it, once.
 fn count_served<'a, W: Wait>(rt: &W, starving: StarvingPass<'a, u64, Spin>) -> Pass<'a, u64, Spin>
     ensures made { ServedOnce starving.entry result }
-    ensures lock { lock_of result ≡ starving_lock_of starving.entry }
+    ensures lock { lock_of result ≡ lock_of starving.entry }
 {
     let (mut guard, seen) = starving.lock(rt);
     *guard = guard.saturating_add(1);

@@ -1,65 +1,59 @@
--- What a pass knows: the lock's history up to the pass's last step, and which moves of the history are its own.
-use Rattle.std.specs.Prelude.{◌≡◌, ℕ, Bool, Option, List}
+-- What a pass of a `FairMutex` knows, and what its calls do. A pass that starves holds a registration.
+use Rattle.std.specs.Prelude.{ℕ, Bool}
 use Rattle.spin_core.specs.Own.{Numbered}
+use Rattle.spin_core.specs.declared.guard.Guard.{Guard}
 use Rattle.spin_core.specs.declared.tie.Opening.{Opening}
-use Rattle.spin_step.specs.declared.answer.Answer.TheVariants.{Granted, Is}
-use Rattle.spin_step_more.specs.declared.fair_calls.FairCall.TheVariants.{Lock, IsLocked, StarverLock}
-use Rattle.spin_fair.specs.Fair.{Done, Called, Left}
+use Rattle.spin_core.specs.declared.trace.Watch.{Watch}
+use Rattle.spin_step.specs.declared.answer.Answer.{Answer}
+use Rattle.spin_step.specs.declared.answer.Answer.TheVariants.{Is}
+use Rattle.spin_step_more.specs.declared.fair_calls.FairCall.{FairCall}
+use Rattle.spin_step_more.specs.declared.fair_calls.FairCall.TheVariants.{Lock, IsLocked, StarverLock, Release}
+use Rattle.spin_step_more.specs.declared.fair_calls.FairPoint.{FairPoint}
+use Rattle.spin_session.specs.Passes as session
+use Rattle.spin_session.specs.Turns as turns
+use Rattle.spin_session.specs.Turns.{Spot}
+pub use Rattle.spin_session.specs.Passes.{history, lock_of, opening_of, party, OpensWith, Holds}
+use Rattle.spin_fair.specs.Fair.{Done, View, fair_meaning, fair_tables}
 use Rattle.spin_fair.specs.declared.fair.FairMutex.{FairMutex}
-use Rattle.spin_fair.specs.declared.fair.pass.Pass.{Pass}
-use Rattle.spin_fair.specs.declared.fair.rule.View.{View}
-use Rattle.spin_fair.specs.declared.fair.starving.StarvingPass.{StarvingPass}
 
 module _ {T R : Type 0} where
-  -- all moves in the lock, up to the pass's last step
-  abbrev pub history : Pass T R → List (Done T)
-  history it = it.account.seen.entries
-
-  -- the name of a lock's history
-  abbrev pub name_of : FairMutex T R → ℕ
-  name_of lock = lock.cell.name
-
-  -- the same name, as a pass of the lock keeps it
-  abbrev pub lock_of : Pass T R → ℕ
-  lock_of it = it.account.seen.name
-
-  -- what was fixed when the lock was made: the name of its history, and the value that it opened with
+  -- what was fixed when the lock was made
   abbrev pub opening : FairMutex T R → Opening T
   opening lock = lock.cell
 
-  -- the same, as a pass of the lock keeps it
-  abbrev pub opening_of : Pass T R → Opening T
-  opening_of it = it.account.permit.key
+  -- the name of a lock's history
+  abbrev pub name_of : FairMutex T R → ℕ
+  name_of lock = (opening lock).name
 
-  -- the party of the pass; there is none before its first call
-  abbrev pub party : Pass T R → Option (Numbered View)
-  party it = it.account.permit.view
+abbrev pub FairSpot : Type 0 → Type 0
+FairSpot T = Spot T FairCall FairPoint
 
-  -- `history`, `lock_of`, `opening_of` and `party` of a pass that is registered as a starver
-  abbrev pub starving_history : StarvingPass T R → List (Done T)
-  starving_history it = it.account.seen.entries
-
-  abbrev pub starving_lock_of : StarvingPass T R → ℕ
-  starving_lock_of it = it.account.seen.name
-
-  abbrev pub starving_opening_of : StarvingPass T R → Opening T
-  starving_opening_of it = it.account.permit.key
-
-  abbrev pub starving_party : StarvingPass T R → Option (Numbered View)
-  starving_party it = it.account.permit.view
+module _ {T : Type 0} where
+  -- from `before` to `now` the pass has made exactly this call, with this answer
+  abbrev pub Calls : FairCall → Answer (Unit {0}) → FairSpot T → FairSpot T → Type 0
+  Calls = turns.Calls fair_tables
 
   -- from `before` to `now` the pass has made one call, `is_locked`, with this answer
-  abbrev pub Looked : Bool → Pass T R → Pass T R → Type 0
-  Looked set before now = Called (opening_of before).value IsLocked (Is set) (party before) (history before) (party now) (history now)
+  abbrev pub Looked : Bool → FairSpot T → FairSpot T → Type 0
+  Looked set = Calls IsLocked (Is set)
 
-  -- from `before` to `now` the pass has acquired the lock once by `lock`, and has released it; it left some value
-  abbrev pub HeldOnce : Pass T R → Pass T R → Type 0
-  HeldOnce before now =
-      (held : Option (Numbered View)) × (seen : List (Done T)) × (lock : Opening T) × (lock ≡ opening_of before) × Called (opening_of before).value Lock Granted (party before) (history before) held seen
-      × Left lock.value (λ x. Unit {0}) held seen (party now) (history now)
+  -- From `before` to `now` the pass has acquired the lock once by `lock`, and has released it. It left some value.
+  abbrev pub HeldOnce : FairSpot T → FairSpot T → Type 0
+  HeldOnce = session.Held fair_tables Lock Release
 
-  -- from `before` to `now` the registered pass has acquired the lock once by `lock`, and has released it; it left some value
-  abbrev pub ServedOnce : StarvingPass T R → Pass T R → Type 0
-  ServedOnce before now =
-      (held : Option (Numbered View)) × (seen : List (Done T)) × (lock : Opening T) × (lock ≡ starving_opening_of before)
-      × Called (starving_opening_of before).value StarverLock Granted (starving_party before) (starving_history before) held seen × Left lock.value (λ x. Unit {0}) held seen (party now) (history now)
+  -- the same by the `lock` of a pass that starves
+  abbrev pub ServedOnce : FairSpot T → FairSpot T → Type 0
+  ServedOnce = session.Held fair_tables StarverLock Release
+
+  module _ {P R S : Type 0} where
+    -- By this call the pass has acquired the guard, whose value is the one written last.
+    abbrev pub Grants : FairCall → FairSpot T → Guard T (Numbered View) P R (Opening T) S → Watch (Done T) → Type 0
+    Grants = session.Grants fair_tables fair_meaning
+
+    -- some party has acquired the guard by this call
+    abbrev pub CameBy : FairCall → Guard T (Numbered View) P R (Opening T) S → Type 0
+    CameBy call guard = (before : FairSpot T) × (seen : Watch (Done T)) × Grants call before guard seen
+
+    -- The pass has written the guard's value, so this is the one written last, and has then released the lock.
+    abbrev pub Unlocks : Guard T (Numbered View) P R (Opening T) S → Watch (Done T) → FairSpot T → Type 0
+    Unlocks = session.Unlocks fair_tables Release

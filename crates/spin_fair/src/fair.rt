@@ -1,30 +1,31 @@
 //! A spinning mutex in which starvers go before newcomers. Begin at [`FairMutex::lock`] and [`FairMutex::starve`].
-ghost use Rattle.std.specs.Prelude.{◌≡◌, Some, None, [], true, IfSome, IfOk};
+ghost use Rattle.std.specs.Prelude.{IfSome, IfOk};
 ghost use Rattle.spin_core.specs.Guard.{IsHolder};
+ghost use Rattle.spin_session.specs.Turns.{IsNew, spot};
+ghost use Rattle.spin_step_more.specs.declared.fair_calls.FairCall.TheVariants.{TryLock, TryLockStarver};
 ghost use Rattle.spin_fair.specs.Fair.{use_of_party};
-ghost use Rattle.spin_fair.specs.declared.fair.rule.View.TheVariants.{Holding};
+ghost use Rattle.spin_fair.specs.FairPasses.{CameBy, OpensWith, opening};
 
-use self::account::Account;
-use self::waiting::try_with;
 use spin_core::cell::Cell;
 use spin_core::guard::{self, Guard};
 use spin_core::lock::{Lock, with_guard};
 use spin_core::relax::{RelaxStrategy, Spin, Strategy};
 use spin_core::tie::Opening;
 use spin_core::trace::Trace;
-use spin_step_more::fair;
+use spin_session::calls::{SessionOf, begin, go_on, guarded};
+use spin_session::session::Session;
+use spin_step::{Answer, Hold};
+use spin_step_more::{FairCall, fair};
 use std::sync::Wait;
 
-pub(crate) mod account;
 mod pass;
 mod rule;
 mod starvation;
 mod starving;
 mod texts;
-pub(crate) mod waiting;
 
 pub use self::pass::Pass;
-pub use self::rule::{Entry, FairRule, Party, View};
+pub use self::rule::{Entry, FairRule, Party};
 pub use self::starvation::Starvation;
 pub use self::starving::StarvingPass;
 pub use spin_core::laws::{a_guard_reads_the_last_value_written, two_guards_read_one_value};
@@ -80,7 +81,7 @@ impl<T, R> FairMutex<T, R> {
     /// # Contract
     /// The lock's history begins with this value (`opens`). The call returns.
     pub const fn new(value: T) -> Self
-        ensures opens { (result.cell.value ≡ value) × (result.cell.told ≡ true) }
+        ensures opens { OpensWith value (opening result) }
     {
         let trace = Trace::new(());
         let opening = Opening::of(&trace, &value);
@@ -102,11 +103,11 @@ impl<T, R> FairMutex<T, R> {
         self.cell.into_inner()
     }
 
-    // Returns a party that has taken no step.
-    pub(crate) fn account(&self) -> Account<'_, T>
-        ensures { (result.permit.view ≡ None) × (result.permit.key ≡ self.now.cell) × (result.seen.name ≡ self.now.cell.name) × (result.seen.entries ≡ []) }
+    // Returns a party that has made no call.
+    pub(crate) fn session(&self) -> SessionOf<'_, T, FairRule>
+        ensures { IsNew (opening self.now) (spot result) }
     {
-        Account {
+        Session {
             permit: self.cell.enter(),
             seen: self.cell.watch(),
         }
@@ -127,10 +128,16 @@ impl<T, R: RelaxStrategy> FairMutex<T, R> {
         ensures { IsHolder use_of_party result }
     {
         // Not by `Pass::lock`: that would make the path for a free lock longer.
-        let (guard, _) = match try_with(self.account(), 0) {
-            Ok(held) => held,
-            Err(waiting) => waiting.wait(rt),
+        let call = FairCall::Lock;
+        let write = Some(Hold::Write);
+        let session = match begin(self.session(), call, None, Answer::Granted, write) {
+            Ok(session) => session,
+            Err(on) => {
+                let by = Strategy::<R>::named();
+                go_on(on, call, None, Answer::Granted, write, by, rt)
+            }
         };
+        let (guard, _) = guarded(session);
         guard
     }
 }
@@ -141,21 +148,23 @@ impl<T, R> FairMutex<T, R> {
     /// It makes one compare-exchange.
     ///
     /// # Contract
-    /// The guard in `Some` belongs to a holder of the lock (`IsHolder`). The holder came as a newcomer (its view is
-    /// `Holding`), so it found no starver registered. `None` promises nothing. The call returns.
+    /// The guard in `Some` belongs to a holder of the lock (`holder`). The holder came by a `TryLock`, so it found no
+    /// starver registered (`newcomer`). `None` promises nothing. The call returns.
     #[must_use = "dropping the guard at once releases the lock: bind the answer, or write `drop(..)`"]
     pub fn try_lock<'a>(&'a self) -> Option<FairMutexGuard<'a, T, R>>
         ensures holder { IfSome result (IsHolder use_of_party) }
-        ensures newcomer { IfSome result (λ guard. guard.writer.view.0 ≡ Holding) }
+        ensures newcomer { IfSome result (CameBy TryLock) }
     {
-        let (guard, _) = self.pass().try_lock().ok()?;
-        Some(guard)
+        match self.pass().try_lock() {
+            Ok((guard, _)) => Some(guard),
+            Err(_) => None,
+        }
     }
 
     /// Like [`try_lock`](Self::try_lock), but returns the reason for a failure.
     ///
     /// # Contract
-    /// `Ok` promises what `Some` of `try_lock` promises. `Err` promises nothing. The call returns.
+    /// `Ok` promises what `Some` of `try_lock` promises, with `TryLockStarver`. `Err` promises nothing. The call returns.
     ///
     /// # Examples
     /// ```
@@ -171,7 +180,7 @@ impl<T, R> FairMutex<T, R> {
     /// ```
     pub fn try_lock_starver<'a>(&'a self) -> Result<FairMutexGuard<'a, T, R>, LockRejectReason>
         ensures holder { IfOk result (IsHolder use_of_party) }
-        ensures newcomer { IfOk result (λ guard. guard.writer.view.0 ≡ Holding) }
+        ensures newcomer { IfOk result (CameBy TryLockStarver) }
     {
         match self.pass().try_lock_starver() {
             Ok((guard, _)) => Ok(guard),
@@ -231,7 +240,6 @@ impl<T, R> FairMutex<T, R> {
     ///
     /// # Contract
     /// Only that the call returns.
-    #[tactic(auto, unfolding(crate::specs::Fair::IsFair, crate::specs::Fair::known_of))]
     pub fn get_mut(&mut self) -> &mut T {
         self.cell.get_mut()
     }

@@ -1,14 +1,21 @@
 //! What follows from the rule of a `FairMutex`. Each law is the contract of a function that does nothing; begin at
 //! [`every_run_of_a_fair_mutex_is_a_schedule`].
-ghost use Rattle.std.specs.Prelude.{◌≡◌, ◌<◌, ◌≤◌, ◌+◌, ◌-◌, ◌%◌, ◌^◌, ℕ, List, Some, true, bit_or, slice_get, unwrap_or};
+ghost use Rattle.std.specs.Prelude.{◌≡◌, ◌⊎◌, ◌≤◌, ◌+◌, ◌-◌, ◌%◌, ◌^◌, ℕ, List, length, Option, Some, true, bit_or, unwrap_or};
 ghost use Rattle.spin_core.specs.Own.{Numbered, IsRun};
 ghost use Rattle.spin_core.specs.declared.tie.Opening.{Opening};
 ghost use Rattle.spin_core.specs.declared.trace.Trace.{Trace};
-ghost use Rattle.spin_step.specs.Plain.{holder_weight, starver_weight};
-ghost use Rattle.spin_step_more.specs.Starvers.{is_set, unlocked, unstarved, lock_starved};
-ghost use Rattle.spin_fair.specs.declared.fair.rule.View.{View};
-ghost use Rattle.spin_fair.specs.declared.fair.rule.View.TheVariants.{Holding};
-ghost use Rattle.spin_fair.specs.Fair.{Done, IsFair, model, seat_of, words_of, starver, views_of, FoundNobody, HoldsAt, StarvesAt};
+ghost use Rattle.spin_step.specs.Acts.{next_of};
+ghost use Rattle.spin_step.specs.Plain.{Plain, fair_word, holder_weight, starver_weight};
+ghost use Rattle.spin_step.specs.declared.answer.Answer.TheVariants.{Granted};
+ghost use Rattle.spin_step.specs.declared.place.Hold.{Hold as TheHold};
+ghost use Rattle.spin_step.specs.declared.place.Hold.TheVariants.{Write};
+ghost use Rattle.spin_step.specs.declared.stepped.Next.TheVariants.{Answers};
+ghost use Rattle.spin_step_more.specs.FairCalls.{fair_table};
+ghost use Rattle.spin_step_more.specs.declared.fair_calls.FairCall.{FairCall as TheCall};
+ghost use Rattle.spin_step_more.specs.declared.fair_calls.FairPoint.{FairPoint as ThePoint};
+ghost use Rattle.spin_step_more.specs.declared.fair_calls.FairPoint.TheVariants.{Unregister};
+ghost use Rattle.spin_step_more.specs.Starvers.{most_starvers, is_set, unlocked, unstarved, lock_starved};
+ghost use Rattle.spin_fair.specs.Fair.{Done, HoldsAt, IsFair, StarvesAt, View, model, patience, views_of, words_of};
 
 /// Each run of a [`FairMutex`](crate::fair::FairMutex) on threads is a schedule of its model.
 ///
@@ -19,19 +26,18 @@ ghost use Rattle.spin_fair.specs.Fair.{Done, IsFair, model, seat_of, words_of, s
 /// The law holds between any two steps of threads (`IsFair`): no move of the list is skipped in the model. After all
 /// these moves the model has the lock's word, and each party is where its view says.
 pub fn every_run_of_a_fair_mutex_is_a_schedule<T>()
-    ensures { (opening : Opening T) (word : ℕ) (trace : Trace (Done T) (Unit {0})) (parties : List (Numbered View)) → IsFair opening word trace parties → IsRun (model opening.value) seat_of words_of trace.entries (word, trace.word) parties }
+    ensures { (opening : Opening T) (word : ℕ) (trace : Trace (Done T) (Unit {0})) (parties : List (Numbered View)) → IsFair opening word trace parties → IsRun (model opening.value) (λ view. view) words_of trace.entries (word, trace.word) parties }
 {}
 
-/// States that a newcomer that holds a `FairMutex` acquired it while nobody held it and no starver was registered. Each
-/// starver that is registered now made its last move after that.
+/// States that a newcomer acquires a `FairMutex` only while nobody holds it and no starver is registered.
 ///
 /// # Contract
-/// The rule has to hold (`IsFair`). A newcomer that holds acquired the lock by its last moves. Just before them the
-/// model's word was 0, which encodes a lock without holders and starvers (`FoundNobody`). The newcomer's mark, the
-/// length of the trace right after these moves, is at most the mark of each registered starver (`earlier`).
+/// A step of the model that grants the lock found the word 0, which encodes a lock without holders and starvers, or it
+/// ends its party's registration. So a newcomer found the word 0. By
+/// [`every_run_of_a_fair_mutex_is_a_schedule`] all moves of threads are such steps.
 pub fn no_newcomer_holds_that_came_behind_a_starver<T>()
-    ensures found_nobody { (opening : Opening T) (word : ℕ) (trace : Trace (Done T) (Unit {0})) (parties : List (Numbered View)) → IsFair opening word trace parties → (i : ℕ) (v : Numbered View) → slice_get parties i ≡ Some v → v.0 ≡ Holding → FoundNobody opening.value trace.entries v }
-    ensures earlier { (opening : Opening T) (word : ℕ) (trace : Trace (Done T) (Unit {0})) (parties : List (Numbered View)) → IsFair opening word trace parties → (i j : ℕ) (v w : Numbered View) → slice_get parties i ≡ Some v → slice_get parties j ≡ Some w → v.0 ≡ Holding → 0 < starver w.0 → v.2 ≤ w.2 }
+    ensures granted { (value : T) (call : TheCall) (point : ThePoint) (holds : Option TheHold) (word : ℕ) → next_of (fair_table value most_starvers patience) call point holds word ≡ Answers Granted (Some Write) → (word ≡ 0) ⊎ (point ≡ Unregister) }
+    ensures free { (s : Plain) → fair_word s ≡ 0 → (length s.holders ≡ 0) × (length s.starvers ≡ 0) }
 {}
 
 /// States that the blind operations on the word of a `FairMutex` do what its step functions say.

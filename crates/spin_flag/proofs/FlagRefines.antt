@@ -68,10 +68,10 @@ holding_of (Holding Write) e = refl
 holding_of v e = grind (arith, e)
 
 -- how the calls that acquire the lock are answered
-pub lock_answers : {T : Type 0} (key : Opening T) → IsAnsweredBy flag_tables Lock None Granted (Some Write) key
-lock_answers key First n b k is = grind (arith, is)
-lock_answers key Second n b k is = grind (arith, is)
+pub lock_answers : {T : Type 0} (key : Opening T) → IsAnsweredBy flag_tables flag_meaning Lock None Granted (Some Write) key
+lock_answers key First n b k may is = grind (arith, is)
+lock_answers key Second n b k may is = grind (arith, is)
 
-pub try_answers : {T : Type 0} (key : Opening T) → IsTry flag_tables TryLock None (Some Write) key
-try_answers key First n b k is = grind (arith, is)
-try_answers key Second n b k is = grind (arith, is)
+pub try_answers : {T : Type 0} (key : Opening T) → IsTry flag_tables flag_meaning TryLock None (Some Write) key
+try_answers key First n b k may is = grind (arith, is)
+try_answers key Second n b k may is = grind (arith, is)

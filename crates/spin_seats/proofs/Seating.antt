@@ -78,13 +78,13 @@ module _ (n : ℕ) where
   }
 
   -- how the calls that take a seat are answered
-  pub enter_answers : (key : Opening (Unit {0})) → IsAnsweredBy (seats_tables n) Enter None Granted (Some hold.Read) key
-  enter_answers key First w b k is = grind (arith, is)
-  enter_answers key (Exchange j) w b k is = grind (arith, is)
+  pub enter_answers : (key : Opening (Unit {0})) → IsAnsweredBy (seats_tables n) (seats_meaning n) Enter None Granted (Some hold.Read) key
+  enter_answers key First w b k may is = grind (arith, is)
+  enter_answers key (Exchange j) w b k may is = grind (arith, is)
 
-  pub try_answers : (key : Opening (Unit {0})) → IsTry (seats_tables n) TryEnter None (Some hold.Read) key
-  try_answers key First w b k is = grind (arith, is)
-  try_answers key (Exchange j) w b k is = grind (arith, is)
+  pub try_answers : (key : Opening (Unit {0})) → IsTry (seats_tables n) (seats_meaning n) TryEnter None (Some hold.Read) key
+  try_answers key First w b k may is = grind (arith, is)
+  try_answers key (Exchange j) w b k may is = grind (arith, is)
 
   pub weak_answers : (key : Opening (Unit {0})) → IsTry (table_of n) TryEnterWeak None (Some hold.Read) key × IsAnswered (table_of n) TryEnterWeak None key
   weak_answers key = (grind arith, grind arith)

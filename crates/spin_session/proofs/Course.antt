@@ -1,11 +1,12 @@
 -- The steps of a call of a session, one after another.
-use Rattle.std.proofs.Common.{◌≡◌, ℕ, true, false, Option, Some, None, refl, sym, ap, ◌∙◌, subst, inl, inr, arith}
+use Rattle.std.specs.Option.{IfSome}
+use Rattle.std.proofs.Common.{◌≡◌, ℕ, zero, suc, true, false, Option, Some, None, refl, sym, ap, ◌∙◌, subst, inl, inr, arith}
 use Rattle.spin_core.specs.Cell.{writes, use_of}
-use Rattle.spin_core.specs.Own.{what}
-use Rattle.spin_core.specs.Spots.{IsIn, HasCalled, Stepped}
+use Rattle.spin_core.specs.Own.{Numbered, what}
+use Rattle.spin_core.specs.Spots.{IsIn, HasCalled, Since, Stepped}
 use Rattle.spin_core.proofs.Spots.{in_one, comes_in, stays_in, is_answered}
 use Rattle.spin_step.specs.Acts.{Table, next_of, filled, with_value, begin_of}
-use Rattle.spin_step.specs.Schedules.{resting}
+use Rattle.spin_step.specs.Schedules.{Entry, resting}
 use Rattle.spin_step.specs.declared.answer.Answer.{Answer}
 use Rattle.spin_step.specs.declared.answer.Answer.TheVariants.{Granted, Refused}
 use Rattle.spin_core.specs.declared.tie.Opening.{Opening}
@@ -14,8 +15,9 @@ use Rattle.spin_step.specs.declared.place.Seat.{Seat}
 use Rattle.spin_step.specs.declared.place.Seat.TheVariants.{Calling, Holding}
 use Rattle.spin_step.specs.declared.stepped.Next.{Next}
 use Rattle.spin_step.specs.declared.stepped.Next.TheVariants.{Continue, Answers}
-use Rattle.spin_session.specs.Meaning.{Meaning, table_at, model_at, seat_after, seat_now, use_at, rests_at}
-use Rattle.spin_session.specs.Turns.{MayFind, IsReached, outcome_of, has_begun, Spot, Comes, GoesBy, GoesOn, Under, Ended, Quiet, StaysQuiet, IsAtPoint, Knows, StandsAt, IsAnsweredBy, IsAnswered, IsTry, IsLook, Tells, AnswersWith, is_granted}
+use Rattle.spin_session.specs.Meaning.{Meaning, model_at, seat_after, seat_now, use_at, rests_at, table_at}
+use Rattle.spin_session.specs.declared.session.Session.{Session}
+use Rattle.spin_session.specs.Turns.{MayFind, IsReached, IsLed, IsLedTo, Lands, SeesOn, course_of, next_after, outcome_of, has_begun, Spot, Comes, GoesBy, GoesOn, Under, Ended, Quiet, StaysQuiet, IsAtPoint, Knows, StandsAt, IsAnsweredBy, IsAnswered, IsTry, IsLook, Tells, AnswersWith, is_granted}
 use Rattle.spin_session.proofs.Refining.{not_begun}
 
 -- the seat of a party does not depend on what its answer says
@@ -91,23 +93,23 @@ module _ {W V C L : Type 0} (t : ℕ → V → Table W V C L (Answer V)) (s : Me
             ((knows.0, knows.1, rw then at sits), rw same at called)
 
   -- a call whose answers are all known
-  pub settled : (p q : Spot V C L) → Knows s q → (a : Answer (Unit {0})) (k : Option Hold) → Ended t s c h a k p q → (answer : Answer (Unit {0})) (after : Option Hold) → IsAnsweredBy t c h answer after p.0
+  pub settled : (p q : Spot V C L) → Knows s q → (a : Answer (Unit {0})) (k : Option Hold) → Ended t s c h a k p q → (answer : Answer (Unit {0})) (after : Option Hold) → IsAnsweredBy t s c h answer after p.0
       → StandsAt after q × HasCalled (model_at t) c (with_value answer None) p q
   settled p q knows a k (called, sits, (l, n, is, fine)) answer after only =
-      let (same, then) = only l n (with_value a None) k is in ((knows.0, knows.1, rw then at sits), rw same at called)
+      let (same, then) = only l n (with_value a None) k fine is in ((knows.0, knows.1, rw then at sits), rw same at called)
 
   granted_as : (a : Answer (Unit {0})) → is_granted (with_value {V = V} a None) ≡ is_granted a
   granted_as a = grind arith
 
-  pub granted : (p q : Spot V C L) → Knows s q → (a : Answer (Unit {0})) (k : Option Hold) → Ended t s c h a k p q → (after : Option Hold) → IsTry t c h after p.0 → is_granted a ≡ true
+  pub granted : (p q : Spot V C L) → Knows s q → (a : Answer (Unit {0})) (k : Option Hold) → Ended t s c h a k p q → (after : Option Hold) → IsTry t s c h after p.0 → is_granted a ≡ true
       → StandsAt after q × HasCalled (model_at t) c Granted p q
   granted p q knows a k (called, sits, (l, n, is, fine)) after tries so =
-      let (same, then) = (tries l n (with_value a None) k is).0 (granted_as a ∙ so) in ((knows.0, knows.1, rw then at sits), rw same at called)
+      let (same, then) = (tries l n (with_value a None) k fine is).0 (granted_as a ∙ so) in ((knows.0, knows.1, rw then at sits), rw same at called)
 
-  pub refused : (p q : Spot V C L) → Knows s q → (a : Answer (Unit {0})) (k : Option Hold) → Ended t s c h a k p q → (after : Option Hold) → IsTry t c h after p.0 → is_granted a ≡ false
+  pub refused : (p q : Spot V C L) → Knows s q → (a : Answer (Unit {0})) (k : Option Hold) → Ended t s c h a k p q → (after : Option Hold) → IsTry t s c h after p.0 → is_granted a ≡ false
       → StandsAt h q × HasCalled (model_at t) c Refused p q
   refused p q knows a k (called, sits, (l, n, is, fine)) after tries so =
-      let (same, then) = (tries l n (with_value a None) k is).1 (granted_as a ∙ so) in ((knows.0, knows.1, rw then at sits), rw same at called)
+      let (same, then) = (tries l n (with_value a None) k fine is).1 (granted_as a ∙ so) in ((knows.0, knows.1, rw then at sits), rw same at called)
 
   -- the first step of a call that leaves what the party holds
   pub looked : (key : Opening V) → IsLook t c h key → (n : ℕ) (next : Next L (Answer (Unit {0}))) → GoesBy t s c ((table_at t key).start c h) h n next key → (a : Answer (Unit {0})) (k : Option Hold) → next ≡ Answers a k → (k ≡ h) × Tells t s c h a key
@@ -119,10 +121,71 @@ module _ {W V C L : Type 0} (t : ℕ → V → Table W V C L (Answer V)) (s : Me
   looked_on key looks n next (which, fine) l is =
       let so : filled {V = V} None (Continue l) ≡ next_of (table_at t key) c ((table_at t key).start c h) h n = rw is at which in subst (AnswersWith h) (sym so) (looks n)
 
-  -- a call that is answered by its third step does not go on after it
-  pub answered_on : (key : Opening V) → IsAnswered t c h key → (n m j : ℕ) (l k : L) (x y z : Next L (Answer (Unit {0}))) → GoesBy t s c ((table_at t key).start c h) h n x key → x ≡ Continue l → GoesBy t s c l h m y key → y ≡ Continue k
-      → GoesBy t s c k h j z key → (i : L) → z ≡ Continue i → ⊥
-  answered_on key once n m j l k x y z first is second is' third i is'' = once n m j l k i (sym (rw is at first.0)) (sym (rw is' at second.0)) (sym (rw is'' at third.0))
+  -- A call that is answered by its third step does not go on after it. The first of these steps may be a later one of the call.
+  pub answered_on : (key : Opening V) → IsAnswered t c h key → (i : L) (o : ℕ) → IsLedTo t s c h i o key → (m j : ℕ) (l k : L) (x y z : Next L (Answer (Unit {0}))) → GoesBy t s c i h o x key → x ≡ Continue l → GoesBy t s c l h m y key → y ≡ Continue k
+      → GoesBy t s c k h j z key → (u : L) → z ≡ Continue u → ⊥
+  answered_on key once i o (zero, n, led) m j l k x y z first is second is' third u is'' =
+      once o m j l k u (ap (λ a. next_of (table_at t key) c a h o) (sym led.0) ∙ sym (rw is at first.0)) (sym (rw is' at second.0)) (sym (rw is'' at third.0))
+  answered_on key once i o (suc zero, n, (e, to, led)) m j l k x y z first is second is' third u is'' =
+      once n o m e l k (to) (ap (λ a. next_of (table_at t key) c a h o) (sym led.0) ∙ sym (rw is at first.0)) (sym (rw is' at second.0))
+  answered_on key once i o (suc (suc zero), n, (e, to, (e', to', led))) m j l k x y z first is second is' third u is'' =
+      once n _ o e e' l to to' (ap (λ a. next_of (table_at t key) c a h o) (sym led.0) ∙ sym (rw is at first.0))
+  answered_on key once i o (suc (suc (suc b)), n, (e, to, (e', to', (e'', to'', led)))) m j l k x y z first is second is' third u is'' = once n _ _ e e' e'' to to' to''
+
+-- a party whose call was answered, and which then holds this, sits so
+pub rests_held : {C L A : Type 0} (c : C) (h : Option Hold) (next : Next L A) → AnswersWith h next → seat_after c h next ≡ resting h
+rests_held c h (Continue l) is = absurd is
+rests_held c h (Answers a after) is = ap resting is
+
+-- how a party uses the value
+pub uses_now : {C L : Type 0} (s : Meaning C L) (view : Option (Seat C L)) → use_of (use_at s) view ≡ use_at s (seat_now view)
+uses_now s None = refl
+uses_now s (Some x) = refl
+
+-- what a party sees after a further step of its call
+pub sees_then : {V P Q C L S R : Type 0} (s : Meaning C L) (c : C) (l : L) (h : Option Hold) (v : Option V) (it : Session V (Numbered (Seat C L)) (Entry C V) P (Opening V) S) (now : Session V (Numbered (Seat C L)) (Entry C V) Q (Opening V) R)
+    → what it.permit.view ≡ Some (Calling c l h) → rests_at s (seat_now (what it.permit.view)) ≡ true → SeesOn s c h v it → SeesOn s c h it.permit.value now → SeesOn s c h v now
+sees_then s c l h v it now sits rests first next uses =
+    let then = next uses in (
+      then.0,
+      λ on saw. let rest : rests_at s (Calling c l h) ≡ true = subst (λ o. rests_at s (seat_now o) ≡ true) sits rests in
+          let saw' = first (λ e. on l rest (ap (λ o. use_at s (seat_now o)) (sym sits) ∙ e)) in then.1 on saw'.0 ∙ saw'.1 on saw,
+    )
+
+-- The first steps of a call by one operation, of which the last is `last`.
+module _ {W V C L : Type 0} (t : ℕ → V → Table W V C L (Answer V)) (s : Meaning C L) (c : C) (h : Option Hold) (p q : Spot V C L) (last : Option (L × ℕ)) (lands : Lands (table_at t p.0) s c h last (seat_now (what q.1)))
+    (sits : what q.1 ≡ Some (seat_after c h (next_after (table_at t p.0) c h last))) (since : Since (model_at t) (course_of c (next_after (table_at t p.0) c h last)) p q) where
+  -- the call so goes on from the last of these steps
+  pub record Leapt (l : L) (m : ℕ) (next : Next L (Answer (Unit {0}))) : Type 0 where
+    pub seat : what q.1 ≡ Some (seat_after c h next)
+    pub comes : Comes t s c h next p q
+    pub goes : GoesBy t s c l h m next p.0
+    pub reached : IsLedTo t s c h l m p.0
+
+  comes_so : (next : Next L (Answer (Unit {0}))) (l : L) (m : ℕ) → filled None next ≡ next_of (table_at t p.0) c l h m → MayFind t s c l h m p.0
+      → Since (model_at t) (course_of c (filled None next)) p q → what q.1 ≡ Some (seat_after c h next) → Comes t s c h next p q
+  comes_so (Continue k) l m which fine since' sits' = (since', sits')
+  comes_so (Answers a after) l m which fine since' sits' = (since', ap seat_now sits', (l, m, sym which, fine))
+
+  pub leapt : (l : L) (m n n' : ℕ) → last ≡ Some (l, m) → IsLed (table_at t p.0) s c h last n n' → (next : Next L (Answer (Unit {0}))) → filled None next ≡ next_of (table_at t p.0) c l h m → Leapt l m next
+  leapt l m n n' is led next which =
+      let fine : MayFind t s c l h m p.0 = subst (λ o. IfSome o (λ z. MayFind t s c z.0 h z.1 p.0)) is lands.1 in
+      let goes : next_after (table_at t p.0) c h last ≡ filled None next = ap (next_after (table_at t p.0) c h) is ∙ sym which in
+      let sits' : what q.1 ≡ Some (seat_after c h next) = sits ∙ ap (λ x. Some (seat_after c h x)) goes ∙ ap Some (same_seat V c h next) in
+      let led' : IsLed (table_at t p.0) s c h (Some (l, m)) n n' = subst (λ o. IsLed (table_at t p.0) s c h o n n') is led in
+      record {
+        seat = sits';
+        comes = comes_so next l m which fine (subst (λ x. Since (model_at t) (course_of c x) p q) goes since) sits';
+        goes = (which, fine.0);
+        reached = (led'.0, n, led'.1);
+      }
+
+  -- the call has only begun
+  pub begun : last ≡ None → (what q.1 ≡ Some (Calling c ((table_at t p.0).start c h) h)) × Under t s c p q
+  begun is =
+      let goes : next_after (table_at t p.0) c h last ≡ Continue ((table_at t p.0).start c h) = ap (next_after (table_at t p.0) c h) is in
+      let now : what q.1 ≡ Some (Calling c ((table_at t p.0).start c h) h) = sits ∙ ap (λ x. Some (seat_after c h x)) goes in
+      (now, inl (subst (λ x. Since (model_at t) (course_of c x) p q) goes since, ap has_begun now))
 
 -- the point at which a party makes a step of its call
 pub reached : {W V C L : Type 0} (t : ℕ → V → Table W V C L (Answer V)) (s : Meaning C L) (c : C) (l : L) (h : Option Hold) (key : Opening V) (view : Option (Seat C L)) → IsAtPoint (table_at t key) c l h view → rests_at s (seat_now view) ≡ true → IsReached t s c l h key

@@ -1,8 +1,8 @@
 -- What the release of a holder tells its party.
-use Rattle.std.proofs.Common.{◌≡◌, ℕ, true, false, Option, Some, None, length, refl, sym, ap, ◌∙◌, subst}
-use Rattle.spin_core.specs.Cell.{Moved, off, use_of}
+use Rattle.std.proofs.Common.{◌≡◌, ℕ, true, false, Option, Some, None, length, sym, ap, ◌∙◌, subst}
+use Rattle.spin_core.specs.Cell.{Moved}
 use Rattle.spin_core.specs.Own.{Numbered, what}
-use Rattle.spin_core.specs.Passes.{IsOut, IsCall, WritesSome, mark_of}
+use Rattle.spin_core.specs.Passes.{IsCall, WritesSome, mark_of}
 use Rattle.spin_core.specs.Spots.{Releases}
 use Rattle.spin_core.specs.Traced.{Watches}
 use Rattle.spin_core.specs.Values.{IsLast}
@@ -10,20 +10,16 @@ use Rattle.spin_core.proofs.Passes as passes
 use Rattle.spin_core.proofs.Spots as spots
 use Rattle.spin_core.proofs.Values.{write_leaves, wrote}
 use Rattle.spin_step.specs.Acts.{Table}
+use Rattle.spin_step.specs.Schedules.{resting}
 use Rattle.spin_step.specs.declared.answer.Answer.{Answer}
 use Rattle.spin_step.specs.declared.answer.Answer.TheVariants.{Done}
 use Rattle.spin_step.specs.declared.place.Hold.{Hold}
 use Rattle.spin_step.specs.declared.place.Seat.{Seat}
-use Rattle.spin_step.specs.declared.place.Seat.TheVariants.{Idle, Holding}
-use Rattle.spin_session.specs.Meaning.{Meaning, use_at, table_at, model_at, words_of}
-use Rattle.spin_session.specs.Turns.{Says, Told, Frees, Spot, gives_up, turn_by}
+use Rattle.spin_step.specs.declared.place.Seat.TheVariants.{Holding}
+use Rattle.spin_session.specs.Meaning.{Meaning, model_at, words_of, table_at}
+use Rattle.spin_session.specs.Turns.{Says, Told, EndsWith, Spot, gives_up, turn_by}
 
--- a party that is out does not use the value
-pub off_out : {C L : Type 0} (s : Meaning C L) (view : Option (Seat C L)) → IsOut Idle view → use_of (use_at s) view ≡ off
-off_out s None out = refl
-off_out s (Some x) out = ap (use_at s) out
-
-module _ {W V C L : Type 0} (t : ℕ → V → Table W V C L (Answer V)) (s : Meaning C L) (c : C) (h : Hold) (p q : Spot V C L) (is : what p.1 ≡ Some (Holding h)) (frees : Frees t c h p.0) (named : Type 0) (n : ℕ) where
+module _ {W V C L : Type 0} (t : ℕ → V → Table W V C L (Answer V)) (s : Meaning C L) (c : C) (h : Hold) (after : Option Hold) (p q : Spot V C L) (is : what p.1 ≡ Some (Holding h)) (ends : EndsWith t c h after p.0) (named : Type 0) (n : ℕ) where
   abbrev Step : (V → Type 0) → Option (Numbered (Seat C L)) → Type 0
   Step Q w = Moved (Watches named p.2 q.2 (Told (table_at t p.0) s (gives_up (table_at t p.0) s Q c (Some (Holding h))) p.1) n) w
 
@@ -33,9 +29,9 @@ module _ {W V C L : Type 0} (t : ℕ → V → Table W V C L (Answer V)) (s : Me
   as_step : (w : Option (Numbered (Seat C L))) → Moves w → Step (λ y. Unit {0}) w
   as_step w moved = subst (λ o. Moved (Watches named p.2 q.2 (Told (table_at t p.0) s (turn_by (table_at t p.0) s true (Some c) o) p.1) n) w) is moved
 
-  pub ends_out : (w : Option (Numbered (Seat C L))) → Moves w → IsOut Idle (what w)
-  ends_out None moved = absurd moved
-  ends_out (Some w) moved = let (same, (log, es, known, grew, (own, outs, mine, mark, none, alike, (stays, so)))) = as_step (Some w) moved in rw (frees n) at stays
+  pub seat : (w : Option (Numbered (Seat C L))) → Moves w → what w ≡ Some (resting after)
+  seat None moved = absurd moved
+  seat (Some w) moved = let (same, (log, es, known, grew, (own, outs, mine, mark, none, alike, (stays, so)))) = as_step (Some w) moved in ap Some (rw (ends n) at stays)
 
   pub knows : (w : Option (Numbered (Seat C L))) → Moves w → mark_of w ≡ length q.2.entries
   knows None moved = absurd moved
@@ -48,8 +44,8 @@ module _ {W V C L : Type 0} (t : ℕ → V → Table W V C L (Answer V)) (s : Me
   pub releases : named → q.0 ≡ p.0 → mark_of p.1 ≡ length p.2.entries → (x : V) → IsLast p.0 q.2.entries x → Moves q.1 → Releases (model_at t) (λ o. o) c Done x p q
   releases is_named same knew x last moved =
       let says : Says (table_at t p.0) s = gives_up (table_at t p.0) s (IsIt x) c (Some (Holding h)) in
-      let all = spots.took (model_at t) (λ z. z) (words_of (table_at t p.0)) p q same knew is_named n says (λ k. Idle) (λ k. WritesSome (IsIt x) (IsCall c Done))
-      (λ own outs k u (stays, (y, so, (rest, comes, is, are, s))). (rw (frees k) at stays, (y, so, (rest, comes, is, are, passes.whole c Done rest comes (rw (frees k) at s)))))
+      let all = spots.took (model_at t) (λ z. z) (words_of (table_at t p.0)) p q same knew is_named n says (λ k. resting after) (λ k. WritesSome (IsIt x) (IsCall c Done))
+      (λ own outs k u (stays, (y, so, (rest, comes, is, are, s))). (rw (ends k) at stays, (y, so, (rest, comes, is, are, passes.whole c Done rest comes (rw (ends k) at s)))))
       (exactly q.1 (as_step q.1 moved)) in (all.0, last)
     where
       exactly : (w : Option (Numbered (Seat C L))) → Step (λ y. Unit {0}) w → Step (IsIt x) w

@@ -6,4 +6,5 @@ pub mod Readers
 pub mod Word
 pub mod Seen
 pub mod Freed
+pub mod Leaping
 pub mod Granted

@@ -16,7 +16,7 @@ use Rattle.spin_step.specs.declared.schedule.Outcome.TheVariants.{Begun, Written
 use Rattle.spin_step.specs.declared.stepped.Next.{Next}
 use Rattle.spin_step.specs.declared.stepped.Next.TheVariants.{Continue, Answers}
 use Rattle.spin_step.specs.declared.stepped.Stepped.{Stepped}
-use Rattle.spin_core.specs.Cell.{Use, off, reads, writes, no_fact, Ways, Going, use_of, OnWord, AllowsTo, Meets, Rests, after as after_views}
+use Rattle.spin_core.specs.Cell.{Use, off, reads, writes, no_fact, Ways, Going, use_of, readers_of, OnWord, AllowsTo, Meets, Stands, Rests, after as after_views}
 use Rattle.spin_core.specs.Own.{Numbered, Runs, what}
 use Rattle.spin_core.specs.Run.{AreMoves, is_played, outcomes}
 use Rattle.spin_core.specs.Own.{by_party}
@@ -102,7 +102,7 @@ as_meets : {X S : Type 0} (Y : Type 0) (b : Bool) (f : X → Use) (holds : ℕ �
 as_meets Y true f holds n m meets = meets
 as_meets Y false f holds n m meets = meets
 
-leaves_quiet : {C V : Type 0} (u v : Use) (shown : Option V) (own : List (Move C V)) → (u ≡ writes → ⊥) → ((x : V) → left own x ≡ x) → Leaves u v shown own
+pub leaves_quiet : {C V : Type 0} (u v : Use) (shown : Option V) (own : List (Move C V)) → (u ≡ writes → ⊥) → ((x : V) → left own x ≡ x) → Leaves u v shown own
 leaves_quiet off v shown own quiet none = none
 leaves_quiet reads v shown own quiet none = none
 leaves_quiet writes v shown own quiet none = absurd (quiet refl)
@@ -286,7 +286,7 @@ module _ {W V C L S : Type 0} (k : Beside S) (t : Table W V C L (Answer V)) (s :
   Keeps view shown g says = TracesTo Rule own_ways view shown g (Told t s says view)
 
   -- a step keeps the rule if the plain lock allows it and the model has moves for it
-  keeps : (view : Option (Numbered (Seat C L))) (shown : Option V) (g : OnWord S) (comes : ℕ → Seat C L → Type 0) (says : Says t s) → Leaving (what view) shown says
+  pub keeps : (view : Option (Numbered (Seat C L))) (shown : Option V) (g : OnWord S) (comes : ℕ → Seat C L → Type 0) (says : Says t s) → Leaving (what view) shown says
       → Moving (what view) g comes says → AllowsTo (AreWords k s) (ways lock) (what view) None g comes → TracesTo Rule own_ways view shown g (Told t s says view)
   keeps view shown g comes says leaves moves allows =
       traces (machine_of t) (λ x. x) (words_in t k) (AreWords k s) opening.name V (way_of s.shares) (use_at s) (last opening) view shown g comes says moves
@@ -298,9 +298,10 @@ module _ {W V C L S : Type 0} (k : Beside S) (t : Table W V C L (Answer V)) (s :
   quietly view shown quiet goes_on c l h own outs n u said = leaves_quiet (use_of (use_at s) view) (use_at s u) shown own quiet (step_leaves goes_on c _ own outs said.0.1)
 
   -- the step keeps the word that of a plain lock
-  allowed : (view : Option (Seat C L)) (c : C) (l : L) (h : Option Hold) → ComesFrom t s c l h (part_before (part_of s) view)
-      → AllowsTo (AreWords k s) (ways lock) view None (on_step c l h) (Comes c l h)
-  allowed view c l h comes id n m vs meets at small =
+  pub allows_step : (view : Option (Seat C L)) (c : C) (l : L) (h : Option Hold) → ComesFrom t s c l h (part_before (part_of s) view)
+      → (id n : ℕ) (m : S) (vs : List (Seat C L)) → Meets (AreWords k s) (ways lock) n m vs → Stands id view vs → let g = on_step c l h in
+      (w : Seat C L) × Going (ways lock).0 (use_of (ways lock).1 view) ((ways lock).1 w) None (readers_of (ways lock).1 vs) (Meets (AreWords k s) (ways lock) (g.0 (n, m)).0 (g.0 (n, m)).1 (after_views id view vs w)) × Comes c l h (g.1 (n, m)) w
+  allows_step view c l h comes id n m vs meets at =
       let (plain, room, order, is, n_is, m_is) = meets.0.0 in let p : ℕ = number (part_of s) id view vs in let bounded : s.bounds (s.word plain) = rw n_is at meets.0.1 in rw (n_is, m_is) (
       let z = d.sound c l h p plain vs (part_before (part_of s) view) comes room order is bounded (own_part (part_of s) id view vs plain at is) in
       let n : ℕ = number_in k (t.word l) (s.word plain, k.of (s.second plain)) in
@@ -312,16 +313,20 @@ module _ {W V C L S : Type 0} (k : Beside S) (t : Table W V C L (Answer V)) (s :
         (refl, z.same, finds_now k s (t.word l) (d.within l) plain bounded room order),
       ))
 
-  some_part : (o : Option Part) → is_some o ≡ true → o ≡ Some (unwrap_or o idle)
+  allowed : (view : Option (Seat C L)) (c : C) (l : L) (h : Option Hold) → ComesFrom t s c l h (part_before (part_of s) view)
+      → AllowsTo (AreWords k s) (ways lock) view None (on_step c l h) (Comes c l h)
+  allowed view c l h comes id n m vs meets at small = allows_step view c l h comes id n m vs meets at
+
+  pub some_part : (o : Option Part) → is_some o ≡ true → o ≡ Some (unwrap_or o idle)
   some_part (Some x) is = refl
   some_part None is = absurd (cc (is))
 
-  part_now : (view : Option (Seat C L)) → part_before (part_of s) view ≡ part_of s (seat_now view)
+  pub part_now : (view : Option (Seat C L)) → part_before (part_of s) view ≡ part_of s (seat_now view)
   part_now None = refl
   part_now (Some x) = refl
 
   -- a new party makes the moves of an idle one
-  moves_now : (view : Option (Seat C L)) (g : OnWord S) (comes : ℕ → Seat C L → Type 0) (says : Says t s) → Moving (Some (seat_now view)) g comes says → Moving view g comes says
+  pub moves_now : (view : Option (Seat C L)) (g : OnWord S) (comes : ℕ → Seat C L → Type 0) (says : Says t s) → Moving (Some (seat_now view)) g comes says → Moving view g comes says
   moves_now None g comes says moves = moves
   moves_now (Some x) g comes says moves = moves
 

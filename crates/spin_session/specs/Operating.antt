@@ -1,5 +1,5 @@
 -- What a lock has to show of its cell's rule, so that sessions can run its table.
-use Rattle.std.specs.Prelude.{◌≡◌, ◌≢◌, true, false, Some, ℕ, zero, suc, ◌%◌, ◌+◌, ◌-◌, ◌^◌, ◌==◌, List, Option, bit_or}
+use Rattle.std.specs.Prelude.{◌≡◌, ◌≢◌, true, false, Some, None, ℕ, zero, suc, ◌%◌, ◌+◌, ◌-◌, ◌^◌, ◌==◌, List, Option, bit_or}
 use prog.Atomic.{either}
 use Rattle.std.specs.Option.{IfSome}
 use Rattle.spin_core.specs.Cell.{Ways, off, writes, use_of, Rests, Keeps}
@@ -12,13 +12,13 @@ use Rattle.spin_core.specs.declared.trace.Trace.{Trace}
 use Rattle.spin_core.specs.declared.trace.Watch.{Watch}
 use Rattle.spin_step.specs.Acts.{Table, begin_of, next_of, operation_by}
 use Rattle.spin_step.specs.Operations.{wrapped}
-use Rattle.spin_step.specs.Schedules.{Entry, may_write}
+use Rattle.spin_step.specs.Schedules.{Entry, may_write, resting}
 use Rattle.spin_step.specs.declared.answer.Answer.{Answer}
 use Rattle.spin_step.specs.declared.place.Hold.{Hold}
 use Rattle.spin_step.specs.declared.place.Seat.{Seat}
 use Rattle.spin_step.specs.declared.place.Seat.TheVariants.{Idle, Holding}
 use Rattle.spin_session.specs.Meaning.{Meaning, Beside, table_at, on_place, use_at, rests_at, seat_now, seat_after}
-use Rattle.spin_session.specs.Turns.{TurnTold, PeekTold, IsAt, Quiet}
+use Rattle.spin_session.specs.Turns.{TurnTold, LeapTold, PeekTold, FusesBy, IsAt, Quiet}
 use Rattle.spin_step.specs.declared.table.Operation.{Operation}
 use Rattle.spin_step.specs.declared.table.Operation.TheVariants as op
 
@@ -56,8 +56,15 @@ pub record Executes {W V C L S : Type 0} (k : Beside S) (t : ℕ → V → Table
   pub gives : (key : Opening V) (view : Option (Numbered (Seat C L))) (x : V) (c : C) (h : Hold) (o : Operation)
       → o ≡ wrapped (operation_by ((table_at t key).act c ((table_at t key).start c (Some h)) (Some h))) → what view ≡ Some (Holding h) → ((table_at t key).asks c (Some h)).begins (Some h) ≡ true
       → may_write h ≡ true → use_at s (Holding h) ≡ writes → Operates k (holds key) (ways key) view (Some x) ((table_at t key).word ((table_at t key).start c (Some h))) o (TurnTold t s true (Some c) key view)
+  -- the first steps of a call by one exchange; which call it is may depend on the number found
+  pub leaps : (key : Opening V) (view : Option (Numbered (Seat C L))) (shown : Option V) (c : ℕ → C) (h : Option Hold) (last : ℕ → Option (L × ℕ)) (old new : ℕ)
+      → FusesBy (table_at t key) s c h last old new → seat_now (what view) ≡ resting h → ((n : ℕ) → ((table_at t key).asks (c n) h).begins h ≡ true) → Quiet s (what view)
+      → Operates k (holds key) (ways key) view shown 0 (op.Exchange old new) (LeapTold t s (λ n. Some (c n)) last key view)
   -- a load at place 1 that is no step
   pub peeks : (key : Opening V) (view : Option (Numbered (Seat C L))) (shown : Option V) → TracesTo (holds key) (ways key) view shown (on_place k 1 (λ n. n)) (PeekTold t k s key view)
+  -- a party that uses the value after a step sees it, and still sees the one that it saw before
+  pub sees : (key : Opening V) (view view' : Option (Numbered (Seat C L))) (before after : Option V) → Keeps (ways key) view view' before after
+      → use_of (use_at s) (what view') ≢ off → (after ≢ None) × (before ≢ None → after ≡ before)
   -- a value that a party sees after a step is the one written last; so is one that it used before
   pub lasts : (key : Opening V) (view view' : Option (Numbered (Seat C L))) (before after : Option V) (seen : Watch (Entry C V)) → Keeps (ways key) view view' before after
       → Found (ways key) view view' before after seen → (use_of (use_at s) (what view) ≡ writes → use_of (use_at s) (what view') ≢ writes)

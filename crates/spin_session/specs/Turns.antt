@@ -1,7 +1,8 @@
 -- What one step of a table tells, and what the steps of a call tell.
-use Rattle.std.specs.Prelude.{◌≡◌, ◌⊎◌, ℕ, Bool, true, false, Option, Some, None, List, [], length}
-use Rattle.std.specs.Option.{IfSome}
-use Rattle.spin_step.specs.Acts.{Table, machine_of, next_of, with_value, filled}
+use Rattle.std.specs.Prelude.{◌≡◌, ◌≢◌, ◌⊎◌, ℕ, zero, suc, ◌==◌, Bool, true, false, Option, Some, None, List, [], length, if◌then◌else◌}
+use Rattle.std.specs.Option.{IfSome, MatchOption}
+use Rattle.spin_step.specs.Acts.{Table, machine_of, next_of, operation_by, with_value, filled}
+use Rattle.spin_step.specs.Operations.{performed}
 use Rattle.spin_step.specs.declared.answer.Answer.{Answer}
 use Rattle.spin_step.specs.declared.answer.Answer.TheVariants.{Granted, Refused, Done}
 use Rattle.spin_step.specs.declared.place.Hold.{Hold}
@@ -11,17 +12,18 @@ use Rattle.spin_step.specs.declared.schedule.Outcome.TheVariants.{Answered, Goin
 use Rattle.spin_step.specs.declared.stepped.Next.{Next}
 use Rattle.spin_step.specs.declared.stepped.Next.TheVariants.{Continue, Answers}
 use Rattle.spin_step.specs.Schedules.{Entry, resting}
-use Rattle.spin_core.specs.Cell.{writes, use_of}
+use Rattle.spin_core.specs.Cell.{off, writes, use_of}
 use Rattle.spin_core.specs.Own as own
 use Rattle.spin_core.specs.Own.{Numbered, what}
 use Rattle.spin_core.specs.Passes as passes
-use Rattle.spin_core.specs.Passes.{Ending, mark_of, step_by, IsStep, WritesSome}
+use Rattle.spin_core.specs.Passes.{Course, Begins, IsCall, Ending, mark_of, step_by, IsStep, WritesSome}
 use Rattle.spin_core.specs.Spots as spots
 use Rattle.spin_core.specs.Spots.{Stepped, HasCalled, IsIn}
 use Rattle.spin_core.specs.Values.{IsLast}
 use Rattle.spin_core.specs.declared.tie.Opening.{Opening}
-use Rattle.spin_session.specs.Meaning.{Meaning, Beside, Peeks, FindsAt, use_at, rests_at, seat_now, seat_after, words_of, table_at, model_at}
+use Rattle.spin_session.specs.Meaning.{Meaning, Beside, Peeks, FindsAt, part_of, use_at, rests_at, seat_now, seat_after, words_of, table_at, model_at}
 use Rattle.spin_session.specs.declared.session.Session.{Session}
+use Rattle.spin_session.specs.declared.table.Ahead.{Ahead}
 
 abbrev pub outcome_of : {L V : Type 0} → Next L (Answer V) → Ending V
 outcome_of next = elim next [ Continue l ↦ GoingOn | Answers a after ↦ Answered a None ]
@@ -40,6 +42,16 @@ held_now seat = elim seat [ Holding h ↦ Some h | _ ↦ None ]
 abbrev pub has_begun : {C L : Type 0} → Option (Seat C L) → Bool
 has_begun (Some (Calling c l h)) = true
 has_begun _ = false
+
+-- the moves of a call from its beginning up to a step after which it so goes on or ends
+abbrev pub course_of : {L V C : Type 0} → C → Next L (Answer V) → Course V C (Answer V)
+course_of c (Continue l) = Begins c passes.Waits
+course_of c (Answers a after) = IsCall c a
+
+-- how a call goes on after its first steps, of which the last is at this point and finds this number; `None`: it has only begun
+abbrev pub next_after : {W V C L A : Type 0} → Table W V C L A → C → Option Hold → Option (L × ℕ) → Next L A
+next_after t c h None = Continue (t.start c h)
+next_after t c h (Some z) = next_of t c z.0 h z.1
 
 module _ {W V C L : Type 0} (t : Table W V C L (Answer V)) (s : Meaning C L) where
   abbrev pub Says : Type 1
@@ -66,12 +78,57 @@ module _ {W V C L : Type 0} (t : Table W V C L (Answer V)) (s : Meaning C L) whe
   turn_by true (Some c) view = gives_up (λ x. Unit {0}) c view
   turn_by false (Some c) view = turn_from c (seat_now view)
 
+  -- the call rests at this point, or begins there
+  abbrev pub Reaches : C → L → Option Hold → Type 0
+  Reaches c l h = (rests_at s (Calling c l h) ≡ true) ⊎ (l ≡ t.start c h)
+
+  -- the party comes into this seat by the first steps of the call, of which the last is at this point and finds this number
+  abbrev pub Lands : C → Option Hold → Option (L × ℕ) → Seat C L → Type 0
+  Lands c h last v = ((v ≡ seat_after c h (next_after t c h last)) × (rests_at s v ≡ true)) × IfSome last (λ z. FindsAt s (t.word z.0) z.1 × Reaches c z.0 h)
+
+  -- the first steps of a call by one operation; the number that it finds says which call, and which step is the last
+  abbrev pub leap : (ℕ → Option C) → (ℕ → Option (L × ℕ)) → Option Hold → Says
+  leap calls last h own outs n v = MatchOption (calls n) ⊥ (λ c. Lands c h (last n) v × course_of c (next_after t c h (last n)) own outs)
+
   -- a load at place 1 that is no step
   abbrev pub peeks : {S : Type 0} → Beside S → Seat C L → Says
   peeks k seat own outs n v = ((v ≡ seat) × Peeks k s seat n) × (own ≡ []) × (outs ≡ [])
 
   abbrev pub Told : Says → Option (Numbered (Seat C L)) → List (Entry C V) → List (Entry C V) → ℕ → Numbered (Seat C L) → Type 0
   Told = own.Tells (machine_of t) (λ x. x) (words_of t)
+
+-- Several steps of a call by one operation on the first word.
+
+-- the last step that such an exchange makes where it finds the number n, if the call begins at this point
+abbrev pub last_step : {L : Type 0} → L → Ahead L → ℕ → Option (L × ℕ)
+last_step start a n = if n == a.old then Some (a.point, a.number) else (if a.looks then Some (start, n) else None)
+
+-- One exchange that is a whole call `won` if it finds `old`, or else the first step of the call `lost`, which begins at this point:
+abbrev pub either_call : {C L : Type 0} → C → C → Ahead L → ℕ → C
+either_call won lost a n = if n == a.old then won else lost
+
+abbrev pub either_step : {L : Type 0} → L → Ahead L → ℕ → Option (L × ℕ)
+either_step start a n = if n == a.old then Some (a.point, a.number) else Some (start, n)
+
+module _ {W V C L A : Type 0} (t : Table W V C L A) (s : Meaning C L) where
+  -- the call goes on by j steps, one after another, from the point l and the number n to the point k and the number m
+  abbrev pub GoesTo : C → Option Hold → ℕ → L → ℕ → L → ℕ → Type 0
+  GoesTo c h zero l n k m = (k ≡ l) × (m ≡ n)
+  GoesTo c h (suc j) l n k m = (i : L) × (next_of t c l h n ≡ Continue i) × GoesTo c h j i (performed (operation_by (t.act c l h)) n) k m
+
+  -- An operation that finds the number n and leaves the number n' is the first steps of the call. The last of them is at this point, and finds
+  -- this number. With `None` the operation is no step: it only begins the call.
+  abbrev pub IsLed : C → Option Hold → Option (L × ℕ) → ℕ → ℕ → Type 0
+  IsLed c h None n n' = (n' ≡ n) × (s.part c (t.start c h) h ≡ Some (part_of s (resting h)))
+  IsLed c h (Some z) n n' = (j : ℕ) × GoesTo c h j (t.start c h) n z.0 z.1 × (n' ≡ performed (operation_by (t.act c z.0 h)) z.1)
+
+  -- an exchange of `old` for `new` is the first steps of a call, whatever number it finds
+  abbrev pub FusesBy : (ℕ → C) → Option Hold → (ℕ → Option (L × ℕ)) → ℕ → ℕ → Type 0
+  FusesBy c h last old new = ((l : L) → t.word l ≡ 0) × ((n : ℕ) → IsLed (c n) h (last n) n (if n == old then new else n))
+
+  -- the call begins by such an exchange
+  abbrev pub Fuses : C → Option Hold → Ahead L → Type 0
+  Fuses c h a = FusesBy (λ n. c) h (last_step (t.start c h) a) a.old a.new
 
 -- the party is at this point of its call, or may begin the call here
 abbrev pub IsAtPoint : {W V C L : Type 0} → Table W V C L (Answer V) → C → L → Option Hold → Option (Seat C L) → Type 0
@@ -92,6 +149,9 @@ module _ {W V C L : Type 0} (t : ℕ → V → Table W V C L (Answer V)) where
   abbrev pub PeekTold : {S : Type 0} → Beside S → Meaning C L → Opening V → Option (Numbered (Seat C L)) → List (Entry C V) → List (Entry C V) → ℕ → Numbered (Seat C L) → Type 0
   PeekTold k s key before = Told (table_at t key) s (peeks (table_at t key) s k (seat_now (what before))) before
 
+  abbrev pub LeapTold : Meaning C L → (ℕ → Option C) → (ℕ → Option (L × ℕ)) → Opening V → Option (Numbered (Seat C L)) → List (Entry C V) → List (Entry C V) → ℕ → Numbered (Seat C L) → Type 0
+  LeapTold s calls last key before = Told (table_at t key) s (leap (table_at t key) s calls last (held_now (seat_now (what before)))) before
+
   abbrev pub IsAt : C → L → Option Hold → Opening V → Option (Seat C L) → Type 0
   IsAt c l h key = IsAtPoint (table_at t key) c l h
 
@@ -102,6 +162,14 @@ Knows s p = (p.0.name ≡ p.2.name) × (mark_of p.1 ≡ length p.2.entries) × (
 -- if the party sees a value, it is the one written last
 abbrev pub SeesLast : {V P C L S : Type 0} → Session V (Numbered (Seat C L)) (Entry C V) P (Opening V) S → Type 0
 SeesLast it = IfSome it.permit.value (IsLast it.permit.key it.seen.entries)
+
+-- wherever this call rests, its party uses the value
+abbrev pub Uses : {C L : Type 0} → Meaning C L → C → Option Hold → Type 0
+Uses {L = L} s c h = (l : L) → rests_at s (Calling c l h) ≡ true → use_at s (Calling c l h) ≢ off
+
+-- A party that uses the value sees it. If it saw one before this call, and uses the value wherever the call rests, it still sees that one.
+abbrev pub SeesOn : {V P C L S : Type 0} → Meaning C L → C → Option Hold → Option V → Session V (Numbered (Seat C L)) (Entry C V) P (Opening V) S → Type 0
+SeesOn s c h before it = use_at s (seat_now (what it.permit.view)) ≢ off → (it.permit.value ≢ None) × (Uses s c h → before ≢ None → it.permit.value ≡ before)
 
 -- the party does not write the value
 abbrev pub Quiet : {C L : Type 0} → Meaning C L → Option (Seat C L) → Type 0
@@ -140,7 +208,11 @@ module _ {W V C L : Type 0} (t : ℕ → V → Table W V C L (Answer V)) (s : Me
 
   -- the call rests at this point, or begins there
   abbrev pub IsReached : C → L → Option Hold → Opening V → Type 0
-  IsReached c l h key = (rests_at s (Calling c l h) ≡ true) ⊎ (l ≡ (table_at t key).start c h)
+  IsReached c l h key = Reaches (table_at t key) s c l h
+
+  -- the call's first steps lead to this point, and to this number there
+  abbrev pub IsLedTo : C → Option Hold → L → ℕ → Opening V → Type 0
+  IsLedTo c h l m key = (j : ℕ) × (n : ℕ) × GoesTo (table_at t key) s c h j ((table_at t key).start c h) n l m
 
   -- a step of this call at this point may find this number
   abbrev pub MayFind : C → L → Option Hold → ℕ → Opening V → Type 0
@@ -166,19 +238,19 @@ module _ {W V C L : Type 0} (t : ℕ → V → Table W V C L (Answer V)) (s : Me
   abbrev pub Tells : C → Option Hold → Answer (Unit {0}) → Opening V → Type 0
   Tells c h a key = (n : ℕ) × (next_of (table_at t key) c ((table_at t key).start c h) h n ≡ Answers (with_value a None) h) × FindsAt s ((table_at t key).word ((table_at t key).start c h)) n
 
+  -- Each answer of the call is this one, after which its party holds `after`.
+  abbrev pub IsAnsweredBy : C → Option Hold → Answer (Unit {0}) → Option Hold → Opening V → Type 0
+  IsAnsweredBy c h a after key = (l : L) (n : ℕ) (b : Answer V) (k : Option Hold) → MayFind c l h n key → next_of (table_at t key) c l h n ≡ Answers b k → (b ≡ with_value a None) × (k ≡ after)
+
+  -- Each answer of the call either gets this hold, or is a refusal.
+  abbrev pub IsTry : C → Option Hold → Option Hold → Opening V → Type 0
+  IsTry c h after key = (l : L) (n : ℕ) (b : Answer V) (k : Option Hold) → MayFind c l h n key → next_of (table_at t key) c l h n ≡ Answers b k
+      → (is_granted b ≡ true → (b ≡ Granted) × (k ≡ after)) × (is_granted b ≡ false → (b ≡ Refused) × (k ≡ h))
+
 module _ {W V C L : Type 0} (t : ℕ → V → Table W V C L (Answer V)) where
   -- the party's call goes on, after a step at this point that found this number
   abbrev pub GoesOn : C → L → Option Hold → ℕ → Opening V → Option (Seat C L) → Type 0
   GoesOn c l h n key view = (k : L) × (next_of (table_at t key) c l h n ≡ Continue k) × (view ≡ Some (Calling c k h))
-
-  -- each answer of the call is this one, after which its party holds `after`
-  abbrev pub IsAnsweredBy : C → Option Hold → Answer (Unit {0}) → Option Hold → Opening V → Type 0
-  IsAnsweredBy c h a after key = (l : L) (n : ℕ) (b : Answer V) (k : Option Hold) → next_of (table_at t key) c l h n ≡ Answers b k → (b ≡ with_value a None) × (k ≡ after)
-
-  -- each answer of the call either gets this hold, or is a refusal
-  abbrev pub IsTry : C → Option Hold → Option Hold → Opening V → Type 0
-  IsTry c h after key = (l : L) (n : ℕ) (b : Answer V) (k : Option Hold) → next_of (table_at t key) c l h n ≡ Answers b k
-      → (is_granted b ≡ true → (b ≡ Granted) × (k ≡ after)) × (is_granted b ≡ false → (b ≡ Refused) × (k ≡ h))
 
   -- the first step of the call answers it so
   abbrev pub IsAnsweredAtOnce : C → Option Hold → Answer (Unit {0}) → Option Hold → Opening V → Type 0
@@ -192,9 +264,9 @@ module _ {W V C L : Type 0} (t : ℕ → V → Table W V C L (Answer V)) where
   abbrev pub IsLook : C → Option Hold → Opening V → Type 0
   IsLook c h key = (n : ℕ) → AnswersWith h (next_of (table_at t key) c ((table_at t key).start c h) h n)
 
-  -- the first step of the call answers it with `Done`, and its party then holds nothing
-  abbrev pub Frees : C → Hold → Opening V → Type 0
-  Frees c h key = (n : ℕ) → next_of (table_at t key) c ((table_at t key).start c (Some h)) (Some h) n ≡ Answers Done None
+  -- the first step of the call answers it with `Done`, and its party then holds `after`
+  abbrev pub EndsWith : C → Hold → Option Hold → Opening V → Type 0
+  EndsWith c h after key = (n : ℕ) → next_of (table_at t key) c ((table_at t key).start c (Some h)) (Some h) n ≡ Answers Done after
 
 -- From p to q the party has begun this call and made steps of it. The last of them, at this point, found this number, and the call goes on.
 abbrev pub Waits : {W V C L : Type 0} → (ℕ → V → Table W V C L (Answer V)) → Meaning C L → C → L → Option Hold → ℕ → Spot V C L → Spot V C L → Type 0

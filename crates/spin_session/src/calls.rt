@@ -1,24 +1,27 @@
 //! The calls of a session: each is made by the steps of the lock's table. Begin with [`wait_for`].
-ghost use Rattle.std.specs.Prelude.{◌≡◌, true, None, Some, Option, IfOk, IfErr, length};
-ghost use Rattle.spin_core.specs.Cell.{writes, use_of, Moved, Keeps};
+ghost use Rattle.std.specs.Prelude.{◌≡◌, ◌≢◌, true, None, Some, Option, IfOk, IfErr, length};
+ghost use Rattle.spin_core.specs.Cell.{off, writes, use_of, Moved, Keeps};
 ghost use Rattle.spin_core.specs.Own.{what};
 ghost use Rattle.spin_core.specs.Passes.{IsOut, Nothing, mark_of};
 ghost use Rattle.spin_core.specs.Spots.{Releases, Since};
 ghost use Rattle.spin_core.specs.Traced.{Found, MayKnow, Named, Watches};
-ghost use Rattle.spin_step.specs.Schedules.{may_write};
+ghost use Rattle.spin_step.specs.Acts.{next_of};
+ghost use Rattle.spin_step.specs.Schedules.{may_write, resting};
 ghost use Rattle.spin_step.specs.declared.place.Seat.{Seat};
-ghost use Rattle.spin_step.specs.declared.place.Seat.TheVariants.{Idle, Holding};
+ghost use Rattle.spin_step.specs.declared.stepped.Next.TheVariants.{Answers};
+ghost use Rattle.spin_step.specs.declared.place.Seat.TheVariants.{Idle, Calling, Holding};
 ghost use Rattle.spin_step.specs.declared.answer.Answer.{Answer as AnAnswer};
 ghost use Rattle.spin_step.specs.declared.answer.Answer.TheVariants.{Granted, Refused, Done};
 ghost use Rattle.spin_step.specs.declared.place.Hold.{Hold as AHold};
-ghost use Rattle.spin_session.specs.Meaning.{Peeks, seat_after, table_at, use_at, model_at};
+ghost use Rattle.spin_step.specs.declared.table.Operation.TheVariants.{Exchange};
+ghost use Rattle.spin_session.specs.Meaning.{Peeks, seat_now, seat_after, table_at, use_at, model_at};
 ghost use Rattle.spin_session.specs.Operating.{Operates};
 ghost use Rattle.spin_session.specs.Passes.{Grants, Writes};
-ghost use Rattle.spin_session.specs.Turns.{TurnTold, SeesLast, Frees, IsAt, Knows, Quiet, StaysQuiet, Stands, MayBegin, Ended, Comes, GoesBy, GoesOn, Waits, Under, IsAnsweredBy, IsAnswered, IsAnsweredAtOnce, IsTry, IsLook, Tells, Calls, Spot, spot, is_granted};
+ghost use Rattle.spin_session.specs.Turns.{TurnTold, SeesLast, SeesOn, EndsWith, IsLedTo, LeapTold, FusesBy, either_call, either_step, Fuses, Lands, last_step, next_after, course_of, IsAt, Knows, Quiet, StaysQuiet, Stands, MayBegin, Ended, Comes, GoesBy, GoesOn, Waits, Under, IsAnsweredBy, IsAnswered, IsAnsweredAtOnce, IsTry, IsLook, Tells, Calls, Spot, spot, is_granted};
 
 use crate::second::Word;
 use crate::session::Session;
-use crate::table::{CallOf, Entry, Party, Peek, Runs, Turn};
+use crate::table::{Ahead, CallOf, Entry, Leap, LeapOf, Party, Peek, Runs, Turn};
 use spin_core::cell::{Permit, WritePermit};
 use spin_core::guard::{Guard, Release};
 use spin_core::relax::{RelaxStrategy, Strategy};
@@ -53,14 +56,14 @@ pub fn wait_for<'a, T, P: Runs<T>, R: RelaxStrategy, W: Wait>(
 ) -> SessionOf<'a, T, P>
     requires stands { Stands holds session }
     requires may { MayBegin P.tables P.meaning call holds session.permit.key }
-    requires answers { IsAnsweredBy P.tables call holds answer after session.permit.key }
+    requires answers { IsAnsweredBy P.tables P.meaning call holds answer after session.permit.key }
     ensures stands { Stands after result }
     ensures calls { Calls P.tables call answer (spot session.entry) (spot result) }
     ensures last { SeesLast result }
+    ensures sees { SeesOn P.meaning call holds session.entry.permit.value result }
 {
     let _ = (answer, after, strategy);
-    let point = point_of(&session, call, holds);
-    let (next, point, found, session) = round(session, call, point, holds);
+    let (next, point, found, session) = opening_round(session, call, holds);
     match next {
         Next::Answers(_, _) => session,
         Next::Continue(_) => wait::<T, P, R, W>(session, call, point, holds, found, rt),
@@ -82,13 +85,14 @@ pub fn begin<'a, T, P: Runs<T>>(
 ) -> Result<SessionOf<'a, T, P>, (P::Point, u64, SessionOf<'a, T, P>)>
     requires stands { Stands holds session }
     requires may { MayBegin P.tables P.meaning call holds session.permit.key }
-    requires answers { IsAnsweredBy P.tables call holds answer after session.permit.key }
+    requires answers { IsAnsweredBy P.tables P.meaning call holds answer after session.permit.key }
     ensures ended { IfOk result (λ now. Stands after now × SeesLast now × Calls P.tables call answer (spot session.entry) (spot now)) }
     ensures waits { IfErr result (λ on. Waits P.tables P.meaning call on.0 holds on.1 (spot session.entry) (spot on.2)) }
+    ensures sees { IfOk result (SeesOn P.meaning call holds session.entry.permit.value) }
+    ensures still { IfErr result (λ on. SeesOn P.meaning call holds session.entry.permit.value on.2) }
 {
     let _ = (answer, after);
-    let point = point_of(&session, call, holds);
-    let (next, point, found, session) = round(session, call, point, holds);
+    let (next, point, found, session) = opening_round(session, call, holds);
     match next {
         Next::Answers(_, _) => Ok(session),
         Next::Continue(_) => Err((point, found, session)),
@@ -113,12 +117,41 @@ pub fn go_on<'a, T, P: Runs<T>, R: RelaxStrategy, W: Wait>(
     requires knows { Knows P.meaning (spot on.2) }
     requires goes { GoesOn P.tables call on.0 holds on.1 on.2.permit.key (what on.2.permit.view) }
     requires quiet { StaysQuiet P.meaning call holds }
-    ensures calls { (p : Spot T P.Call P.Point) → Waits P.tables P.meaning call on.entry.0 holds on.entry.1 p (spot on.entry.2) → IsAnsweredBy P.tables call holds answer after p.0 → Stands after result × Calls P.tables call answer p (spot result) }
+    ensures sees { (v : Option T) → SeesOn P.meaning call holds v on.entry.2 → SeesOn P.meaning call holds v result }
+    ensures calls { (p : Spot T P.Call P.Point) → Waits P.tables P.meaning call on.entry.0 holds on.entry.1 p (spot on.entry.2) → IsAnsweredBy P.tables P.meaning call holds answer after p.0 → Stands after result × Calls P.tables call answer p (spot result) }
     ensures last { SeesLast result }
 {
     let _ = (answer, after, strategy);
     let (point, found, session) = on;
     wait::<T, P, R, W>(session, call, point, holds, found, rt)
+}
+
+/// Makes one more round of a call that waits at the point `at`, and is always answered so. This function does not wait.
+///
+/// # Contract
+/// With `Ok` the party has made exactly this call, with this answer, and holds `after`. With `Err` it waits in the call.
+pub fn again<'a, T, P: Runs<T>>(
+    session: SessionOf<'a, T, P>,
+    call: P::Call,
+    at: P::Point,
+    holds: Option<Hold>,
+    answer: Answer<()>,
+    after: Option<Hold>,
+) -> Result<SessionOf<'a, T, P>, (P::Point, u64, SessionOf<'a, T, P>)>
+    requires knows { Knows P.meaning (spot session) }
+    requires at { what session.permit.view ≡ Some (Calling call at holds) }
+    requires quiet { StaysQuiet P.meaning call holds }
+    ensures ended { (p : Spot T P.Call P.Point) → Under P.tables P.meaning call p (spot session.entry) → IsAnsweredBy P.tables P.meaning call holds answer after p.0 → IfOk result (λ now. Stands after now × Calls P.tables call answer p (spot now)) }
+    ensures last { IfOk result (λ now. SeesLast now) }
+    ensures waits { IfErr result (λ then. Knows P.meaning (spot then.2) × GoesOn P.tables call then.0 holds then.1 then.2.permit.key (what then.2.permit.view)) }
+    ensures under { (p : Spot T P.Call P.Point) → Under P.tables P.meaning call p (spot session.entry) → IfErr result (λ then. Under P.tables P.meaning call p (spot then.2)) }
+{
+    let _ = (answer, after);
+    let (next, point, found, session) = round(session, call, at, holds);
+    match next {
+        Next::Answers(_, _) => Ok(session),
+        Next::Continue(_) => Err((point, found, session)),
+    }
 }
 
 /// Makes the first round of a call that waits, whatever its answer is and what the party then holds. This function does
@@ -139,8 +172,7 @@ pub fn first_round<'a, T, P: Runs<T>>(
     ensures knows { IfOk result (λ now. Knows P.meaning (spot now) × SeesLast now) }
     ensures waits { IfErr result (λ on. Waits P.tables P.meaning call on.0 holds on.1 (spot session.entry) (spot on.2)) }
 {
-    let point = point_of(&session, call, holds);
-    let (next, point, found, session) = round(session, call, point, holds);
+    let (next, point, found, session) = opening_round(session, call, holds);
     match next {
         Next::Answers(_, _) => Ok(session),
         Next::Continue(_) => Err((point, found, session)),
@@ -185,24 +217,27 @@ pub fn try_for<'a, T, P: Runs<T>, W: Wait>(
 ) -> Result<SessionOf<'a, T, P>, SessionOf<'a, T, P>>
     requires stands { Stands holds session }
     requires may { MayBegin P.tables P.meaning call holds session.permit.key }
-    requires tries { IsTry P.tables call holds after session.permit.key }
+    requires tries { IsTry P.tables P.meaning call holds after session.permit.key }
     ensures granted { IfOk result (λ now. Stands after now × SeesLast now × Calls P.tables call Granted (spot session.entry) (spot now)) }
     ensures refused { IfErr result (λ now. Stands holds now × Calls P.tables call Refused (spot session.entry) (spot now)) }
+    ensures sees { IfOk result (SeesOn P.meaning call holds session.entry.permit.value) }
+    ensures still { IfErr result (SeesOn P.meaning call holds session.entry.permit.value) }
 {
     let _ = after;
-    let mut at = point_of(&session, call, holds);
+    let (made, _, _, session) = first(session, call, holds);
+    let mut next = made;
     let mut party = session;
     for _ in rt.forever() {
-        let (next, _, further) = step(party, call, at, holds);
         match next {
             Next::Answers(answer, _) => {
                 if is_granted(answer) {
-                    return Ok(further);
+                    return Ok(party);
                 }
-                return Err(further);
+                return Err(party);
             }
             Next::Continue(point) => {
-                at = point;
+                let (made, _, further) = step(party, call, point, holds);
+                next = made;
                 party = further;
             }
         }
@@ -223,14 +258,51 @@ pub fn attempt<'a, T, P: Runs<T>>(
 ) -> Result<SessionOf<'a, T, P>, SessionOf<'a, T, P>>
     requires stands { Stands holds session }
     requires may { MayBegin P.tables P.meaning call holds session.permit.key }
-    requires tries { IsTry P.tables call holds after session.permit.key }
+    requires tries { IsTry P.tables P.meaning call holds after session.permit.key }
     requires once { IsAnswered P.tables call holds session.permit.key }
     ensures granted { IfOk result (λ now. Stands after now × SeesLast now × Calls P.tables call Granted (spot session.entry) (spot now)) }
     ensures refused { IfErr result (λ now. Stands holds now × Calls P.tables call Refused (spot session.entry) (spot now)) }
+    ensures sees { IfOk result (SeesOn P.meaning call holds session.entry.permit.value) }
+    ensures still { IfErr result (SeesOn P.meaning call holds session.entry.permit.value) }
 {
     let _ = after;
     let (answer, _, session, _) = in_three(session, call, holds);
     if is_granted(answer) {
+        Ok(session)
+    } else {
+        Err(session)
+    }
+}
+
+/// Makes one of two whole calls by one exchange: `won` if it finds the number `ahead.old`, and otherwise `lost`.
+///
+/// # Contract
+/// With `Ok` the party has made exactly the call `won`, which was granted, and holds `after`. With `Err` it holds what it
+/// held before.
+pub fn exchange_for<'a, T, P: Runs<T>>(
+    session: SessionOf<'a, T, P>,
+    won: P::Call,
+    lost: P::Call,
+    holds: Option<Hold>,
+    after: Option<Hold>,
+    ahead: Ahead<P::Point>,
+) -> Result<SessionOf<'a, T, P>, SessionOf<'a, T, P>>
+    requires stands { Stands holds session }
+    requires may { MayBegin P.tables P.meaning won holds session.permit.key }
+    requires looks { MayBegin P.tables P.meaning lost holds session.permit.key × IsLook P.tables lost holds session.permit.key }
+    requires fuses { FusesBy (table_at P.tables session.permit.key) P.meaning (either_call won lost ahead) holds (either_step ((table_at P.tables session.permit.key).start lost holds) ahead) ahead.old ahead.new }
+    requires wins { next_of (table_at P.tables session.permit.key) won ahead.point holds ahead.number ≡ Answers Granted after }
+    ensures granted { IfOk result (λ now. Stands after now × SeesLast now × Calls P.tables won Granted (spot session.entry) (spot now)) }
+    ensures sees { IfOk result (SeesOn P.meaning won holds session.entry.permit.value) }
+    ensures refused { IfErr result (Stands holds) }
+{
+    let _ = after;
+    let start = point_of(&session, lost, holds);
+    P::laws();
+    let Session { permit, seen } = session;
+    let (found, permit, seen) = leap::<T, P, Brand>(permit, seen, start, ahead, won, lost);
+    let session = Session { permit, seen };
+    if found == ahead.old {
         Ok(session)
     } else {
         Err(session)
@@ -254,6 +326,7 @@ pub fn make<'a, T, P: Runs<T>>(
     ensures stands { Stands after result }
     ensures calls { Calls P.tables call answer (spot session.entry) (spot result) }
     ensures last { SeesLast result }
+    ensures sees { SeesOn P.meaning call holds session.entry.permit.value result }
 {
     let _ = (answer, after);
     let point = point_of(&session, call, holds);
@@ -358,27 +431,32 @@ pub fn peek<'a, T, P: Runs<T>>(
     (number, permit.into_writer(), seen)
 }
 
-/// Makes a call of one step of a holder that writes, which then holds nothing. The holder first writes its value.
+/// Makes a call of one step of a holder that writes, which then holds `after`. The holder first writes its value, and
+/// then no longer writes.
 ///
 /// # Contract
-/// The party is out (`out`). If it knew the whole history, it has written the value and made exactly this call
-/// (`releases`).
-pub fn free<'a, T, P: Runs<T>>(
+/// If the party knew the whole history, it has written the value and made exactly this call (`releases`). If it goes on
+/// using the value, it sees the same one (`same`).
+pub fn give<'a, T, P: Runs<T>>(
     writer: WritePermit<'a, T, Party<P::Call, P::Point>, P>,
     seen: Watch<Entry<P::Call, T>>,
     call: P::Call,
     holds: Hold,
+    after: Option<Hold>,
 ) -> SessionOf<'a, T, P>
     requires knows { MayKnow (P.holds writer.key) (P.ways writer.key) seen }
     requires alone { use_at P.meaning writer.view.0 ≡ writes → writer.view.0 ≡ Holding holds }
     requires begins { ((table_at P.tables writer.key).asks call (Some holds)).begins (Some holds) ≡ true }
     requires held { (may_write holds ≡ true) × (use_at P.meaning (Holding holds) ≡ writes) }
-    requires frees { Frees P.tables call holds writer.key }
-    ensures out { IsOut Idle (what result.permit.view) }
+    requires ends { EndsWith P.tables call holds after writer.key }
+    requires stops { use_at P.meaning (resting after) ≢ writes }
+    ensures seat { seat_now (what result.permit.view) ≡ resting after }
     ensures knows { mark_of result.permit.view ≡ length result.seen.entries }
     ensures key { result.permit.key ≡ writer.entry.key }
+    ensures same { use_at P.meaning (resting after) ≢ off → result.permit.value ≡ Some writer.entry.value }
     ensures releases { writer.entry.key.name ≡ seen.name → writer.entry.view.2 ≡ length seen.entries → Releases (model_at P.tables) (λ o. o) call Done writer.entry.value (writer.entry.key, Some writer.entry.view, seen) (spot result) }
 {
+    let _ = after;
     P::laws();
     let permit = writer.into_permit();
     let table = P::table();
@@ -460,6 +538,7 @@ fn wait<'a, T, P: Runs<T>, R: RelaxStrategy, W: Wait>(
     ensures knows { Knows P.meaning (spot result) }
     ensures ended { (p : Spot T P.Call P.Point) → Under P.tables P.meaning call p (spot session.entry) → (a : AnAnswer (Unit {0})) × (after : Option AHold) × Ended P.tables P.meaning call holds a after p (spot result) }
     ensures last { SeesLast result }
+    ensures sees { (v : Option T) → SeesOn P.meaning call holds v session.entry → SeesOn P.meaning call holds v result }
 {
     let mut last = 0;
     let mut given = 0;
@@ -487,8 +566,11 @@ fn wait<'a, T, P: Runs<T>, R: RelaxStrategy, W: Wait>(
     unreachable!()
 }
 
-// Returns the point at which the call goes on, after a step at `point` that found this number.
-fn point_after<T, P: Runs<T>>(
+/// Returns the point at which the call goes on, after a step at `point` that found this number.
+///
+/// # Contract
+/// The party is at this point of the call.
+pub fn point_after<T, P: Runs<T>>(
     session: &SessionOf<'_, T, P>,
     call: P::Call,
     point: P::Point,
@@ -496,7 +578,7 @@ fn point_after<T, P: Runs<T>>(
     found: u64,
 ) -> P::Point
     requires { GoesOn P.tables call point holds found session.now.permit.key (what session.now.permit.view) }
-    ensures { IsAt P.tables call result holds session.now.permit.key (what session.now.permit.view) }
+    ensures { what session.now.permit.view ≡ Some (Calling call result holds) }
 {
     let _ = session;
     P::laws();
@@ -506,8 +588,35 @@ fn point_after<T, P: Runs<T>>(
     }
 }
 
-// Makes the steps of the call from `point` up to the first after which it pauses, but at most three. Returns the point of
+// Begins the call, and makes its steps up to the first after which it pauses, but at most three. Returns the point of
 // the last step, and the number that it found.
+#[inline(always)]
+fn opening_round<'a, T, P: Runs<T>>(
+    session: SessionOf<'a, T, P>,
+    call: P::Call,
+    holds: Option<Hold>,
+) -> (
+    Next<P::Point, Answer<()>>,
+    P::Point,
+    u64,
+    SessionOf<'a, T, P>,
+)
+    requires stands { Stands holds session }
+    requires may { MayBegin P.tables P.meaning call holds session.permit.key }
+    ensures knows { Knows P.meaning (spot result.3) }
+    ensures key { result.3.permit.key ≡ session.entry.permit.key }
+    ensures seat { what result.3.permit.view ≡ Some (seat_after call holds result.0) }
+    ensures comes { Comes P.tables P.meaning call holds result.0 (spot session.entry) (spot result.3) }
+    ensures goes { GoesBy P.tables P.meaning call result.1 holds result.2 result.0 session.entry.permit.key }
+    ensures last { SeesLast result.3 }
+    ensures sees { SeesOn P.meaning call holds session.entry.permit.value result.3 }
+{
+    let made = first(session, call, holds);
+    let (next, point, found, session) = further(made, call, holds);
+    further((next, point, found, session), call, holds)
+}
+
+// Makes the steps of the call from `point` on, as `opening_round` does.
 #[inline(always)]
 fn round<'a, T, P: Runs<T>>(
     session: SessionOf<'a, T, P>,
@@ -521,7 +630,7 @@ fn round<'a, T, P: Runs<T>>(
     SessionOf<'a, T, P>,
 )
     requires knows { Knows P.meaning (spot session) }
-    requires at { IsAt P.tables call point holds session.permit.key (what session.permit.view) }
+    requires at { what session.permit.view ≡ Some (Calling call point holds) }
     requires quiet { StaysQuiet P.meaning call holds }
     ensures knows { Knows P.meaning (spot result.3) }
     ensures key { result.3.permit.key ≡ session.entry.permit.key }
@@ -529,6 +638,7 @@ fn round<'a, T, P: Runs<T>>(
     ensures comes { (p : Spot T P.Call P.Point) → Under P.tables P.meaning call p (spot session.entry) → Comes P.tables P.meaning call holds result.0 p (spot result.3) }
     ensures goes { GoesBy P.tables P.meaning call result.1 holds result.2 result.0 session.entry.permit.key }
     ensures last { SeesLast result.3 }
+    ensures sees { (v : Option T) → SeesOn P.meaning call holds v session.entry → SeesOn P.meaning call holds v result.3 }
 {
     let (next, found, session) = step(session, call, point, holds);
     let (next, point, found, session) = further((next, point, found, session), call, holds);
@@ -563,6 +673,7 @@ fn further<'a, T, P: Runs<T>>(
     ensures comes { (p : Spot T P.Call P.Point) → Comes P.tables P.meaning call holds made.entry.0 p (spot made.entry.3) → Comes P.tables P.meaning call holds result.0 p (spot result.3) }
     ensures goes { GoesBy P.tables P.meaning call result.1 holds result.2 result.0 made.entry.3.permit.key }
     ensures last { SeesLast result.3 }
+    ensures sees { (v : Option T) → SeesOn P.meaning call holds v made.entry.3 → SeesOn P.meaning call holds v result.3 }
 {
     let (next, from, found, session) = made;
     match next {
@@ -595,9 +706,9 @@ pub fn in_three<'a, T, P: Runs<T>>(
     ensures knows { Knows P.meaning (spot result.2) }
     ensures ended { Ended P.tables P.meaning call holds result.0 result.1 (spot session.entry) (spot result.2) }
     ensures last { SeesLast result.2 }
+    ensures sees { SeesOn P.meaning call holds session.entry.permit.value result.2 }
 {
-    let first = point_of(&session, call, holds);
-    let (next, found, session) = step(session, call, first, holds);
+    let (next, _, found, session) = first(session, call, holds);
     match next {
         Next::Answers(answer, after) => (answer, after, session, found),
         Next::Continue(second) => {
@@ -622,6 +733,102 @@ fn is_granted(answer: Answer<()>) -> bool
     matches!(answer, Answer::Granted)
 }
 
+// Makes the first operation of the call. It is one step, or several; if it is none, a step follows. Returns the point of
+// the last step, and the number that it found. That point is `reached` from the first one.
+#[inline(always)]
+fn first<'a, T, P: Runs<T>>(
+    session: SessionOf<'a, T, P>,
+    call: P::Call,
+    holds: Option<Hold>,
+) -> (
+    Next<P::Point, Answer<()>>,
+    P::Point,
+    u64,
+    SessionOf<'a, T, P>,
+)
+    requires stands { Stands holds session }
+    requires may { MayBegin P.tables P.meaning call holds session.permit.key }
+    ensures knows { Knows P.meaning (spot result.3) }
+    ensures key { result.3.permit.key ≡ session.entry.permit.key }
+    ensures seat { what result.3.permit.view ≡ Some (seat_after call holds result.0) }
+    ensures comes { Comes P.tables P.meaning call holds result.0 (spot session.entry) (spot result.3) }
+    ensures goes { GoesBy P.tables P.meaning call result.1 holds result.2 result.0 session.entry.permit.key }
+    ensures reached { IsLedTo P.tables P.meaning call holds result.1 result.2 session.entry.permit.key }
+    ensures last { SeesLast result.3 }
+    ensures sees { SeesOn P.meaning call holds session.entry.permit.value result.3 }
+{
+    let point = point_of(&session, call, holds);
+    let Some(ahead) = P::ahead(call, holds) else {
+        let (next, found, session) = step(session, call, point, holds);
+        return (next, point, found, session);
+    };
+    P::laws();
+    let table = P::table();
+    let (found, session) = begin_by(session, call, holds, point, ahead);
+    if found == ahead.old {
+        let next = table.next(call, ahead.point, holds, ahead.number);
+        (next, ahead.point, ahead.number, session)
+    } else if ahead.looks {
+        (table.next(call, point, holds, found), point, found, session)
+    } else {
+        let (next, found, session) = step(session, call, point, holds);
+        (next, point, found, session)
+    }
+}
+
+// Begins the call by this exchange. Returns the number found.
+#[inline(always)]
+fn begin_by<'a, T, P: Runs<T>>(
+    session: SessionOf<'a, T, P>,
+    call: P::Call,
+    holds: Option<Hold>,
+    start: P::Point,
+    ahead: Ahead<P::Point>,
+) -> (u64, SessionOf<'a, T, P>)
+    requires stands { Stands holds session }
+    requires may { MayBegin P.tables P.meaning call holds session.permit.key }
+    requires start { start ≡ (table_at P.tables session.permit.key).start call holds }
+    requires fuses { Fuses (table_at P.tables session.permit.key) P.meaning call holds ahead }
+    ensures knows { Knows P.meaning (spot result.1) }
+    ensures key { result.1.permit.key ≡ session.entry.permit.key }
+    ensures lands { Lands (table_at P.tables session.entry.permit.key) P.meaning call holds (last_step start ahead result.0) (seat_now (what result.1.permit.view)) }
+    ensures seat { what result.1.permit.view ≡ Some (seat_after call holds (next_after (table_at P.tables session.entry.permit.key) call holds (last_step start ahead result.0))) }
+    ensures since { Since (model_at P.tables) (course_of call (next_after (table_at P.tables session.entry.permit.key) call holds (last_step start ahead result.0))) (spot session.entry) (spot result.1) }
+    ensures last { SeesLast result.1 }
+    ensures sees { SeesOn P.meaning call holds session.entry.permit.value result.1 }
+{
+    P::laws();
+    let _ = holds;
+    let Session { permit, seen } = session;
+    let (found, permit, seen) = leap::<T, P, Brand>(permit, seen, start, ahead, call, call);
+    (found, Session { permit, seen })
+}
+
+// Makes an exchange that is the first steps of one of these calls.
+#[inline(always)]
+fn leap<'a, T, P: Runs<T>, K: LeapOf<P::Call, P::Point>>(
+    permit: Permit<'a, T, Party<P::Call, P::Point>, P>,
+    seen: Watch<Entry<P::Call, T>>,
+    start: P::Point,
+    ahead: Ahead<P::Point>,
+    call: P::Call,
+    other: P::Call,
+) -> (
+    u64,
+    Permit<'a, T, Party<P::Call, P::Point>, P>,
+    Watch<Entry<P::Call, T>>,
+)
+    requires knows { MayKnow (P.holds permit.key) (P.ways permit.key) seen }
+    requires keeps { Operates P.Word.words (P.holds permit.key) (P.ways permit.key) permit.view permit.value 0 (Exchange ahead.old ahead.new) (LeapTold P.tables P.meaning K.calls K.last permit.key permit.view) }
+    ensures moved { Moved (Watches (Named (P.holds permit.entry.key) (P.ways permit.entry.key) seen.name) seen result.2 (LeapTold P.tables P.meaning K.calls K.last permit.entry.key permit.entry.view) result.0) result.1.view }
+    ensures kept { Keeps (P.ways permit.entry.key) permit.entry.view result.1.view permit.entry.value result.1.value }
+    ensures found { Found (P.ways permit.entry.key) permit.entry.view result.1.view permit.entry.value result.1.value result.2 }
+    ensures key { result.1.key ≡ permit.entry.key }
+{
+    let _ = (start, call, other);
+    permit.exchange::<Leap<P, K>>(ahead.old, ahead.new, seen)
+}
+
 // Makes the step of the call at `point`, or begins the call there. Returns the number found, too.
 #[inline(always)]
 fn step<'a, T, P: Runs<T>>(
@@ -639,6 +846,7 @@ fn step<'a, T, P: Runs<T>>(
     ensures comes { (p : Spot T P.Call P.Point) → Under P.tables P.meaning call p (spot session.entry) → Comes P.tables P.meaning call holds result.0 p (spot result.2) }
     ensures goes { GoesBy P.tables P.meaning call point holds result.1 result.0 session.entry.permit.key }
     ensures last { SeesLast result.2 }
+    ensures sees { SeesOn P.meaning call holds session.entry.permit.value result.2 }
 {
     P::laws();
     let table = P::table();

@@ -1,10 +1,11 @@
 //! The rule of a cell that runs a lock's table. Begin with [`Runs`].
 ghost use Rattle.std.specs.Prelude.{◌≡◌, ℕ, Bool, false, None, Option};
+ghost use Rattle.std.specs.Option.{IfSome};
 ghost use Rattle.spin_step.specs.Acts.{Table as ItsTable};
 ghost use Rattle.spin_step.specs.declared.answer.Answer.{Answer as AnAnswer};
 ghost use Rattle.spin_session.specs.Meaning.{Meaning};
 ghost use Rattle.spin_session.specs.Operating.{Executes};
-ghost use Rattle.spin_session.specs.Turns.{PeekTold, TurnTold};
+ghost use Rattle.spin_session.specs.Turns.{Fuses, LeapTold, PeekTold, TurnTold};
 
 use crate::second::Word;
 use spin_core::cell::{Play, Rule};
@@ -19,6 +20,19 @@ pub type Party<C, L> = tie::Numbered<Seat<C, L>>;
 
 /// An entry of the trace.
 pub type Entry<C, T> = tie::Entry<C, T>;
+
+/// An exchange of `old` for `new`, by which a call begins.
+///
+/// If it finds `old`, it makes several of the call's steps. The last of them is at `point`, and finds `number`. If it
+/// finds another number, it makes the call's first step if `looks` is true, and otherwise none.
+#[derive(Clone, Copy)]
+pub struct Ahead<L> {
+    pub old: u64,
+    pub new: u64,
+    pub point: L,
+    pub number: u64,
+    pub looks: bool,
+}
 
 /// The rule of a cell that runs a table.
 pub trait Runs<T>: Rule<
@@ -71,6 +85,17 @@ pub trait Runs<T>: Rule<
         }
     }
 
+    /// Returns the exchange by which the call begins, if it does not begin by its first step. By default it does.
+    ///
+    /// # Contract
+    /// Whatever number the exchange finds, it makes the first steps of the call (`Fuses`).
+    fn ahead(call: Self::Call, holds: Option<Hold>) -> Option<Ahead<Self::Point>>
+        ensures { (start : ℕ) (value : T) → IfSome result (Fuses (tables start value) meaning call holds) }
+    {
+        let _ = (call, holds);
+        None
+    }
+
     /// States that the cell runs the table.
     fn laws()
         ensures { Executes Self.Word.words tables meaning Self.holds Self.ways };
@@ -100,7 +125,34 @@ impl<T, P: Runs<T>, K: CallOf<P::Call>> Play<
     Party<P::Call, P::Point>,
     Entry<P::Call, T>,
 > for Turn<P, K> {
-    ghost told = { λ key old new before. TurnTold (P.tables) P.meaning K.gives K.call key before };
+    ghost told = { λ key old new before. TurnTold P.tables P.meaning K.gives K.call key before };
+}
+
+/// The first steps of a call by one operation. The proof picks the call and the last of its steps, by the number that
+/// the operation finds.
+pub trait LeapOf<C, L> {
+    ghost calls: { ℕ → Option C };
+
+    ghost last: { ℕ → Option (L × ℕ) };
+}
+
+impl<C, L> LeapOf<C, L> for Brand {
+    ghost calls = { λ n. None };
+
+    ghost last = { λ n. None };
+}
+
+/// The first steps of the call `K` by one operation.
+pub struct Leap<P, K> {
+    marker: PhantomData<(P, K)>,
+}
+
+impl<T, P: Runs<T>, K: LeapOf<P::Call, P::Point>> Play<
+    Opening<T>,
+    Party<P::Call, P::Point>,
+    Entry<P::Call, T>,
+> for Leap<P, K> {
+    ghost told = { λ key old new before. LeapTold P.tables P.meaning K.calls K.last key before };
 }
 
 /// A load of the word at place 1 that is no step of a call.
@@ -109,7 +161,7 @@ pub struct Peek<P> {
 }
 
 impl<T, P: Runs<T>> Play<Opening<T>, Party<P::Call, P::Point>, Entry<P::Call, T>> for Peek<P> {
-    ghost told = { λ key old new before. PeekTold (P.tables) P.Word.words P.meaning key before };
+    ghost told = { λ key old new before. PeekTold P.tables P.Word.words P.meaning key before };
 }
 
 fn is_load(operation: Operation) -> bool {

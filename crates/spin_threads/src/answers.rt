@@ -9,7 +9,7 @@
 ghost use Rattle.std.specs.Prelude.{◌≡◌, ◌⊎◌, ◌<◌, ◌≤◌, ℕ, Bool, true, false, length};
 ghost use Rattle.spin_core.specs.declared.tie.Opening.{Opening};
 ghost use Rattle.spin_fair.specs.Fair as fair_mutex;
-ghost use Rattle.spin_fair.specs.declared.fair.rule.View.{View as FairMutexView};
+ghost use Rattle.spin_fair.specs.Fair.{View as FairMutexView};
 ghost use Rattle.spin_flag.specs.Flag as spin_mutex;
 ghost use Rattle.spin_step.specs.Calls.{is_starved, readers, writers};
 ghost use Rattle.spin_step.specs.TicketCalls.{is_left};

@@ -7,7 +7,7 @@ ghost use Rattle.spin_core.specs.Run.{IsPlayed};
 ghost use Rattle.spin_core.specs.declared.tie.Opening.{Opening};
 ghost use Rattle.spin_core.specs.declared.trace.Trace.{Trace};
 ghost use Rattle.spin_fair.specs.Fair as fair_mutex;
-ghost use Rattle.spin_fair.specs.declared.fair.rule.View.{View as FairMutexView};
+ghost use Rattle.spin_fair.specs.Fair.{View as FairMutexView};
 ghost use Rattle.spin_flag.specs.Flag as spin_mutex;
 ghost use Rattle.spin_step.specs.FlagCalls.{flag_machine};
 ghost use Rattle.spin_step.specs.OnceCalls.{once_machine};
@@ -49,7 +49,7 @@ pub fn between_any_two_steps_of_a_ticket_mutex<T>()
 /// # Contract
 /// `Between` says this of the word and the parties of the lock's cell, after the moves in the cell's trace.
 pub fn between_any_two_steps_of_a_fair_mutex<T>()
-    ensures { (opening : Opening T) (word : ℕ) (trace : Trace (fair_mutex.Done T) (Unit {0})) (parties : List (Numbered FairMutexView)) → fair_mutex.IsFair opening word trace parties → Between (fair_mutex.model opening.value) fair_mutex.seat_of fair_mutex.words_of trace.entries (word, trace.word) parties }
+    ensures { (opening : Opening T) (word : ℕ) (trace : Trace (fair_mutex.Done T) (Unit {0})) (parties : List (Numbered FairMutexView)) → fair_mutex.IsFair opening word trace parties → Between (fair_mutex.model opening.value) (λ view. view) fair_mutex.words_of trace.entries (word, trace.word) parties }
 {}
 
 /// Between any two steps of the threads that use a `Seats`, the lock's word is the number of parties that have a seat.

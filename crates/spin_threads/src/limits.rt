@@ -10,7 +10,7 @@ ghost use Rattle.spin_core.specs.declared.tie.Opening.{Opening};
 ghost use Rattle.spin_core.specs.Own.{Numbered};
 ghost use Rattle.spin_core.specs.Passes.{IsCall, Made};
 ghost use Rattle.spin_fair.specs.Fair as fair_mutex;
-ghost use Rattle.spin_fair.specs.declared.fair.rule.View.{View as FairMutexView};
+ghost use Rattle.spin_fair.specs.Fair.{View as FairMutexView};
 ghost use Rattle.spin_flag.specs.Flag as spin_mutex;
 ghost use Rattle.spin_step.specs.FlagCalls.{flag_machine};
 ghost use Rattle.spin_step.specs.declared.answer.Answer.TheVariants.{Granted};

@@ -1,55 +1,37 @@
-//! What a party is to a `FairMutex`, and what the word of the lock says of its parties. Begin at [`FairRule`].
-ghost use Rattle.std.specs.Prelude.{ℕ, Option, refl};
+//! The rule of the cell of a `FairMutex`, which runs the table of a fair lock. Begin at [`FairRule`].
+ghost use Rattle.std.specs.Prelude.{◌≡◌, refl};
 ghost use Rattle.spin_core.specs.Cell.{use_of};
-ghost use Rattle.spin_core.specs.Own.{what};
 ghost use Rattle.spin_core.specs.Values.{untold};
-ghost use Rattle.spin_step_more.specs.declared.fair_calls.FairCall.TheVariants.{TryLock, TryLockStarver, StarverTryLockFair, StarverTryLock, StarverLock};
-ghost use Rattle.spin_fair.specs.declared.fair.rule.View.{View};
-ghost use Rattle.spin_fair.specs.Fair.{IsFair, Told, Turn, says_of, fair_ways, use_of_party, call_of, looks_by, tries_by, tried_by, looked_by, registers_by, alone_by, sets_by, awaits_by, served_by, gives_up_by, frees_by};
+ghost use Rattle.spin_session.specs.Meaning.{ways_of};
+ghost use Rattle.spin_step_more.specs.declared.fair_calls.FairPoint.TheVariants.{Unregister};
+ghost use Rattle.spin_fair.specs.Fair.{IsFair, fair_meaning, fair_tables, use_of_party};
 
-use spin_core::cell::{Play, Rule, WritePermit};
+use super::STARVATION_SPINS;
+use spin_core::cell::{Rule, WritePermit};
 use spin_core::guard::{self, Uses};
-use spin_core::tie::{self, Opening};
+use spin_core::relax::MAX_HINTS;
+use spin_core::tie::Opening;
 use spin_core::trace::{Trace, Watch};
-use spin_step_more::{FairCall, fair};
-use std::marker::PhantomData;
+use spin_session::calls::{finish, give};
+use spin_session::table::{self, Ahead, Runs};
+use spin_step::Hold;
+use spin_step_more::fair::{self, HOLDER, STARVER};
+use spin_step_more::{FairCall, FairPoint, FairTable};
 
-/// What a party is to the lock: where it is in a call, or what it holds.
-#[derive(Clone, Copy)]
-pub enum View {
-    Idle,
-    /// It is registered as a starver, and in no call.
-    Starving,
-    /// It holds the lock, and acquired it as a newcomer.
-    Holding,
-    /// It holds the lock, and acquired it as a starver.
-    Served,
-    /// It is in `lock`, and its next step is the exchange. The number counts looks that found the lock held. The count
-    /// stops once there are enough looks to starve.
-    Trying(usize),
-    /// It is in `lock`, and its next step is a look. The number counts as in `Trying`.
-    Looking(usize),
-    /// It is in `lock`, and has looked often enough to register.
-    Loading,
-    /// It is in this call. Its next step is an exchange that expects this word. If the exchange finds it, the party is
-    /// registered.
-    Registering(FairCall, usize),
-    /// It is a starver in this call, and its next step sets the flag.
-    Setting(FairCall),
-    /// It is a starver in this call, and its next step is a look.
-    Awaiting(FairCall),
-    /// It has set the flag in this call, and is still registered. It uses the value once it has stopped starving.
-    HoldingStarving(FairCall),
-}
+/// A party: where it is in a call, or what it holds; with its number.
+pub type Party = table::Party<FairCall, FairPoint>;
+
+/// An entry of the trace of a lock of values of type `T`.
+pub type Entry<T> = table::Entry<FairCall, T>;
 
 /// The rule of a [`FairMutex`](super::FairMutex): its word is the sum of what its holder and its starvers weigh.
 ///
 /// Callers need not name this type. It is a parameter of the type of a guard.
 ///
 /// # Contract
-/// `IsFair`: the word is that of a plain lock of these parties. The trace is a schedule of the lock's model. The
-/// schedule leads to this word, and to the seat that each party's view names. While nobody holds the lock, its value is
-/// the one that this schedule writes last (`IsLast`), until the owner borrows it.
+/// `IsFair`: the word is that of a plain lock whose holder and starvers are the parties that hold or starve. The trace
+/// is a schedule of the lock's model. The schedule leads to this word and to each party's seat. While nobody holds the
+/// lock, its value is the one that this schedule writes last (`IsLast`), until the owner borrows it.
 pub struct FairRule;
 
 impl<T> Rule<T, Party> for FairRule {
@@ -59,134 +41,81 @@ impl<T> Rule<T, Party> for FairRule {
 
     ghost holds = { IsFair };
 
-    ghost ways = { fair_ways };
+    ghost ways = { ways_of fair_meaning };
 
     ghost lent = { untold };
 }
 
-/// A party's view, its number, and how long the trace was after the party's last step.
-pub type Party = tie::Numbered<View>;
+impl<T> Runs<T> for FairRule {
+    type Call = FairCall;
 
-/// An entry of the trace of a lock of values of type `T`.
-pub type Entry<T> = tie::Entry<FairCall, T>;
+    type Word = ();
 
-/// The weight of the holder in the word.
-pub(super) const LOCKED: u64 = fair::HOLDER as u64;
+    type Point = FairPoint;
 
-/// The weight of a starver in the word.
-pub(super) const STARVER: u64 = fair::STARVER as u64;
+    type Table = FairTable;
 
-/// A kind of step of a party, other than the release.
-pub(super) trait Turns {
-    // The step, given the party's view and the word that its exchange expects.
-    ghost turn: { (T : Type 0) → Option View → ℕ → Turn T };
+    ghost tables = { fair_tables };
+
+    ghost meaning = { fair_meaning };
+
+    fn table() -> FairTable {
+        FairTable {
+            cap: fair::MAX_STARVERS,
+            patience: STARVATION_SPINS + 1,
+        }
+    }
+
+    // A thread that found the lock held pauses before it looks again. All pauses are equally long, so the number of
+    // looks measures time.
+    fn hints(
+        call: FairCall,
+        from: FairPoint,
+        to: FairPoint,
+        holds: Option<Hold>,
+        found: u64,
+        last: u32,
+    ) -> u32 {
+        let _ = (call, from, holds, found, last);
+        match to {
+            FairPoint::Look(_) | FairPoint::Await => MAX_HINTS,
+            _ => 0,
+        }
+    }
+
+    // The only starver of a free lock acquires it and stops starving by one exchange. The first exchange of `starve`
+    // expects a free lock, which saves a load.
+    fn ahead(call: FairCall, holds: Option<Hold>) -> Option<Ahead<FairPoint>> {
+        match (call, holds) {
+            (FairCall::StarverTryLockFair, Some(Hold::Starver)) => Some(alone(true)),
+            (FairCall::StarverTryLock | FairCall::StarverLock, Some(Hold::Starver)) => {
+                Some(alone(false))
+            }
+            (FairCall::Starve, None) => Some(Ahead {
+                old: 0,
+                new: STARVER as u64,
+                point: FairPoint::Register(0),
+                number: 0,
+                looks: true,
+            }),
+            _ => None,
+        }
+    }
+
+    fn laws() {}
 }
 
-/// The operation that makes a step of the kind `K`.
-pub(super) struct Makes<K> {
-    kind: PhantomData<K>,
-}
-
-impl<K: Turns, T> Play<Opening<T>, Party, Entry<T>> for Makes<K> {
-    ghost told = { λ key old new before. Told key.value (says_of (K.turn T (what before) old)) before };
-}
-
-/// The load of `is_locked`.
-pub(super) struct Load;
-
-impl Turns for Load {
-    ghost turn = { λ T view old. looks_by };
-}
-
-/// The compare-exchange of `try_lock`.
-pub(super) struct Attempt;
-
-impl Turns for Attempt {
-    ghost turn = { λ T view old. tries_by TryLock };
-}
-
-/// The compare-exchange of `try_lock_starver`.
-pub(super) struct AttemptToKnow;
-
-impl Turns for AttemptToKnow {
-    ghost turn = { λ T view old. tries_by TryLockStarver };
-}
-
-/// The compare-exchange of `lock`.
-pub(super) struct Tries;
-
-impl Turns for Tries {
-    ghost turn = { λ T view old. tried_by view };
-}
-
-/// The look of `lock`.
-pub(super) struct Looks;
-
-impl Turns for Looks {
-    ghost turn = { λ T view old. looked_by view };
-}
-
-/// A compare-exchange. If it finds the expected word, the party registers as a starver.
-pub(super) struct Register;
-
-impl Turns for Register {
-    ghost turn = { λ T view old. registers_by view old };
-}
-
-/// The compare-exchange of `try_lock_fair`. If it succeeds, the only starver acquires the lock and stops starving.
-pub(super) struct AttemptAlone;
-
-impl Turns for AttemptAlone {
-    ghost turn = { λ T view old. alone_by StarverTryLockFair };
-}
-
-/// The same compare-exchange, as the first operation of a starver's `try_lock`.
-pub(super) struct TryAlone;
-
-impl Turns for TryAlone {
-    ghost turn = { λ T view old. alone_by StarverTryLock };
-}
-
-/// The same compare-exchange, as the first operation of a starver's `lock`.
-pub(super) struct LockAlone;
-
-impl Turns for LockAlone {
-    ghost turn = { λ T view old. alone_by StarverLock };
-}
-
-/// The operation that sets the flag bit. If it finds the flag clear, the starver holds the lock.
-pub(super) struct SetFlag;
-
-impl Turns for SetFlag {
-    ghost turn = { λ T view old. sets_by (call_of view) };
-}
-
-/// A load by which a starver looks whether the flag is clear.
-pub(super) struct Await;
-
-impl Turns for Await {
-    ghost turn = { λ T view old. awaits_by view };
-}
-
-/// The subtraction by which a starver that holds the lock stops starving.
-pub(super) struct Unregister;
-
-impl Turns for Unregister {
-    ghost turn = { λ T view old. served_by view };
-}
-
-/// The subtraction by which a starver gives up its registration.
-pub(super) struct GivesUp;
-
-impl Turns for GivesUp {
-    ghost turn = { λ T view old. gives_up_by };
-}
-
-/// The subtraction that releases the lock.
-pub(super) struct Frees;
-
-impl<T> Play<Opening<T>, Party, Entry<T>> for Frees {
-    ghost told = { λ key old new before. Told key.value frees_by before };
+// Returns the exchange of the only starver. `looks` says whether it is a step of the call if another starves.
+fn alone(looks: bool) -> Ahead<FairPoint>
+    ensures { result ≡ record { old = 2; new = 1; point = Unregister; number = 3; looks = looks } }
+{
+    Ahead {
+        old: STARVER as u64,
+        new: HOLDER as u64,
+        point: FairPoint::Unregister,
+        number: (STARVER + HOLDER) as u64,
+        looks,
+    }
 }
 
 impl Uses<Party> for FairRule {
@@ -195,10 +124,9 @@ impl Uses<Party> for FairRule {
 
 impl<T> guard::Release<T, Party> for FairRule {
     fn release(writer: WritePermit<'_, T, Party, FairRule>) {
-        let (_, permit, _) = writer
-            .into_permit()
-            .subtract::<Frees>(LOCKED, Watch::nothing());
-        permit.leave();
+        let seen = Watch::nothing();
+        let release = FairCall::Release;
+        finish(give::<T, FairRule>(writer, seen, release, Hold::Write, None));
     }
 
     ghost same = { λ key view. refl };

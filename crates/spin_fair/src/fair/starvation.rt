@@ -5,8 +5,11 @@ ghost use Rattle.spin_core.specs.Guard.{IsHolder};
 ghost use Rattle.spin_fair.specs.Fair.{use_of_party};
 
 use super::FairMutexGuard;
-use super::starving::{StarvingPass, wait_as_starver};
-use spin_core::relax::{RelaxStrategy, Spin};
+use super::starving::StarvingPass;
+use spin_core::relax::{RelaxStrategy, Spin, Strategy};
+use spin_session::calls::{begin, go_on, guarded};
+use spin_step::{Answer, Hold};
+use spin_step_more::FairCall;
 use std::sync::Wait;
 
 /// A registered starver of a `FairMutex`. Dropping it ends the registration.
@@ -15,7 +18,7 @@ use std::sync::Wait;
 /// again.
 ///
 /// # Contract
-/// The starver's party is registered (the party's view is `Starving`).
+/// The starver's party is registered (it holds `Starver`).
 #[must_use = "if the place is dropped at once, the thread starves no longer: call `lock` on it"]
 pub struct Starvation<'a, T, R = Spin> {
     pub(super) pass: StarvingPass<'a, T, R>,
@@ -95,11 +98,18 @@ impl<'a, T, R: RelaxStrategy> Starvation<'a, T, R> {
         ensures { IsHolder use_of_party result }
     {
         let Self { pass } = self;
-        // Not by `StarvingPass::lock`: that would make the path for a lone starver two instructions longer.
-        let (guard, _) = match pass.begin_lock() {
-            Ok(held) => held,
-            Err(account) => wait_as_starver(rt, account),
+        // Not by `StarvingPass::lock`: that would make the path for a lone starver longer.
+        let call = FairCall::StarverLock;
+        let held = Some(Hold::Starver);
+        let write = Some(Hold::Write);
+        let session = match begin(pass.into_session(), call, held, Answer::Granted, write) {
+            Ok(session) => session,
+            Err(on) => {
+                let by = Strategy::<R>::named();
+                go_on(on, call, held, Answer::Granted, write, by, rt)
+            }
         };
+        let (guard, _) = guarded(session);
         guard
     }
 }

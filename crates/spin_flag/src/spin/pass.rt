@@ -11,7 +11,7 @@ use super::{SpinMutex, SpinMutexGuard};
 use spin_core::guard::Guard;
 use spin_core::relax::{RelaxStrategy, Strategy};
 use spin_core::trace::Watch;
-use spin_session::calls::{SessionOf, ask, attempt, finish, free, guarded, wait_for};
+use spin_session::calls::{SessionOf, ask, attempt, finish, give, guarded, wait_for};
 use spin_step::{Answer, FlagCall, Hold};
 use std::marker::{Model, PhantomData};
 use std::sync::Wait;
@@ -82,7 +82,7 @@ impl<T, R> SpinMutex<T, R> {
     {
         let writer = Guard::into_writer(guard);
         Pass {
-            session: free::<T, FlagRule>(writer, seen, FlagCall::Release, Hold::Write),
+            session: give::<T, FlagRule>(writer, seen, FlagCall::Release, Hold::Write, None),
             strategy: PhantomData,
         }
     }

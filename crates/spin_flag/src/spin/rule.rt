@@ -9,7 +9,7 @@ use spin_core::cell::{Rule, WritePermit};
 use spin_core::guard::{self, Uses};
 use spin_core::tie::Opening;
 use spin_core::trace::{Trace, Watch};
-use spin_session::calls::{finish, free};
+use spin_session::calls::{finish, give};
 use spin_session::table::{self, Runs};
 use spin_step::{FlagCall, FlagPoint, FlagTable, Hold};
 
@@ -67,7 +67,8 @@ impl Uses<Party> for FlagRule {
 
 impl<T> guard::Release<T, Party> for FlagRule {
     fn release(writer: WritePermit<'_, T, Party, FlagRule>) {
-        finish(free::<T, FlagRule>(writer, Watch::nothing(), FlagCall::Release, Hold::Write));
+        let (seen, release) = (Watch::nothing(), FlagCall::Release);
+        finish(give::<T, FlagRule>(writer, seen, release, Hold::Write, None));
     }
 
     ghost same = { λ key view. refl };

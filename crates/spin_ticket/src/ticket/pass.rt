@@ -11,7 +11,7 @@ use super::{TicketMutex, TicketMutexGuard};
 use spin_core::guard::Guard;
 use spin_core::relax::{RelaxStrategy, Strategy};
 use spin_core::trace::Watch;
-use spin_session::calls::{SessionOf, finish, first_round, free, guarded, in_three, peek, wait_on};
+use spin_session::calls::{SessionOf, finish, first_round, give, guarded, in_three, peek, wait_on};
 use spin_step::{Answer, Hold, TicketCall};
 use std::marker::{Model, PhantomData};
 use std::sync::Wait;
@@ -81,7 +81,7 @@ impl<T, R> TicketMutex<T, R> {
         let (number, writer, seen) = peek::<T, TicketRule>(Guard::into_writer(guard), seen);
         let held = Hold::Ticket(number);
         Pass {
-            session: free::<T, TicketRule>(writer, seen, TicketCall::Release, held),
+            session: give::<T, TicketRule>(writer, seen, TicketCall::Release, held, None),
             strategy: PhantomData,
         }
     }

@@ -11,7 +11,7 @@ use spin_core::guard::{self, Uses};
 use spin_core::relax::MAX_HINTS;
 use spin_core::tie::Opening;
 use spin_core::trace::{Trace, Watch};
-use spin_session::calls::{finish, free, peek};
+use spin_session::calls::{finish, give, peek};
 use spin_session::table::{self, Runs};
 use spin_step::{Hold, TicketCall, TicketPoint, TicketTable};
 
@@ -100,7 +100,7 @@ impl<T> guard::Release<T, Party> for TicketRule {
         let (number, writer, _) = peek::<T, TicketRule>(writer, Watch::nothing());
         let release = TicketCall::Release;
         let held = Hold::Ticket(number);
-        finish(free::<T, TicketRule>(writer, Watch::nothing(), release, held));
+        finish(give::<T, TicketRule>(writer, Watch::nothing(), release, held, None));
     }
 
     ghost same = { λ key view. refl };

@@ -8,4 +8,4 @@ returns g c =
     let a = c.args in let f = c.step-session in let t = g.P.Runs.tables in let s = g.P.Runs.meaning in let from = spot a.session in let p = c.point_of-point.ensures in
     let (which, fine) = f.ensures.goes in
     let all = at_once t s a.call a.holds from (spot f.result.2) f.result.0 (f.ensures.comes from p.under) f.ensures.knows a.answer a.after (which ∙ rw p.start (c.requires.answers f.result.1)) in
-    record { stands = all.0; calls = all.1; last = f.ensures.last }
+    record { stands = all.0; calls = all.1; last = f.ensures.last; sees = f.ensures.sees }

@@ -1,8 +1,8 @@
-use Rattle.std.proofs.Common.{sym, ap, ◌∙◌, subst}
+use Rattle.std.proofs.Common.{ℕ, sym, ap, ◌∙◌, subst}
 use Rattle.spin_core.specs.Passes.{Nothing, mark_of}
 use Rattle.spin_core.specs.Spots.{Since}
 use Rattle.spin_core.specs.Traced.{Named}
-use Rattle.spin_session.specs.Meaning.{table_at, model_at}
+use Rattle.spin_session.specs.Meaning.{model_at, table_at}
 use Rattle.spin_session.specs.Turns.{Spot}
 use Rattle.spin_session.proofs.Turned.{peeked_since}
 use Rattle.spin_session.proofs.calls.peek.Goals as goal

@@ -7,7 +7,7 @@ use Rattle.spin_core.specs.Traced.{Named}
 use Rattle.spin_step.specs.Acts.{filled, next_of, operation_by}
 use Rattle.spin_step.specs.Operations.{wrapped}
 use Rattle.spin_session.specs.Operating.{Operates}
-use Rattle.spin_session.specs.Meaning.{table_at, rests_at, seat_now, seat_after, model_at}
+use Rattle.spin_session.specs.Meaning.{rests_at, seat_now, seat_after, model_at, table_at}
 use Rattle.spin_session.specs.Turns.{TurnTold, outcome_of, has_begun, Spot, spot}
 use Rattle.spin_session.proofs.Turned.{turned, in_bounds}
 use Rattle.spin_session.proofs.Course.{reached, quiet_at, comes, same_seat}

@@ -1,7 +1,7 @@
 use Rattle.std.proofs.Common.{length, map}
 use Rattle.spin_core.specs.Own.{kind}
 use Rattle.spin_step_more.specs.Starvers.{most_starvers}
-use Rattle.spin_fair.specs.Fair.{IsFair, model, patience}
+use Rattle.spin_fair.specs.Fair.{model, patience}
 use Rattle.spin_world_core.specs.Users.{seen_at}
 use Rattle.spin_world_core.specs.Runs.{scene}
 use Rattle.spin_world_core.proofs.Every.{kept}
@@ -11,7 +11,6 @@ use Rattle.spin_world.proofs.FairOwed.{fair_facts}
 use Rattle.spin_threads.proofs.laws.no_newcomer_acquires_a_fair_mutex_beside_a_starver.Goals as goal
 
 pub returns : goal.returns
-unfolding IsFair
 returns g c = λ opening word trace parties is.
     let run = is.2 in
     let n = length (map kind run.0) in

@@ -10,13 +10,13 @@ use Rattle.spin_ticket.specs.TicketPasses.{TicketSpot}
 use Rattle.spin_ticket.proofs.TicketRefines.{peeked_seat}
 use Rattle.spin_ticket.proofs.ticket.TicketMutex.unlock.Goals as goal
 
-pub free-requires-clause-alone : goal.free-requires-clause-alone
-free-requires-clause-alone g c uses =
+pub give-requires-clause-alone : goal.give-requires-clause-alone
+give-requires-clause-alone g c uses =
     let k = c.peek-number in peeked_seat k.result.1.view.0 k.result.0 uses (subst (λ v. Peeks with_second ticket_meaning v k.result.0) (sym k.ensures.seat) k.ensures.finds)
 
 pub returns : goal.returns
 returns g c =
-    let w = c.into_writer.result in let is = c.into_writer.ensures in let k = c.peek-number in let f = c.free in let seen = c.args.seen in
+    let w = c.into_writer.result in let is = c.into_writer.ensures in let k = c.peek-number in let f = c.give in let seen = c.args.seen in
     let named = ap (λ x. x.key.name) is ∙ c.requires.0 in
     let since = k.ensures.since named (ap (λ x. x.view.2) is ∙ c.requires.1) in
     let now : TicketSpot g.row.T.Denot = (k.result.1.key, Some k.result.1.view, k.result.2) in

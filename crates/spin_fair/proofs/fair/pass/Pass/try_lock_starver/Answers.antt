@@ -1,29 +1,35 @@
-use Rattle.std.proofs.Common.{◌≡◌, ℕ, refl, ap, ◌∙◌, sym, subst}
-use Rattle.spin_core.specs.Own.{what}
-use Rattle.spin_core.specs.Passes.{IsCall}
-use Rattle.spin_step.specs.declared.answer.Answer.TheVariants.{Granted}
+use Rattle.std.proofs.Common.{None, subst}
+use Rattle.spin_core.specs.Spots.{HasCalled}
+use Rattle.spin_step.specs.Acts.{with_value}
+use Rattle.spin_step.specs.declared.answer.Answer.TheVariants.{Locked, Starved}
 use Rattle.spin_step_more.specs.declared.fair_calls.FairCall.TheVariants.{TryLockStarver}
-use Rattle.spin_fair.specs.Fair.{answer_of, Called}
-use Rattle.spin_fair.specs.Waits.{here}
-use Rattle.spin_fair.proofs.Steps.{attempts_to_know}
-use Rattle.spin_fair.proofs.Takes.{has_tried, is_refused, as_held, got, reason_so}
+use Rattle.spin_session.specs.Meaning.{model_at}
+use Rattle.spin_session.specs.Turns.{spot}
+use Rattle.spin_fair.specs.Fair.{fair_tables}
+use Rattle.spin_fair.specs.FairPasses.{Calls, Grants}
+use Rattle.spin_fair.proofs.FairRefines.{came, is_starved}
 use Rattle.spin_fair.proofs.fair.pass.Pass.try_lock_starver.Goals as goal
 
-pub exchange-found-requires : goal.exchange-found-requires
-exchange-found-requires g c =
-    let me = c.args.self.account.permit in let exact = c.lock.ensures.exact in let got = c.unwrap-taken.ensures in let taken : ℕ = 1 in
-    let same : c.unwrap-taken.result ≡ taken = cc in
-    rw same (attempts_to_know me.key me.view me.value c.args.self.rests 1 refl (rw exact at c.lock.ensures.plain))
+pub guarded-requires-clause-writes : goal.guarded-requires-clause-writes
+guarded-requires-clause-writes g c =
+    let f = c.in_three-answer in (came (spot c.self.inside.session) (spot f.result.2) f.ensures.knows f.result.0 f.result.1 c.in-Granted.is f.ensures.ended).0
 
-pub returns-then-found-free : goal.returns-then-found-free
-returns-then-found-free g c =
-    let me = c.args.self.account in let f = c.exchange-found in let held = c.into_guard in let call = IsCall TryLockStarver Granted in
-    let so = has_tried me f.result.1 f.result.0 TryLockStarver f.ensures c.if-found-free.true in let is = ap what held.ensures.same.0 ∙ so.1 in
-    let all = got call me held.result (held.ensures.granted, as_held (here me) (here f.result.1) call held.result held.ensures.same so.0) in
-    record { holder = all.0; newcomer = cc (is); same = all.1; found = all.2; granted = all.3; refused = tt }
+pub returns-in-Granted-clause-granted : goal.returns-in-Granted-clause-granted
+returns-in-Granted-clause-granted g c =
+    let from = spot c.self.inside.session in let f = c.in_three-answer in let (guard, seen) = c.guarded.result in
+    let calls = (came from (spot f.result.2) f.ensures.knows f.result.0 f.result.1 c.in-Granted.is f.ensures.ended).1 in
+    subst (λ b. Grants TryLockStarver b guard seen) c.self.view_is (c.guarded.ensures.grants TryLockStarver from calls)
 
-pub returns-else-found-free-clause-refused : goal.returns-else-found-free-clause-refused
-returns-else-found-free-clause-refused g c =
-    let me = c.args.self.account in let f = c.exchange-found in let so = is_refused me f.result.1 f.result.0 TryLockStarver f.ensures c.if-found-free.false in
-    let is = reason_so f.result.0 ∙ ap answer_of (sym c.reject.ensures.exact) in let p = here me in let q = here f.result.1 in
-    (subst (λ a. Called p.0.value TryLockStarver a p.1 p.2.entries q.1 q.2.entries) is so.0, (so.1, so.2))
+pub returns-in-Locked-clause-refused : goal.returns-in-Locked-clause-refused
+returns-in-Locked-clause-refused g c =
+    let from = spot c.self.inside.session in let f = c.in_three-answer in
+    let calls = subst (λ x. HasCalled (model_at fair_tables) TryLockStarver (with_value x None) from (spot f.result.2)) c.in-Locked.is f.ensures.ended.0 in
+    subst (λ b. Calls TryLockStarver Locked b (spot f.result.2)) c.self.view_is calls
+
+pub returns-in_default : goal.returns-in_default
+returns-in_default g c =
+    let from = spot c.self.inside.session in let f = c.in_three-answer in let e = f.ensures.ended in let (l, n, is, fine) = e.2 in
+    let same = is_starved from.0 f.result.0 f.result.1 l n fine is c.in_default.not-Granted c.in_default.not-Locked in record {
+      granted = tt;
+      refused = subst (λ b. Calls TryLockStarver Starved b (spot f.result.2)) c.self.view_is (subst (λ x. HasCalled (model_at fair_tables) TryLockStarver (with_value x None) from (spot f.result.2)) same e.0);
+    }

@@ -1,12 +1,14 @@
-use Rattle.std.proofs.Common.{refl, inl}
+use Rattle.std.proofs.Common.{◌≡◌, refl, inl}
+use Rattle.spin_core.specs.Cell.{off, writes}
 use Rattle.spin_flag.proofs.FlagRefines.{holding_of}
 use Rattle.spin_flag.proofs.spin.rule.FlagRuleReleaseParty.release.Goals as goal
 
-pub free-requires : goal.free-requires
-free-requires g c = record {
-  knows = inl c.nothing.ensures;
+pub give-requires : goal.give-requires
+give-requires g c = record {
+  knows = inl c.nothing-seen.ensures;
   alone = holding_of c.args.writer.view.0;
   begins = refl;
   held = (refl, refl);
-  frees = λ n. refl;
+  ends = λ n. refl;
+  stops = λ (no : off ≡ writes). absurd (cc (no));
 }
