@@ -4,7 +4,7 @@ use Rattle.std.proofs.Common.{◌≡◌, ℕ, zero, suc, ◌+◌, ◌≤◌, ◌
 use Rattle.std.specs.Option.{option_map}
 use Rattle.std.specs.List.{list_all}
 use Rattle.std.proofs.Math.Seq.{take-append_seam}
-use Rattle.std.proofs.lemmas.Bool.{and_parts, eqb-false}
+use Rattle.std.proofs.lemmas.Bool.{and_parts}
 use Rattle.std.proofs.lemmas.List.{append-nil}
 use Rattle.spin_step.specs.declared.once_calls.OnceCall.TheVariants.{TryCallOnceOk}
 use Rattle.spin_step.specs.declared.once_calls.OncePoint.{OncePoint}
@@ -12,17 +12,15 @@ use Rattle.spin_step.specs.declared.once_calls.OncePoint.TheVariants.{Run}
 use Rattle.spin_step.specs.declared.place.Hold.{Hold}
 use Rattle.spin_step.specs.declared.place.Seat.{Seat}
 use Rattle.spin_step.specs.declared.place.Seat.TheVariants.{Idle, Calling}
-use Rattle.spin_step.specs.declared.schedule.Move.TheVariants.{Begin, Step, Weak, Write}
+use Rattle.spin_step.specs.declared.schedule.Move.TheVariants.{Weak}
 use Rattle.spin_step.specs.Schedules.{after, happens, moves, moves_at, at_first}
 use Rattle.spin_step.proofs.Lists.{get-set_same}
 use Rattle.spin_core.specs.Own.{Numbered, IsRun, Rested, present_from, kind, entries_by}
-use Rattle.spin_core.specs.Run.{is_of_call, is_played, outcomes, AreOfCalls, IsPlayed, LeadsTo, sits}
+use Rattle.spin_core.specs.Run.{is_played, outcomes, AreOfCalls, IsPlayed, LeadsTo, sits}
 use Rattle.spin_once.specs.Foretold.{fails_by, will_fail, named, told_of, foretold, place_of, counted}
 use Rattle.spin_once.specs.Model.{Point, at, failed}
 use Rattle.spin_once.specs.OnceValues.{Made}
-use Rattle.spin_once.specs.Once.{OneMove, seat_of, words_of}
-use Rattle.spin_once.specs.declared.once_core.rule.View.{View}
-use Rattle.spin_once.specs.declared.once_core.rule.View.TheVariants.{InCall}
+use Rattle.spin_once.specs.Once.{OneMove, View, seat_of, words_of}
 use Rattle.spin_once.proofs.Resting.{Call, World, is_step, rests, rests_after}
 use Rattle.spin_once.proofs.Named.{Object, seat_named, seats_named, object, Alike, renamed, t, m, named_get, named_set, named_alike, named_idle, put_same, moves_alike}
 
@@ -33,20 +31,11 @@ before (e ∷ es) later = told_of e.0 e.1 (will_fail (es ++ later) e.0) (before 
 
 joined : (es later : List Made) → foretold (es ++ later) ≡ before es later ++ foretold later
 joined [] later = refl
-joined (e ∷ es) later = ap (told_of e.0 e.1 (will_fail (es ++ later) e.0)) (joined es later) ∙ told_joined e.0 e.1 (will_fail (es ++ later) e.0) (before es later) (foretold later)
-  where
-    told_joined : (p : ℕ) (move : OneMove) (fails : Bool) (xs ys : List Made) → told_of p move fails (xs ++ ys) ≡ told_of p move fails xs ++ ys
-    told_joined p Weak fails xs ys = refl
-    told_joined p _ fails xs ys = refl
+joined (e ∷ es) later = grind (arith, joined es later)
 
 as_long : (es later : List Made) → length (before es later) ≡ length (foretold es)
 as_long [] later = refl
-as_long (e ∷ es) later = long_by e.0 e.1 (will_fail (es ++ later) e.0) (will_fail es e.0) (before es later) (foretold es) (as_long es later)
-  where
-    long_by : (p : ℕ) (move : OneMove) (a b : Bool) (xs ys : List Made) → length xs ≡ length ys → length (told_of p move a xs) ≡ length (told_of p move b ys)
-    long_by p (Begin c) a b xs ys is = ap suc is
-    long_by p Weak a b xs ys is = is
-    long_by p _ a b xs ys is = ap suc is
+as_long (e ∷ es) later = grind (arith, as_long es later)
 
 till : (es later : List Made) → take (length (foretold es)) (foretold (es ++ later)) ≡ before es later
 till es later = ap (λ k. take k (foretold (es ++ later))) (sym (as_long es later)) ∙ ap (take (length (before es later))) (joined es later) ∙ take-append_seam (before es later) (foretold later)
@@ -62,19 +51,11 @@ module _ (given : Option (Unit {0})) where
   -- A party that is in no call makes no step before it begins a call. Until then no closure of this party fails.
   own_quiet : (s : World) (q : ℕ) (move : OneMove) (later : Bool) (o : Option (Seat Call Point)) → rests o ≡ true → is_played (moves_at (m given) s q move o).outcome ≡ true → ((is_step move ≡ true → ⊥) → later ≡ false)
       → fails_by move later ≡ false
-  own_quiet s q (Begin c) later o is played still = refl
-  own_quiet s q Step later (Some (Calling c l h)) is played still = absurd (let d : false ≡ true = is in cc)
-  own_quiet s q Weak later (Some (Calling c l h)) is played still = absurd (let d : false ≡ true = is in cc)
-  own_quiet s q Step later _ is played still = absurd (let d : false ≡ true = played in cc)
-  own_quiet s q Weak later _ is played still = absurd (let d : false ≡ true = played in cc)
-  own_quiet s q _ later o is played still = still (λ e. absurd (let d : false ≡ true = e in cc))
+  own_quiet s q move later o is played still = grind (arith, is, played, still)
 
   quiet_by : (s : World) (q p : ℕ) (move : OneMove) (later : Bool) → rests (slice_get s.seats p) ≡ true → is_played (happens (m given) s q move).outcome ≡ true → ((is_step move ≡ true → q ≡ p → ⊥) → later ≡ false)
       → (b : Bool) → (q == p) ≡ b → (if b then fails_by move later else later) ≡ false
-  quiet_by s q p move later is played still true same =
-      let e : q ≡ p = eqb-true q p same in
-      own_quiet s q move later (slice_get s.seats q) (rw e is) played (λ no. still (λ own k. no own))
-  quiet_by s q p move later is played still false other = still (λ own e. eqb-false q p other e)
+  quiet_by s q p move later is played still b same = grind (arith, is, played, still, same, own_quiet s q move later (slice_get s.seats q))
 
   pub quiet : (es : List Made) (s : World) (p : ℕ) → list_all is_played (outcomes (m given) s es) ≡ true → rests (slice_get s.seats p) ≡ true → will_fail es p ≡ false
   quiet [] s p played is = refl
@@ -110,10 +91,7 @@ module _ (given : Option (Unit {0})) where
       ∙ named_alike f g (slice_set xs p y) (λ q x e. by_place q x e (p == q) refl)
     where
       by_place : (q : ℕ) (x : Seat Call Point) → slice_get (slice_set xs p (Calling (TryCallOnceOk v) failed h)) q ≡ Some x → (b : Bool) → (p == q) ≡ b → seat_named x (f q) ≡ seat_named x (g q)
-      by_place q x e true same =
-          let k : p ≡ q = eqb-true p q same in let d : Some x ≡ Some (Calling (TryCallOnceOk v) failed h) = sym e ∙ ap (slice_get (slice_set xs p (Calling (TryCallOnceOk v) failed h))) (sym k) ∙ get-set_same xs p (Calling (TryCallOnceOk v) failed h) (Calling (TryCallOnceOk v) (at Run) h) there in
-          let i : x ≡ Calling (TryCallOnceOk v) failed h = cc (d) in rw i refl
-      by_place q x e false other = ap (seat_named x) (others q (eqb-false p q other))
+      by_place q x e b same = grind (arith, e, same, others q, get-set_same xs p (Calling (TryCallOnceOk v) failed h) (Calling (TryCallOnceOk v) (at Run) h) there)
 
   pub weak_alike : (s : World) (p : ℕ) (es : List Made) (o : Option (Seat Call Point)) → slice_get s.seats p ≡ o → is_played (moves_at (m given) s p Weak o).outcome ≡ true
       → object (will_fail ((p, Weak) ∷ es)) s ≡ object (will_fail es) (moves_at (m given) s p Weak o).next
@@ -128,10 +106,7 @@ module _ (given : Option (Unit {0})) where
       ap (λ xs. let o : Object = record { words = s.words; value = s.value; seats = xs } in o) (named_alike (will_fail ((p, move) ∷ es)) (will_fail es) s.seats (λ q x e. by_place q x e (p == q) refl))
     where
       own_place : (move : OneMove) (x : Seat Call Point) (later : Bool) → is_played (moves (m given) s p move x).outcome ≡ true → (move ≡ Weak → ⊥) → seat_named x (fails_by move later) ≡ seat_named x later
-      own_place (Begin c) (Calling d l h) later is ne = absurd (let d : false ≡ true = is in cc)
-      own_place (Begin c) _ later is ne = refl
-      own_place Weak x later is ne = absurd (ne refl)
-      own_place _ x later is ne = refl
+      own_place move x later is ne = grind (arith, is, ne)
 
       by_place : (q : ℕ) (x : Seat Call Point) → slice_get s.seats q ≡ Some x → (b : Bool) → (p == q) ≡ b → seat_named x (if b then fails_by move (will_fail es q) else will_fail es q) ≡ seat_named x (will_fail es q)
       by_place q x e false other = refl
@@ -188,8 +163,7 @@ module _ (given : Option (Unit {0})) where
 
   places : (came : List (Option View)) (more : ℕ) → seats_named (λ p. false) (sitting came ++ replicate more Idle) ≡ placed_at came ++ replicate more Idle
   places [] more = named_idle (λ p. false) more
-  places (Some (InCall c l) ∷ came) more = ap (λ d. Calling d l None ∷ seats_named (λ p. false) (sitting came ++ replicate more Idle)) (named_kept c) ∙ ap (λ ys. Calling c l None ∷ ys) (places came more)
-  places (_ ∷ came) more = ap (λ ys. Idle ∷ ys) (places came more)
+  places (v ∷ came) more = grind (arith, named_kept, places came more)
 
   pub first_named : (f : ℕ → Bool) (n : ℕ) → object f (at_first (m given) n) ≡ at_first (t given) n
   first_named f n = ap (λ xs. let o : Object = record { words = (t given).words; value = (t given).value; seats = xs } in o) (named_idle f n)
@@ -212,42 +186,26 @@ marked log (Some u) = Some (u.0, length (foretold (take u.1 log)))
 
 kinds_marked : (log : List Made) (came : List Came) → map kind (map (marked log) came) ≡ map kind came
 kinds_marked log [] = refl
-kinds_marked log (None ∷ came) = ap (λ us. None ∷ us) (kinds_marked log came)
-kinds_marked log (Some u ∷ came) = ap (λ us. Some u.0 ∷ us) (kinds_marked log came)
+kinds_marked log (v ∷ came) = grind (arith, kinds_marked log came)
 
 present_marked : (log : List Made) (k : ℕ) (came : List Came) → map (counted log) (present_from k came) ≡ present_from k (map (marked log) came)
 present_marked log k [] = refl
-present_marked log k (None ∷ came) = present_marked log (suc k) came
-present_marked log k (Some u ∷ came) = ap (λ vs. (u.0, k, length (foretold (take u.1 log))) ∷ vs) (present_marked log (suc k) came)
+present_marked log k (v ∷ came) = grind (arith, present_marked log (suc k) came)
 
 -- the rest of the object's schedule, after its part for the first `n` moves
 cut : (n : ℕ) (es : List Made) → drop (length (foretold (take n es))) (foretold es) ≡ foretold (drop n es)
 cut zero es = refl
 cut (suc n) [] = refl
-cut (suc n) (e ∷ es) = cut_by e.0 e.1 (will_fail (take n es) e.0) (will_fail es e.0) (foretold (take n es)) (foretold es) (foretold (drop n es)) (cut n es)
-  where
-    cut_by : (p : ℕ) (move : OneMove) (a b : Bool) (xs ys zs : List Made) → drop (length xs) ys ≡ zs → drop (length (told_of p move a xs)) (told_of p move b ys) ≡ zs
-    cut_by p Weak a b xs ys zs is = is
-    cut_by p _ a b xs ys zs is = is
+cut (suc n) (e ∷ es) = grind (arith, cut n es)
 
 fewer : (n : ℕ) (es : List Made) → length (foretold (take n es)) ≤ length (foretold es)
 fewer zero es = omega arith
 fewer (suc n) [] = omega arith
-fewer (suc n) (e ∷ es) = fewer_by e.0 e.1 (will_fail (take n es) e.0) (will_fail es e.0) (foretold (take n es)) (foretold es) (fewer n es)
-  where
-    fewer_by : (p : ℕ) (move : OneMove) (a b : Bool) (xs ys : List Made) → length xs ≤ length ys → length (told_of p move a xs) ≤ length (told_of p move b ys)
-    fewer_by p Weak a b xs ys is = is
-    fewer_by p _ a b xs ys is = omega (arith, is)
+fewer (suc n) (e ∷ es) = grind (arith, fewer n es)
 
 none_told : (q : ℕ) (es : List Made) → entries_by q es ≡ [] → entries_by q (foretold es) ≡ []
 none_told q [] is = refl
-none_told q (e ∷ es) is = none_by (e.0 == q) refl e.1 (will_fail es e.0) is (λ none. none_told q es none)
-  where
-    none_by : (b : Bool) → (e.0 == q) ≡ b → (move : OneMove) (fails : Bool) → (if b then e ∷ entries_by q es else entries_by q es) ≡ [] → (entries_by q es ≡ [] → entries_by q (foretold es) ≡ [])
-        → entries_by q (told_of e.0 move fails (foretold es)) ≡ []
-    none_by true same move fails none later = absurd (cc none)
-    none_by false other Weak fails none later = later none
-    none_by false other _ fails none later = rw other (later none)
+none_told q (e ∷ es) is = grind (arith, is, none_told q es)
 
 rested_marked : (log : List Made) (k : ℕ) (came : List Came) → Rested log k came → Rested (foretold log) k (map (marked log) came)
 rested_marked log k [] is = λ q ge. none_told q log (is q ge)
@@ -256,16 +214,9 @@ rested_marked log k (Some u ∷ came) is = ((fewer u.1 log, ap (entries_by k) (c
 
 -- ---- the moves of the parties
 module _ (given : Option (Unit {0})) where
-  fits_by : (p : ℕ) (move : OneMove) (fails rest : Bool) (later : List Made) → (is_of_call (m given) move && rest) ≡ true → (rest ≡ true → AreOfCalls (t given) later) → AreOfCalls (t given) (told_of p move fails later)
-  fits_by p (Begin c) fails rest later so on = on so
-  fits_by p Step fails rest later so on = on so
-  fits_by p Weak fails rest later so on = on so
-  fits_by p (Write v) fails rest later so on = on so
-  fits_by p move fails rest later so on = absurd (cc (so))
-
   fits : (log : List Made) → AreOfCalls (m given) log → AreOfCalls (t given) (foretold log)
   fits [] so = refl
-  fits (e ∷ es) so = fits_by e.0 e.1 (will_fail es e.0) (list_all (λ e. is_of_call (m given) e.1) es) (foretold es) so (fits es)
+  fits (e ∷ es) so = grind (arith, so, fits es)
 
 pub is_run : (given : Option (Unit {0})) (log : List Made) (s : ℕ × Unit {0}) (parties : List (Numbered View)) → IsRun (m given) seat_of words_of log s parties → IsRun (t given) place_of words_of (foretold log) s (map (counted log) parties)
 is_run given log s parties (came, w, value, is, words_is, led, played, rested, so) =

@@ -1,6 +1,6 @@
 -- The seats of the object. There the name of each call says whether its closure will fail. A party's move has the same outcome in the
 -- object as in the model.
-use Rattle.std.proofs.Common.{◌≡◌, ℕ, zero, suc, Bool, true, false, Option, Some, None, List, [], ◌∷◌, map, replicate, slice_get, slice_set, refl, sym, ap, ◌∙◌}
+use Rattle.std.proofs.Common.{◌≡◌, ℕ, zero, suc, Bool, true, false, Option, Some, None, List, [], ◌∷◌, map, replicate, slice_get, slice_set, refl, sym, ap, ◌∙◌, arith}
 use Rattle.std.specs.Option.{option_map}
 use Rattle.std.specs.List.{list_all}
 use Rattle.std.specs.Prelude.{if◌then◌else◌}
@@ -18,7 +18,7 @@ use Rattle.spin_step.specs.declared.stepped.Stepped.{Stepped}
 use Rattle.spin_step.specs.Acts.{one_number, step_by, completes_by, filled}
 use Rattle.spin_step.specs.Machines.{Machine}
 use Rattle.spin_step.specs.OnceCalls.{OnceMachine, once_machine, act_of, brings_of}
-use Rattle.spin_step.specs.Schedules.{State, Happened, moves, seated, begun, goes_on, stepped, resting, placed, read_by, written_by, yields_to_owner, seen_by_owner, owner_gets, owner_sets, owner_writes}
+use Rattle.spin_step.specs.Schedules.{State, Happened, moves, seated, begun, goes_on, stepped, resting, placed, read_by, written_by, yields_to_owner, seen_by_owner, owner_gets, owner_sets}
 use Rattle.spin_step.proofs.Lists.{get-set_same}
 use Rattle.spin_core.specs.Run.{is_played}
 use Rattle.spin_once.specs.Foretold.{named}
@@ -46,13 +46,11 @@ object f s = record { words = s.words; value = s.value; seats = seats_named f s.
 
 pub named_get : (f : ℕ → Bool) (xs : List (Seat Call Point)) (p : ℕ) → slice_get (seats_named f xs) p ≡ option_map (λ x. seat_named x (f p)) (slice_get xs p)
 named_get f [] p = refl
-named_get f (x ∷ xs) zero = refl
-named_get f (x ∷ xs) (suc p) = named_get (λ q. f (suc q)) xs p
+named_get f (x ∷ xs) p = grind (arith, named_get (λ q. f (suc q)) xs)
 
 pub named_set : (f : ℕ → Bool) (xs : List (Seat Call Point)) (p : ℕ) (y : Seat Call Point) → seats_named f (slice_set xs p y) ≡ slice_set (seats_named f xs) p (seat_named y (f p))
 named_set f [] p y = refl
-named_set f (x ∷ xs) zero y = refl
-named_set f (x ∷ xs) (suc p) y = ap (λ ys. seat_named x (f 0) ∷ ys) (named_set (λ q. f (suc q)) xs p y)
+named_set f (x ∷ xs) p y = grind (arith, named_set (λ q. f (suc q)) xs)
 
 pub named_alike : (f g : ℕ → Bool) (xs : List (Seat Call Point)) → ((p : ℕ) (x : Seat Call Point) → slice_get xs p ≡ Some x → seat_named x (f p) ≡ seat_named x (g p)) → seats_named f xs ≡ seats_named g xs
 named_alike f g [] each = refl
@@ -64,24 +62,15 @@ named_idle f (suc n) = ap (λ ys. Idle ∷ ys) (named_idle (λ q. f (suc q)) n)
 
 pub put_same : {X : Type 0} (xs : List X) (p : ℕ) (x : X) → slice_get xs p ≡ Some x → slice_set xs p x ≡ xs
 put_same [] p x e = refl
-put_same (y ∷ xs) zero x e = ap (λ z. z ∷ xs) (let d : Some y ≡ Some x = e in cc)
-put_same (y ∷ xs) (suc p) x e = ap (λ ys. y ∷ ys) (put_same xs p x e)
+put_same (y ∷ xs) p x e = grind (arith, put_same xs, e)
 
 named_yields : (f : ℕ → Bool) (xs : List (Seat Call Point)) → list_all yields_to_owner (seats_named f xs) ≡ list_all yields_to_owner xs
 named_yields f [] = refl
-named_yields f (x ∷ xs) = rw (yields x (f 0), named_yields (λ q. f (suc q)) xs) refl
-  where
-    yields : (x : Seat Call Point) (b : Bool) → yields_to_owner (seat_named x b) ≡ yields_to_owner x
-    yields (Calling c failed h) b = refl
-    yields _ b = refl
+named_yields f (x ∷ xs) = grind (arith, named_yields (λ q. f (suc q)) xs)
 
 named_seen : (f : ℕ → Bool) (xs : List (Seat Call Point)) → map seen_by_owner (seats_named f xs) ≡ seats_named f (map seen_by_owner xs)
 named_seen f [] = refl
-named_seen f (x ∷ xs) = ap (λ y. y ∷ map seen_by_owner (seats_named (λ q. f (suc q)) xs)) (seen x (f 0)) ∙ ap (λ ys. seat_named (seen_by_owner x) (f 0) ∷ ys) (named_seen (λ q. f (suc q)) xs)
-  where
-    seen : (x : Seat Call Point) (b : Bool) → seen_by_owner (seat_named x b) ≡ seat_named (seen_by_owner x) b
-    seen (Calling c failed h) b = refl
-    seen _ b = refl
+named_seen f (x ∷ xs) = grind (arith, named_seen (λ q. f (suc q)) xs)
 
 -- ---- a party's move has the same outcome in the object
 abbrev Ending : Type 0 → Type 0
@@ -112,27 +101,16 @@ module _ (f : ℕ → Bool) (s : World) (p : ℕ) where
   goes_alike c d h (Answers a (Some k)) v v' is = (seated_alike (Holding k), refl)
 
   read_alike : (b : Bool) → Alike f (read_by s b) (read_by (object f s) b)
-  read_alike true = (refl, refl)
-  read_alike false = (refl, refl)
+  read_alike b = grind arith
 
   written_alike : (v : Unit {0}) (b : Bool) → Alike f (written_by s v b) (written_by (object f s) v b)
-  written_alike v true = (refl, refl)
-  written_alike v false = (refl, refl)
-
-  let_alike : (value : Option (Unit {0})) → record { words = s.words; value = value; seats = map seen_by_owner (seats_named f s.seats) } ≡ object f (record { words = s.words; value = value; seats = map seen_by_owner s.seats })
-  let_alike value = ap (λ xs. let o : Object = record { words = s.words; value = value; seats = xs } in o) (named_seen f s.seats)
+  written_alike v b = grind arith
 
   got_alike : (b : Bool) → Alike f (owner_gets s b) (owner_gets (object f s) b)
-  got_alike true = (let_alike s.value, refl)
-  got_alike false = (refl, refl)
-
-  put_alike : (v : Unit {0}) (o : Option (Unit {0})) → Alike f (owner_writes s v o) (owner_writes (object f s) v o)
-  put_alike v None = (let_alike s.value, refl)
-  put_alike v (Some old) = (let_alike (Some v), refl)
+  got_alike b = grind (arith, named_seen f s.seats)
 
   sets_alike : (v : Unit {0}) (b : Bool) → Alike f (owner_sets s v b) (owner_sets (object f s) v b)
-  sets_alike v true = put_alike v s.value
-  sets_alike v false = (refl, refl)
+  sets_alike v b = grind (arith, named_seen f s.seats)
 
 -- the table's step; the present value of the `Once` plays no part in it
 abbrev raw : ℕ → Call → OncePoint → Option Hold → Stepped ℕ (Unit {0}) OncePoint (Answer (Unit {0}))

@@ -5,6 +5,7 @@ use Rattle.std.proofs.lemmas.List.{append_assoc, append-nil, map-append}
 use mathlib.Core.List.{IsPrefix}
 use Rattle.spin_core.specs.Cell.{Use, off, reads, writes, use_of, Way, no_fact, Carries, Carrying, Meets, Moved, Shows, SameValue, Learns, readers_of, after as views_after}
 use Rattle.spin_core.specs.Own.{Numbered, Runs, IsRun, Tells, by_party}
+use Rattle.spin_core.specs.Passes.{Ending}
 use Rattle.spin_core.specs.Traced.{Traces, Watches, Learnt, grown}
 use Rattle.spin_core.specs.Stable.{maybe_stable}
 use Rattle.spin_core.specs.declared.cell.stable.MaybeStable.{MaybeStable}
@@ -16,12 +17,11 @@ use Rattle.spin_step.specs.declared.once_calls.OnceCall.{OnceCall}
 use Rattle.spin_step.specs.declared.schedule.Move.{Move}
 use Rattle.spin_step.specs.declared.schedule.Move.TheVariants.{Begin, Step, Weak}
 use Rattle.spin_once.specs.Model.{model}
-use Rattle.spin_once.specs.Once.{OneMove, Ending, Says, Word, use_of_view, use_of_party, once_ways, seat_of, words_of, IsOnce, Told}
+use Rattle.spin_once.specs.Once.{OneMove, View, Says, Word, use_of_view, use_of_party, once_ways, seat_of, words_of, IsOnce, Told}
 use Rattle.spin_once.specs.OnceValues.{Valued, Made, bare_move, bare, bare_trace, bare_watch, value_of, values_of, values, lies_in, given_of, made, AtMostOne, IsMade, IsValue, uses, Sees}
 use Rattle.spin_once.specs.declared.once_core.rule.Key.{Key}
 use Rattle.spin_once.specs.declared.once_core.rule.Stage.{Stage}
 use Rattle.spin_once.specs.declared.once_core.rule.Stage.TheVariants.{Done}
-use Rattle.spin_once.specs.declared.once_core.rule.View.{View}
 
 abbrev pub ValueMove : Type 0 → Type 0
 ValueMove T = Move (OnceCall (Unit {0})) T
@@ -60,11 +60,7 @@ module _ {T : Type 0} where
 
   none_written : (own : List OneMove) → values_of (plainly own) ≡ []
   none_written [] = refl
-  none_written (move ∷ own) = by_move move ∙ none_written own
-    where
-      by_move : (move : OneMove) → value_of (plain_move move) ++ values_of (plainly own) ≡ values_of (plainly own)
-      by_move Weak = refl
-      by_move _ = refl
+  none_written (move ∷ own) = grind (arith, none_written own)
 
   module _ {S : Type 0} (first : Stage T S) where
     made-append : (xs ys : List (Valued T)) → made first (xs ++ ys) ≡ made first xs ++ values ys
@@ -88,8 +84,7 @@ agree opening old new x y told more is is' =
 -- what is known of the content carries over from a party that did not write
 pub carries_on : {X : Type 0} (φ ψ : X → Type 0) (u u' : Use) (shown : Option X) → u ≢ writes
     → ((x : X) → φ x → ψ x) → Carries φ ψ u u' shown
-carries_on φ ψ writes u' shown ne on = absurd (ne refl)
-carries_on φ ψ _ u' shown ne on = on
+carries_on φ ψ u u' shown ne on = grind (arith, ne, on)
 
 module _ {T S : Type 0} (makes : S → T → Type 0) (key : Key T S) where
   abbrev first : Stage T S
@@ -112,14 +107,14 @@ module _ {T S : Type 0} (makes : S → T → Type 0) (key : Key T S) where
 
   module _ (view : Option (Numbered View)) (shown : Option Content) (f : ℕ → ℕ) (exact says : Says) (put : List OneMove → List (ValueMove T)) where
     abbrev pub Each : (List OneMove → ℕ → View → Type 0) → Type 0
-    Each P = (own : List OneMove) (outs : List Ending) (n : ℕ) (u : View) → exact own outs n u → P own n u
+    Each P = (own : List OneMove) (outs : List (Ending (Unit {0}))) (n : ℕ) (u : View) → exact own outs n u → P own n u
 
     -- the condition on these moves: there is still at most one value, and what is known of the value carries over
     abbrev pub Leaving : Type 0
     Leaving = Each (λ own n u. (vs : List T) → AtMostOne n vs
         → AtMostOne (f n) (vs ++ values_of (put own)) × Carries (Is vs) (Is (vs ++ values_of (put own))) (use_of use_of_party view) (use_of_view u) shown)
 
-    pub valued : ((own : List OneMove) (outs : List Ending) (n : ℕ) (u : View) → exact own outs n u → says own outs n u)
+    pub valued : ((own : List OneMove) (outs : List (Ending (Unit {0}))) (n : ℕ) (u : View) → exact own outs n u → says own outs n u)
         → Each (λ own n u. bare_moves (put own) ≡ own) → Leaving
         → Traces Bare (way, use_of_party, no_fact) view shown f (Tells (model (given_of first)) seat_of words_of exact view)
         → Traces (IsOnce key.opening) (once_ways makes key) view shown f (Told key.opening says view)
@@ -184,12 +179,10 @@ module _ {T S : Type 0} (makes : S → T → Type 0) (key : Key T S) where
   -- it finds.
   module _ (old new : List (Valued T)) (stays_on : (v : T) → IsValue key.opening old v → IsValue key.opening new v) where
     some_is : (before after : Option Content) → SameValue before after → is_some after ≡ true
-    some_is None after same = ap is_some same.1
-    some_is (Some x) after same = ap is_some same
+    some_is before after same = grind (arith, same)
 
     same_value : (before after : Option Content) → is_some before ≡ true → SameValue before after → before ≡ after
-    same_value None after is same = absurd (let d : false ≡ true = is in cc)
-    same_value (Some x) after is same = sym same
+    same_value before after is same = grind (arith, is, same)
 
     kept_on : (u : Use) (before after : Option Content) → Sees key.opening old u before → uses u ≡ true → SameValue before after
         → (v : T) → after ≡ Some (maybe_stable (Done v)) → IsValue key.opening new v

@@ -1,40 +1,66 @@
 -- What a party's record of its calls says from one of its steps to a later one: which moves the party has made in between.
-use Rattle.std.specs.Prelude.{◌≡◌, ℕ, Bool, Option, Some, Result, Ok, Err}
+use Rattle.std.specs.Prelude.{◌≡◌, Option, None, ◌⊎◌, ℕ, true, false, Some, Result, Ok, Err}
+use Rattle.std.specs.Borrow.{Bor}
+use Rattle.std.specs.Option.{IfSome}
 use Rattle.spin_core.specs.Cell.{use_of, writes}
-use Rattle.spin_core.specs.Own.{Numbered, what}
-use Rattle.spin_core.specs.Passes.{Ends, Waits, IsCall}
+use Rattle.spin_core.specs.Own.{what}
+use Rattle.spin_core.specs.Passes.{Begins as Starts, IsCall, Waits}
+use Rattle.spin_core.specs.Spots as spots
+use Rattle.spin_core.specs.Spots.{Spot}
 use Rattle.spin_core.specs.Stable.{maybe_stable}
-use Rattle.spin_core.specs.declared.trace.Watch.{Watch}
+use Rattle.spin_session.specs.Turns.{has_begun}
+use Rattle.spin_step.specs.Machines.{Machine}
+use Rattle.spin_step.specs.declared.answer.Answer.{Answer}
 use Rattle.spin_step.specs.declared.answer.Answer.TheVariants.{Value, NoValue}
-use Rattle.spin_step.specs.declared.once_calls.OnceCall.{OnceCall}
-use Rattle.spin_step.specs.declared.once_calls.OncePoint.TheVariants.{Await, Run}
-use Rattle.spin_once.specs.OnceValues.{Valued, bare, given_of}
-use Rattle.spin_once.specs.Once.{Moving, Moves, use_of_party, call_from, point_of, has_begun, next_at, view_of, Comes, in_closure}
+use Rattle.spin_step.specs.declared.once_calls.OncePoint.TheVariants.{TryBegin, Run}
+use Rattle.spin_step.specs.declared.stepped.Next.TheVariants.{Continue, Answers}
+use Rattle.spin_once.specs.Model.{Point, model}
+use Rattle.spin_once.specs.OnceValues.{Valued, Made, IsValue, bare_watch, given_of}
+use Rattle.spin_once.specs.Once.{Call, View, Onward, Moving, use_of_party, in_call}
 use Rattle.spin_once.specs.declared.once_core.account.Account.{Account}
-use Rattle.spin_once.specs.declared.once_core.account.Claim.{Claim}
-use Rattle.spin_once.specs.declared.once_core.account.Claim.TheVariants as claim
 use Rattle.spin_once.specs.declared.once_core.account.Found.{Found}
+use Rattle.spin_once.specs.declared.once_core.init_permit.InitPermit.{InitPermit}
 use Rattle.spin_once.specs.declared.once_core.rule.Key.{Key}
 use Rattle.spin_once.specs.declared.once_core.rule.Stage.TheVariants.{Seed}
-use Rattle.spin_once.specs.declared.once_core.rule.View.{View}
-use Rattle.spin_once.specs.declared.once_core.rule.View.TheVariants.{Idle}
 
 -- a point of a record: the key of the cell, the party's view, and what the party knows of the trace
 abbrev pub Place : Type 0 → Type 0 → Type 0
-Place T S = Key T S × Option (Numbered View) × Watch (Valued T)
+Place T S = Spot (Key T S) View (Valued T)
 
--- from the point `p` to the point `q` the party has made exactly the moves of this course, in one cell
-abbrev pub Since : {T S : Type 0} → Place T S → Moving → Place T S → Type 0
-Since p course q = (q.0 ≡ p.0) × (q.2.name ≡ p.2.name) × Moves (given_of p.0.opening.value) course p.1 (bare p.2.entries) q.1 (bare q.2.entries)
+-- the same, without the values of the trace
+abbrev pub bare_place : {T S : Type 0} → Place T S → Spot (Key T S) View Made
+bare_place p = (p.0, p.1, bare_watch p.2)
 
--- From the point `p` to the point `q` the party has made the next step of its call, which found the word `n`. A party that was in no call
--- began the call `c`.
-abbrev pub Turned : {T S : Type 0} → OnceCall (Unit {0}) → ℕ → Place T S → Place T S → Type 0
-Turned c n p q =
-    let view = what p.1 in let d = call_from c view in let next = next_at d (point_of view) n in
-    Since p (Comes (has_begun view) d next) q × (what q.1 ≡ Some (view_of d next))
+-- the model that a cell with this key runs
+abbrev pub model_of : {T S : Type 0} → Key T S → Machine ℕ (Unit {0}) Call Point (Answer (Unit {0}))
+model_of key = model (given_of key.opening.value)
+
+-- the answer to a caller that got the value or none
+abbrev pub found_or_none : {X : Type 0} → Option X → Answer (Unit {0})
+found_or_none None = NoValue
+found_or_none (Some value) = Value tt
 
 module _ {T S : Type 0} where
+  -- the party has made exactly the moves of this course, in one history
+  unfoldable pub Moves : Place T S → Moving → Place T S → Type 0
+  Moves p course q = spots.Since model_of course (bare_place p) (bare_place q)
+
+  -- from the point `p` to the point `q` the party has made exactly the moves of this course, in one cell
+  abbrev pub Since : Place T S → Moving → Place T S → Type 0
+  Since p course q = (q.0 ≡ p.0) × Moves p course q
+
+  -- at `q` the party is in this call, which it began at `p`
+  abbrev pub Entered : Call → Place T S → Place T S → Type 0
+  Entered c = λ p q. Since p (Starts c Waits) q
+
+  -- from the point `p` to the point `q` the party has begun this call, and made steps of it, after which the call goes on so
+  abbrev pub Comes : Call → Onward → Place T S → Place T S → Type 0
+  Comes c next p q = elim next [ Continue l ↦ Entered c p q | Answers a h ↦ Since p (IsCall c a) q ]
+
+  -- at `q` the party is in this call, which it began at `p`, or has not begun it
+  abbrev pub Under : Call → Place T S → Place T S → Type 0
+  Under c p q = (Entered c p q × (has_begun (what q.1) ≡ true)) ⊎ ((q ≡ p) × (has_begun (what q.1) ≡ false))
+
   abbrev pub here : Account T S → Place T S
   here it = (it.party.key, it.party.view, it.seen)
 
@@ -50,18 +76,21 @@ module _ {T S : Type 0} where
   abbrev pub FindsSeed : Account T S → Type 0
   FindsSeed it = use_of use_of_party it.party.view ≡ writes → HasSeed it
 
-  -- Either a call with a closure has its answer. Or the party may run its closure, and the seed is still in the cell.
-  abbrev pub Claims : Bool → Place T S → Claim T S → Type 0
-  Claims may_fail p (claim.Found found) = Since p (Ends (Value tt)) (here found.account)
-  Claims may_fail p (claim.Init permit) =
-      Since p Waits (here permit.account) × HasSeed permit.account × (what permit.account.party.view ≡ Some (in_closure may_fail Run))
+  -- Either a call with a closure is answered by its first load. Or it may begin its closure.
+  abbrev pub ComesIn : Call → Place T S → Result (Found T S) (Account T S) → Type 0
+  ComesIn c p (Ok found) = Since p (IsCall c (Value tt)) (here found.account)
+  ComesIn c p (Err it) = Entered c p (here it) × (what it.party.view ≡ Some (in_call c TryBegin))
 
-  -- the result of a try to begin: like `Claims`, or the call waits because another closure runs
-  abbrev pub Attempts : Bool → Place T S → Result (Claim T S) (Account T S) → Type 0
-  Attempts may_fail p (Ok claim) = Claims may_fail p claim
-  Attempts may_fail p (Err account) = Since p Waits (here account) × (what account.party.view ≡ Some (in_closure may_fail Await))
+  -- either a call with a closure is answered, or it still goes on
+  abbrev pub Claims : Call → Place T S → Result (Found T S) (InitPermit T S) → Type 0
+  Claims c p (Ok found) = Since p (IsCall c (Value tt)) (here found.account)
+  Claims c p (Err permit) = Entered c p (here permit.account)
 
-  -- the party has made a whole call, and has found the value or none
-  abbrev pub Finds : OnceCall (Unit {0}) → Place T S → Result (Found T S) (Account T S) → Type 0
-  Finds c p (Ok found) = Since p (IsCall c (Value tt)) (here found.account)
-  Finds c p (Err none) = Since p (IsCall c NoValue) (here none) × (what none.party.view ≡ Some Idle)
+  -- the party of the account `old` may now run the closure of this call, and the seed is still in the cell
+  abbrev pub MayRun : Call → Account T S → Account T S → Type 0
+  MayRun c old it = HasSeed it × (what it.party.view ≡ Some (in_call c Run)) × (it.party.key ≡ old.party.key)
+
+  -- The party has made a whole call, and has found this value or none. The value is the only one of the cell.
+  abbrev pub GetsOrNone : Call → Place T S → Option (Bor T) × Account T S → Type 0
+  GetsOrNone c p (found, it) =
+      Since p (IsCall c (found_or_none found)) (here it) × IfSome found (λ value. IsValue p.0.opening it.seen.entries value.now) × (has_begun (what it.party.view) ≡ false)

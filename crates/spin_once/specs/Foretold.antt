@@ -1,18 +1,14 @@
 -- A run of a `Once` on threads, as a schedule of its object. In the object's table the name of a call says from the beginning whether its
 -- closure fails. So if a closure fails later, the schedule begins its call under the name of a failing call. It leaves
 -- out the move that reports the failure.
-use Rattle.std.specs.Prelude.{ℕ, Bool, true, false, None, List, [], ◌∷◌, length, take, if◌then◌else◌, ◌==◌}
+use Rattle.std.specs.Prelude.{ℕ, Bool, true, false, List, [], ◌∷◌, length, take, if◌then◌else◌, ◌==◌}
 use Rattle.spin_core.specs.Own.{Numbered}
 use Rattle.spin_step.specs.declared.once_calls.OnceCall.{OnceCall}
 use Rattle.spin_step.specs.declared.once_calls.OnceCall.TheVariants.{TryCallOnceOk, TryCallOnceErr}
-use Rattle.spin_step.specs.declared.once_calls.OncePoint.{OncePoint}
-use Rattle.spin_step.specs.declared.place.Seat.{Seat}
-use Rattle.spin_step.specs.declared.place.Seat.TheVariants as seat
+use Rattle.spin_step.specs.declared.place.Seat.TheVariants.{Idle, Calling}
 use Rattle.spin_step.specs.declared.schedule.Move.TheVariants.{Begin, Weak}
 use Rattle.spin_once.specs.OnceValues.{Made}
-use Rattle.spin_once.specs.Once.{OneMove}
-use Rattle.spin_once.specs.declared.once_core.rule.View.{View}
-use Rattle.spin_once.specs.declared.once_core.rule.View.TheVariants.{Idle, Reading, InCall}
+use Rattle.spin_once.specs.Once.{OneMove, View}
 
 -- whether the closure of the party's call fails, by this move or (`later`) by a later one before another call begins
 abbrev pub fails_by : OneMove → Bool → Bool
@@ -41,10 +37,9 @@ foretold [] = []
 foretold (e ∷ es) = told_of e.0 e.1 (will_fail es e.0) (foretold es)
 
 -- where a party sits in the object; a party that reads has its answer, so it is idle there
-abbrev pub place_of : View → Seat (OnceCall (Unit {0})) OncePoint
-place_of Idle = seat.Idle
-place_of Reading = seat.Idle
-place_of (InCall c l) = seat.Calling c l None
+abbrev pub place_of : View → View
+place_of (Calling c l h) = Calling c l h
+place_of _ = Idle
 
 -- the party, with its place in the trace turned into a place in the object's schedule
 abbrev pub counted : List Made → Numbered View → Numbered View

@@ -1,50 +1,53 @@
--- The rule of a value that is made once, from a seed. The word of the cell is that of a plain lock in the phase that its parties show. The
--- trace is a schedule of the model. The schedule leads to this word and to the views of these parties.
-use Rattle.std.specs.Prelude.{◌≡◌, ◌<◌, ◌≤◌, ℕ, Bool, true, false, Option, Some, None, List, [], ◌∷◌, ◌++◌, length, replicate, if◌then◌else◌}
-use mathlib.Core.Option.{some}
-use lib.ListN.{get_elem?}
+-- The rule of a value that is made once, from a seed. The word of the cell says how its parties use the content. The trace is a schedule of
+-- the model. The schedule leads to this word and to the seats of these parties.
+use Rattle.std.specs.Prelude.{is_some, ◌≡◌, ◌<◌, ◌≤◌, ◌⊎◌, ℕ, zero, suc, Bool, true, false, Option, Some, None, List, [], ◌∷◌, ◌++◌, length, replicate}
 use Rattle.core.specs.declared.snapshot.Snapshot.{Snapshot}
-use Rattle.spin_step.specs.Plain as plain
-use Rattle.spin_step.specs.Plain.{Plain, Phase, nothing, complete, fresh, once_word}
 use Rattle.spin_core.specs.Cell.{Use, off, reads, writes, fixes, knows, Ways, readers_of, writers_of}
 use Rattle.spin_core.specs.Own.{Numbered, Runs, Tells}
 use Rattle.spin_core.specs.Passes as passes
-use Rattle.spin_core.specs.Passes.{Course, Waits, Ends, Begins, IsCall, step_by}
-use Rattle.spin_core.specs.Views.{no_word}
+use Rattle.spin_core.specs.Passes.{Course, Ending, Begins, step_by}
 use Rattle.spin_core.specs.declared.cell.stable.MaybeStable.{MaybeStable}
 use Rattle.spin_core.specs.declared.tie.Opening.{Opening}
 use Rattle.spin_core.specs.declared.trace.Trace.{Trace}
+use Rattle.spin_session.specs.Turns.{outcome_of, has_begun}
 use Rattle.spin_step.specs.declared.answer.Answer.{Answer}
-use Rattle.spin_step.specs.declared.answer.Answer.TheVariants.{Value, Is, Failed}
+use Rattle.spin_step.specs.declared.answer.Answer.TheVariants.{Value, NoValue, Is, Failed}
 use Rattle.spin_step.specs.declared.once_calls.OnceCall.{OnceCall}
-use Rattle.spin_step.specs.declared.once_calls.OnceCall.TheVariants.{CallOnce, TryCallOnceOk}
+use Rattle.spin_step.specs.declared.once_calls.OnceCall.TheVariants.{TryCallOnceOk}
 use Rattle.spin_step.specs.declared.once_calls.OncePoint.{OncePoint}
-use Rattle.spin_step.specs.declared.once_calls.OncePoint.TheVariants.{Look, Await, Run}
+use Rattle.spin_step.specs.declared.once_calls.OncePoint.TheVariants.{Look, Run}
+use Rattle.spin_step.specs.declared.place.Hold.TheVariants.{Read}
 use Rattle.spin_step.specs.declared.place.Seat.{Seat}
-use Rattle.spin_step.specs.declared.place.Seat.TheVariants as seat
+use Rattle.spin_step.specs.declared.place.Seat.TheVariants.{Idle, Calling, Holding}
 use Rattle.spin_step.specs.declared.schedule.Move.{Move}
 use Rattle.spin_step.specs.declared.schedule.Move.TheVariants.{Step, Weak}
-use Rattle.spin_step.specs.declared.schedule.Outcome.{Outcome}
 use Rattle.spin_step.specs.declared.schedule.Outcome.TheVariants.{GoingOn, Answered}
 use Rattle.spin_step.specs.declared.stepped.Next.{Next}
 use Rattle.spin_step.specs.declared.stepped.Next.TheVariants.{Continue, Answers}
-use Rattle.spin_step.specs.OnceCalls.{OnceMachine, once_machine}
+use Rattle.spin_step.specs.OnceCalls.{OnceMachine, once_machine, brings_of}
 use Rattle.spin_once.specs.Model.{Point, at, model}
-use Rattle.spin_once.specs.OnceValues.{Valued, Made, bare, bare_trace, given_of, made, AtMostOne, IsMade}
+use Rattle.spin_once.specs.OnceValues.{Valued, bare, bare_trace, given_of, made, AtMostOne, IsMade}
 use Rattle.spin_once.specs.declared.once_core.rule.Key.{Key}
-use Rattle.spin_once.specs.declared.once_core.rule.View.{View}
-use Rattle.spin_once.specs.declared.once_core.rule.View.TheVariants.{Idle, Reading, InCall}
 use Rattle.spin_once.specs.declared.once_core.rule.Stage.{Stage}
 use Rattle.spin_once.specs.declared.once_core.rule.Stage.TheVariants.{Seed, Done}
 
-abbrev pub used_at : OncePoint → Use
-used_at Run = writes
-used_at _ = off
+abbrev pub Call : Type 0
+Call = OnceCall (Unit {0})
+
+-- the seat of a party; one that holds something reads the value for ever
+abbrev pub View : Type 0
+View = Seat Call OncePoint
+
+abbrev pub in_call : Call → OncePoint → View
+in_call c l = Calling c l None
+
+abbrev pub reader : View
+reader = Holding Read
 
 abbrev pub use_of_view : View → Use
-use_of_view Idle = off
-use_of_view Reading = reads
-use_of_view (InCall c l) = used_at l
+use_of_view (Calling c Run h) = writes
+use_of_view (Holding h) = reads
+use_of_view _ = off
 
 -- how a party uses the content of the cell
 abbrev pub use_of_party : Numbered View → Use
@@ -58,19 +61,16 @@ readers = readers_of use_of_view
 abbrev pub runs : List View → ℕ
 runs = writers_of use_of_view
 
--- Which parties fit this phase. In `nothing` no party reads, and none runs a closure. In `running p` only `p` runs its
--- closure, and no party reads. In `complete` some party reads, and none runs a closure.
-abbrev pub IsPhaseOf : List View → Phase → Type 0
-IsPhaseOf vs nothing = (readers vs ≡ 0) × (runs vs ≡ 0)
-IsPhaseOf vs (plain.running p) = (readers vs ≡ 0) × (runs vs ≡ 1) × ((c : OnceCall (Unit {0})) × (get_elem? vs p ≡ some (InCall c Run)))
-IsPhaseOf vs complete = (0 < readers vs) × (runs vs ≡ 0)
-
--- a plain lock of which only the phase is used
-abbrev pub in_phase : Phase → Plain
-in_phase s = record (fresh 0 0 0) { phase = s }
+-- What the word says if r parties read the value and w parties run a closure. With 0 no party does either. With 1 one party runs its
+-- closure, and none reads. With 2 some party reads, and none runs a closure.
+abbrev pub IsPhase : ℕ → ℕ → ℕ → Type 0
+IsPhase zero r w = (r ≡ 0) × (w ≡ 0)
+IsPhase (suc zero) r w = (r ≡ 0) × (w ≡ 1)
+IsPhase (suc (suc zero)) r w = (0 < r) × (w ≡ 0)
+IsPhase _ r w = ⊥
 
 abbrev pub Word : ℕ → Unit {0} → List View → Type 0
-Word n m vs = (s : Phase) × IsPhaseOf vs s × (n ≡ once_word (in_phase s)) × (m ≡ no_word (in_phase s))
+Word n m vs = IsPhase n (readers vs) (runs vs)
 
 -- whether this content is a value that was made
 abbrev pub is_done : {T S : Type 0} → Stage T S → Bool
@@ -78,10 +78,7 @@ is_done (Done value) = true
 is_done _ = false
 
 abbrev pub OneMove : Type 0
-OneMove = Move (OnceCall (Unit {0})) (Unit {0})
-
-abbrev pub Ending : Type 0
-Ending = Outcome (Answer (Unit {0})) (Unit {0})
+OneMove = Move Call (Unit {0})
 
 module _ {T S : Type 0} (makes : S → T → Type 0) where
   -- What is known of the content of the cell. With `true` some party reads it: it is a value that may be made from the seed. With `false`
@@ -96,14 +93,16 @@ module _ {T S : Type 0} (makes : S → T → Type 0) where
   once_ways key = (fixes (λ read x. IsMadeFrom key.seed read x.value), use_of_party, knows (λ t x. IsMade key.opening.told (made key.opening.value t.entries) x.value))
 
 -- where a party sits in the model; a party that reads has its answer, so it is idle there
-abbrev pub seat_of : View → Seat (OnceCall (Unit {0})) Point
-seat_of Idle = seat.Idle
-seat_of Reading = seat.Idle
-seat_of (InCall c l) = seat.Calling c (at l) None
+abbrev pub seat_of : View → Seat Call Point
+seat_of (Calling c l h) = Calling c (at l) h
+seat_of _ = Idle
 
 -- the cell's two words for this word of the model; the second word is empty
 abbrev pub words_of : ℕ → ℕ × Unit {0}
 words_of w = (w, tt)
+
+abbrev pub Says : Type 1
+Says = passes.Says (Unit {0}) Call (Answer (Unit {0})) View
 
 module _ {T S : Type 0} where
   -- what holds of the first word, the trace and the parties of a cell with this opening
@@ -111,104 +110,78 @@ module _ {T S : Type 0} where
   IsOnce opening n t vs = Runs (model (given_of opening.value)) seat_of words_of Word opening.name n (bare_trace t) vs × AtMostOne n (made opening.value t.entries)
 
   -- what a step tells of its moves; it also tells that the history still has at most one value
-  unfoldable pub Told : Opening (Stage T S) → (List OneMove → List Ending → ℕ → View → Type 0) → Option (Numbered View) → List (Valued T) → List (Valued T)
-      → ℕ → Numbered View → Type 0
+  unfoldable pub Told : Opening (Stage T S) → Says → Option (Numbered View) → List (Valued T) → List (Valued T) → ℕ → Numbered View → Type 0
   Told opening says view log es n v = Tells (model (given_of opening.value)) seat_of words_of says view (bare log) (bare es) n v × (length (made opening.value (log ++ es)) ≤ 1)
 
 -- The steps of a call. The model's table says which step comes next.
 
-abbrev pub Says : Type 1
-Says = List OneMove → List Ending → ℕ → View → Type 0
-
--- The call that the party is in. If the party is in no call, this is the call `c`, which the party then begins.
-abbrev pub call_from : OnceCall (Unit {0}) → Option View → OnceCall (Unit {0})
-call_from c (Some (InCall d l)) = d
-call_from c _ = c
-
--- The point at which the party's call continues. If the party is in no call, this is the look with which a call
--- begins.
-abbrev pub point_of : Option View → OncePoint
-point_of (Some (InCall c l)) = l
-point_of _ = Look
-
--- whether the party has begun its call
-abbrev pub has_begun : Option View → Bool
-has_begun (Some (InCall c l)) = true
-has_begun _ = false
-
--- whether the party is in no call: it is new, or its last call has ended
-abbrev pub is_out : Option View → Bool
-is_out (Some (InCall c l)) = false
-is_out _ = true
+abbrev pub Onward : Type 0
+Onward = Next OncePoint (Answer (Unit {0}))
 
 -- how a call continues from this point, by the word that its step finds
-abbrev pub next_at : OnceCall (Unit {0}) → OncePoint → ℕ → Next OncePoint (Answer (Unit {0}))
+abbrev pub next_at : Call → OncePoint → ℕ → Onward
 next_at c l n = (let m : OnceMachine (Unit {0}) = once_machine None in m.step n (Some tt) c l None).next
-
-abbrev pub outcome_of : Next OncePoint (Answer (Unit {0})) → Ending
-outcome_of (Continue l) = GoingOn
-outcome_of (Answers a h) = Answered a None
 
 -- the view after this answer: a party that gets the value, or learns that there is one, reads the value for ever
 abbrev pub answered : Answer (Unit {0}) → View
-answered (Value v) = Reading
-answered (Is true) = Reading
+answered (Value v) = reader
+answered (Is true) = reader
 answered _ = Idle
 
-abbrev pub view_of : OnceCall (Unit {0}) → Next OncePoint (Answer (Unit {0})) → View
-view_of c (Continue l) = InCall c l
+abbrev pub view_of : Call → Onward → View
+view_of c (Continue l) = in_call c l
 view_of c (Answers a h) = answered a
 
--- what the next step of the party's call tells; a party in no call begins the call `c`
-abbrev pub turn_by : OnceCall (Unit {0}) → Option View → Says
-turn_by c view =
-    let d = call_from c view in let next = next_at d (point_of view) in
-    step_by (has_begun view) d (λ n. outcome_of (next n)) (λ n. view_of d (next n))
+-- what the step of the call at this point tells; it is the call's first if `goes_on` is false
+abbrev pub turn : Bool → Call → OncePoint → Says
+turn goes_on c l = step_by goes_on c (λ n. outcome_of (next_at c l n)) (λ n. view_of c (next_at c l n))
 
--- whether the step at this point is a load
-abbrev pub is_load : OncePoint → Bool
-is_load Look = true
-is_load Await = true
-is_load _ = false
+-- the next step of the party's call; a party in no call begins the call that is named
+abbrev pub turn_by : Option Call → Option View → Says
+turn_by None view own outs n v = ⊥
+turn_by (Some c) (Some (Calling d l h)) own outs n v = turn true d l own outs n v
+turn_by (Some c) view own outs n v = turn false c Look own outs n v
 
--- The name that the model gives a call with a closure. If the closure may fail, the call is named `TryCallOnceOk` until
--- the closure has failed.
-abbrev pub closure_call : Bool → OnceCall (Unit {0})
-closure_call may_fail = if may_fail then TryCallOnceOk tt else CallOnce tt
+-- the party is at this point of the call, or is in no call, and may begin this one here
+abbrev pub IsAt : Call → OncePoint → Option View → Type 0
+IsAt c l view = (view ≡ Some (in_call c l)) ⊎ ((l ≡ Look) × (has_begun view ≡ false))
 
--- the view of a party in such a call, at this point
-abbrev pub in_closure : Bool → OncePoint → View
-in_closure may_fail l = InCall (closure_call may_fail) l
+-- the closure of this call may give a value
+abbrev pub HasClosure : Call → Type 0
+HasClosure c = is_some (brings_of c) ≡ true
 
--- whether the party runs its closure
+-- at this point the closure of the call runs
+abbrev pub is_run : OncePoint → Bool
+is_run l = elim l [ Run ↦ true | _ ↦ false ]
+
+-- the call is answered, or its closure may run
+abbrev pub stops : Onward → Bool
+stops next = elim next [ Continue l ↦ is_run l | Answers a h ↦ true ]
+
+-- the table has this step, at some point of the call, for some number found
+abbrev pub IsStepOf : Call → Onward → Type 0
+IsStepOf c next = (l : OncePoint) × (n : ℕ) × (next ≡ next_at c l n)
+
+-- the call is answered with the value, or because there is none
+abbrev pub IsTold : Onward → Type 0
+IsTold next = (next ≡ Answers (Value tt) None) ⊎ (next ≡ Answers NoValue None)
+
+-- the party runs a closure, which may give a value
 abbrev pub is_running : Option View → Bool
-is_running (Some (InCall (CallOnce v) Run)) = true
-is_running (Some (InCall (TryCallOnceOk v) Run)) = true
+is_running (Some (Calling c Run None)) = is_some (brings_of c)
 is_running _ = false
-
--- the course of the failure of a closure that runs
-abbrev pub IsFailure : List OneMove → List Ending → Type 0
-IsFailure own outs = (own ≡ Weak ∷ Step ∷ []) × (outs ≡ GoingOn ∷ Answered Failed None ∷ [])
-
-abbrev pub fails_by : Says
-fails_by own outs n v = (v ≡ Idle) × IsFailure own outs
 
 -- The calls of a party
 
 abbrev pub Moving : Type 1
-Moving = Course (Unit {0}) (OnceCall (Unit {0})) (Answer (Unit {0}))
+Moving = Course (Unit {0}) Call (Answer (Unit {0}))
 
--- Moves of the call `c`. With `true` the call is under way, with `false` the moves begin it. The call then waits, or has this answer.
-abbrev pub Comes : Bool → OnceCall (Unit {0}) → Next OncePoint (Answer (Unit {0})) → Moving
-Comes true c (Continue l) = Waits
-Comes true c (Answers a h) = Ends a
-Comes false c (Continue l) = Begins c Waits
-Comes false c (Answers a h) = IsCall c a
+-- the course of the failure of a closure that runs
+abbrev pub IsFailure : Moving
+IsFailure own outs = (own ≡ Weak ∷ Step ∷ []) × (outs ≡ GoingOn ∷ Answered Failed None ∷ [])
 
--- From `old` to `new` the party has made exactly the moves of this course. `given` says whether the cell opened with
--- a value.
-unfoldable pub Moves : Option (Unit {0}) → Moving → Option (Numbered View) → List Made → Option (Numbered View) → List Made → Type 0
-Moves given course view old view' new = passes.Made (model given) view old view' new course
+abbrev pub fails_by : Says
+fails_by own outs n v = (v ≡ Idle) × IsFailure own outs
 
 -- the course of a call under way whose closure fails: steps after which the call goes on, and then the failure
 abbrev pub Fails : Moving

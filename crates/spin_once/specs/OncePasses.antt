@@ -1,24 +1,19 @@
 -- What a pass of a `Once` knows: the history up to the pass's last step, and which moves of the history are its own.
-use Rattle.std.specs.Prelude.{ℕ, Bool, Option, Some, None, List, Result, Ok, Err}
+use Rattle.std.specs.Prelude.{ℕ, Bool, Option, List, Result, Ok, Err}
 use Rattle.spin_core.specs.Own.{Numbered}
 use Rattle.spin_core.specs.Passes.{IsCall}
 use Rattle.spin_step.specs.declared.answer.Answer.{Answer}
-use Rattle.spin_step.specs.declared.answer.Answer.TheVariants.{Value, NoValue, Is}
+use Rattle.spin_step.specs.declared.answer.Answer.TheVariants.{Value, Is}
 use Rattle.spin_step.specs.declared.once_calls.OnceCall.{OnceCall}
 use Rattle.spin_step.specs.declared.once_calls.OnceCall.TheVariants.{CallOnce, TryCallOnceOk, IsCompleted}
 use Rattle.spin_once.specs.Accounts.{here, Since}
+pub use Rattle.spin_once.specs.Accounts.{found_or_none}
 use Rattle.spin_core.specs.declared.tie.Opening.{Opening}
 use Rattle.spin_once.specs.OnceValues.{Valued, Made, bare, given_of}
-use Rattle.spin_once.specs.Once.{IsFailedCall}
+use Rattle.spin_once.specs.Once.{View, IsFailedCall}
 use Rattle.spin_once.specs.declared.once.Once.{Once}
 use Rattle.spin_once.specs.declared.once.pass.Pass.{Pass}
 use Rattle.spin_once.specs.declared.once_core.rule.Stage.{Stage}
-use Rattle.spin_once.specs.declared.once_core.rule.View.{View}
-
--- the answer to a caller that got the value or none
-abbrev pub found_or_none : {X : Type 0} → Option X → Answer (Unit {0})
-found_or_none None = NoValue
-found_or_none (Some value) = Value tt
 
 module _ {T R : Type 0} where
   -- all moves in the `Once` up to the pass's last step

@@ -6,10 +6,9 @@ ghost use Rattle.spin_core.specs.declared.tie.Opening.{Opening};
 ghost use Rattle.spin_core.specs.declared.trace.Trace.{Trace};
 ghost use Rattle.spin_step.specs.OnceCalls.{once_machine};
 ghost use Rattle.spin_once.specs.Foretold.{foretold, counted, place_of};
-ghost use Rattle.spin_once.specs.Once.{IsOnce, words_of};
+ghost use Rattle.spin_once.specs.Once.{View, IsOnce, words_of};
 ghost use Rattle.spin_once.specs.OnceValues.{Valued, bare, given_of, IsValue};
 ghost use Rattle.spin_once.specs.declared.once_core.rule.Stage.{Stage};
-ghost use Rattle.spin_once.specs.declared.once_core.rule.View.{View};
 
 /// Each run of a [`Once`](crate::once::Once) or a [`LazyLock`](crate::lazylock::LazyLock) on threads is a schedule of
 /// its object.

@@ -1,20 +1,22 @@
 //! A value that its own initialiser makes when a thread first asks for it. Begin with [`LazyLock::new`] and
 //! [`LazyLock::force`]. [`LazyLock::promising`] tells callers more of the value than its type does.
-ghost use Rattle.std.specs.Prelude.{◌≡◌, Some, true, false, []};
+ghost use Rattle.std.specs.Prelude.{◌≡◌, Some, true, []};
 ghost use Rattle.spin_core.specs.Own.{what};
-ghost use Rattle.spin_core.specs.Passes.{Ends, IsCall};
+ghost use Rattle.spin_core.specs.Passes.{IsCall};
 ghost use Rattle.spin_step.specs.declared.answer.Answer.TheVariants.{Value};
 ghost use Rattle.spin_step.specs.declared.once_calls.OnceCall.TheVariants.{CallOnce};
-ghost use Rattle.spin_once.specs.Accounts.{here, seed_of, Since};
+ghost use Rattle.spin_once.specs.Accounts.{Place, here, seed_of, Since, Entered};
 ghost use Rattle.spin_once.specs.Lazy.{initialiser, promise};
 ghost use Rattle.spin_once.specs.LazyPasses.{opening};
 ghost use Rattle.spin_step.specs.declared.once_calls.OncePoint.TheVariants.{TryBegin};
-ghost use Rattle.spin_once.specs.Once.{is_out, in_closure};
+ghost use Rattle.spin_once.specs.Once.{in_call};
 ghost use Rattle.spin_once.specs.OnceValues.{lies_in};
+ghost use Rattle.spin_once.specs.declared.lazylock.Initialiser.{Initialiser as AnInitialiser};
 
 use crate::exclusive::Exclusive;
-use crate::once_core::{Account, Claim, Found, OnceCore, Seed, Sure};
+use crate::once_core::{Account, Found, OnceCore, Seed};
 use spin_core::relax::{RelaxStrategy, Spin};
+use spin_step::OnceCall;
 use std::marker::PhantomData;
 use std::sync::Wait;
 
@@ -178,7 +180,7 @@ impl<T, F: Makes<T, M>, R: RelaxStrategy, M: Promise<T>> LazyLock<T, F, R, M> {
         requires { F.can (initialiser this.now) (promise this.now) }
         ensures { M.keeps (promise this.now) result.now }
     {
-        match this.core.account().come::<Sure>() {
+        match this.core.account().come(OnceCall::CallOnce(())) {
             Ok(found) => found.value(),
             Err(account) => Self::make(rt, account).value(),
         }
@@ -192,13 +194,13 @@ impl<T, F: Makes<T, M>, R: RelaxStrategy, M: Promise<T>> LazyLock<T, F, R, M> {
         rt: &W,
         account: Account<'a, T, Initialiser<F, M>>,
     ) -> Found<'a, T, Initialiser<F, M>>
-        requires wants { what account.party.view ≡ Some (in_closure false TryBegin) }
+        requires wants { what account.party.view ≡ Some (in_call (CallOnce tt) TryBegin) }
         requires can { F.can (seed_of account).f.inner (seed_of account).promise }
-        ensures { Since (here account.entry) (Ends (Value tt)) (here result.account) }
+        ensures { (p : Place T (AnInitialiser F M)) → Entered (CallOnce tt) p (here account.entry) → Since p (IsCall (CallOnce tt) (Value tt)) (here result.account) }
     {
-        match account.claim::<Sure, R, W>(rt) {
-            Claim::Found(found) => found,
-            Claim::Init(permit) => {
+        match account.claim::<R, W>(OnceCall::CallOnce(()), rt) {
+            Ok(found) => found,
+            Err(permit) => {
                 let (permit, Initialiser { f, promise }) = permit.take();
                 permit.complete(f.into_inner().make(promise))
             }

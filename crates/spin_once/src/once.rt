@@ -4,8 +4,9 @@ ghost use Rattle.spin_once.specs.OncePasses.{opening};
 ghost use Rattle.spin_once.specs.OnceValues.{lies_in};
 
 use self::make::{find_or_try, make};
-use crate::once_core::{OnceCore, Seed, Sure};
+use crate::once_core::{OnceCore, Seed};
 use spin_core::relax::{RelaxStrategy, Spin};
+use spin_step::OnceCall;
 use std::marker::PhantomData;
 use std::sync::Wait;
 
@@ -122,7 +123,7 @@ impl<T, R: RelaxStrategy> Once<T, R> {
     pub fn call_once<F: FnOnce() -> T, W: Wait>(&self, rt: &W, f: F) -> &T
         requires { F.pre f }
     {
-        match self.core.account().come::<Sure>() {
+        match self.core.account().come(OnceCall::CallOnce(())) {
             Ok(found) => found.value(),
             Err(account) => make::<T, R, F, W>(rt, account, f).value(),
         }
@@ -218,13 +219,9 @@ impl<T, R: RelaxStrategy> Once<T, R> {
     /// assert_eq!(rt; port.poll(&rt).copied(), Some(80));
     /// ```
     pub fn poll<W: Wait>(&self, rt: &W) -> Option<&T> {
-        match self.core.account().poll::<R, W>(rt) {
-            Ok(found) => Some(found.value()),
-            Err(account) => {
-                account.close();
-                None
-            }
-        }
+        let (found, account) = self.core.account().poll::<R, W>(rt);
+        account.close();
+        found
     }
 }
 

@@ -9,8 +9,8 @@ mod init_permit;
 mod known;
 mod rule;
 
-pub(crate) use self::account::{Account, Claim, Found};
-pub(crate) use self::rule::{Seed, Sure, Unsure};
+pub(crate) use self::account::{Account, Found};
+pub(crate) use self::rule::Seed;
 
 /// A cell that holds a seed, and later the value made from it.
 ///
@@ -58,13 +58,9 @@ impl<T, S: Seed<T>> OnceCore<T, S> {
     pub(crate) fn get(&self) -> Option<&T>
         ensures { IfSome result (λ value. S.makes self.now.cell.seed.value value.now) }
     {
-        match self.account().get() {
-            Ok(found) => Some(found.value()),
-            Err(account) => {
-                account.close();
-                None
-            }
-        }
+        let (found, account) = self.account().get();
+        account.close();
+        found
     }
 
     /// Returns the value if there is one. It loads no word, since the cell is no longer shared.

@@ -29,9 +29,8 @@ use Rattle.spin_step.specs.Schedules.{after, at_first, happens, moves, moves_at,
 use Rattle.spin_step.proofs.Schedules.{after-append}
 use Rattle.spin_once.specs.Foretold.{fails_by, will_fail, named, told_of, foretold}
 use Rattle.spin_once.specs.Model.{Point, at, failed, onward}
-use Rattle.spin_once.specs.Once.{OneMove}
+use Rattle.spin_once.specs.Once.{OneMove, View}
 use Rattle.spin_once.specs.OnceValues.{Made}
-use Rattle.spin_once.specs.declared.once_core.rule.View.{View}
 use Rattle.spin_once.proofs.Foretold.{split, quiet, leads_on, all_alike, happens_alike, weak_alike, named_later, first_named, named_kept}
 use Rattle.spin_once.proofs.Named.{Object, seat_named, object, renamed, t, m, named_get}
 use Rattle.spin_once.proofs.Resting.{World}

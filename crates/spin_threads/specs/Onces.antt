@@ -12,8 +12,8 @@ use Rattle.spin_step.specs.declared.once_calls.OnceCall.{OnceCall}
 use Rattle.spin_step.specs.OnceCalls.{once_machine}
 use Rattle.spin_once.specs.Foretold.{foretold}
 use Rattle.spin_once.specs.Model.{model}
+use Rattle.spin_once.specs.Once.{View}
 use Rattle.spin_once.specs.OnceValues.{Made}
-use Rattle.spin_once.specs.declared.once_core.rule.View.{View}
 use Rattle.spin_threads.specs.Moments.{AtAMoment, AsAnswered}
 
 -- the history `old` has grown to `new`: the part of the object's schedule for `new` that corresponds to `old`

@@ -15,7 +15,6 @@ ghost use Rattle.spin_once.specs.Foretold.{foretold, place_of};
 ghost use Rattle.spin_once.specs.Once as once;
 ghost use Rattle.spin_once.specs.OnceValues as once_values;
 ghost use Rattle.spin_once.specs.declared.once_core.rule.Stage.{Stage as OnceStage};
-ghost use Rattle.spin_once.specs.declared.once_core.rule.View.{View as OnceView};
 ghost use Rattle.spin_rwlock.specs.Rw as rwlock;
 ghost use Rattle.spin_rwlock.specs.declared.rwlock.rule.View.{View as RwLockView};
 ghost use Rattle.spin_seats.specs.Rule as seats;
@@ -78,7 +77,7 @@ pub fn between_any_two_steps_of_a_rwlock<T>()
 /// `Between` says this of the word and the parties of the cell. The moves in the cell's trace make a schedule of the
 /// object `Once` (`bare`, `foretold`). `opening` says whether the cell was made with a value.
 pub fn between_any_two_steps_of_a_once<T, S>()
-    ensures { (opening : Opening (OnceStage T S)) (word : ℕ) (trace : Trace (once_values.Valued T) (Unit {0})) (parties : List (Numbered OnceView)) → once.IsOnce opening word trace parties → Between (once_machine (once_values.given_of opening.value)) place_of once.words_of (foretold (once_values.bare trace.entries)) (word, trace.word) parties }
+    ensures { (opening : Opening (OnceStage T S)) (word : ℕ) (trace : Trace (once_values.Valued T) (Unit {0})) (parties : List (Numbered once.View)) → once.IsOnce opening word trace parties → Between (once_machine (once_values.given_of opening.value)) place_of once.words_of (foretold (once_values.bare trace.entries)) (word, trace.word) parties }
 {}
 
 /// No newcomer acquires a `FairMutex` while a starver is registered. A newcomer is a party that neither holds the lock nor

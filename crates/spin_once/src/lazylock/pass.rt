@@ -1,14 +1,15 @@
 //! The calls of a [`LazyLock`] by a thread that keeps track of them. Begin at [`LazyLock::pass`].
-ghost use Rattle.std.specs.Prelude.{◌≡◌, ◌⊎◌, None, [], true};
+ghost use Rattle.std.specs.Prelude.{◌≡◌, ◌⊎◌, None, [], false};
 ghost use mathlib.Core.List.{IsPrefix};
 ghost use Rattle.spin_core.specs.Own.{what};
 ghost use Rattle.spin_once.specs.Lazy.{initialiser, promise};
-ghost use Rattle.spin_once.specs.Once.{is_out};
+ghost use Rattle.spin_session.specs.Turns.{has_begun};
 ghost use Rattle.spin_once.specs.OnceValues.{IsValue};
 
 use super::{Initialiser, LazyLock, Makes, Promise};
-use crate::once_core::{Account, Sure};
+use crate::once_core::Account;
 use spin_core::relax::RelaxStrategy;
+use spin_step::OnceCall;
 use std::marker::PhantomData;
 use std::sync::Wait;
 
@@ -28,7 +29,7 @@ use std::sync::Wait;
 pub struct Pass<'a, T, F, R, M: Promise<T>> {
     account: Account<'a, T, Initialiser<F, M>>,
     strategy: PhantomData<R>,
-    ghost out: { is_out (what account.party.view) ≡ true },
+    ghost out: { has_begun (what account.party.view) ≡ false },
 }
 
 impl<T, F, R, M: Promise<T>> LazyLock<T, F, R, M> {
@@ -80,7 +81,7 @@ impl<'a, T, F: Makes<T, M>, R: RelaxStrategy, M: Promise<T>> Pass<'a, T, F, R, M
         ensures found { IsValue (opening_of self.entry) (history result.1) result.0.now }
     {
         let Self { account, strategy } = self;
-        let found = match account.come::<Sure>() {
+        let found = match account.come(OnceCall::CallOnce(())) {
             Ok(found) => found,
             Err(account) => LazyLock::<T, F, R, M>::make(rt, account),
         };

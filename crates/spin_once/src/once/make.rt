@@ -1,15 +1,17 @@
 //! What a call with a closure does. Begin with [`make`].
 ghost use Rattle.std.specs.Prelude.{◌≡◌, Some, Err, true, false, IfOk, IfErr};
 ghost use Rattle.spin_core.specs.Own.{what};
-ghost use Rattle.spin_core.specs.Passes.{Ends, IsCall};
+ghost use Rattle.spin_core.specs.Passes.{IsCall};
+ghost use Rattle.spin_session.specs.Turns.{has_begun};
 ghost use Rattle.spin_step.specs.declared.answer.Answer.TheVariants.{Value};
-ghost use Rattle.spin_step.specs.declared.once_calls.OnceCall.TheVariants.{TryCallOnceOk};
+ghost use Rattle.spin_step.specs.declared.once_calls.OnceCall.TheVariants.{CallOnce, TryCallOnceOk};
 ghost use Rattle.spin_step.specs.declared.once_calls.OncePoint.TheVariants.{TryBegin};
-ghost use Rattle.spin_once.specs.Accounts.{here, Since};
-ghost use Rattle.spin_once.specs.Once.{is_out, in_closure, Fails, IsFailedCall};
+ghost use Rattle.spin_once.specs.Accounts.{Place, here, Since, Entered};
+ghost use Rattle.spin_once.specs.Once.{in_call, IsFailedCall};
 
-use crate::once_core::{Account, Claim, Found, Sure, Unsure};
+use crate::once_core::{Account, Found};
 use spin_core::relax::RelaxStrategy;
+use spin_step::OnceCall;
 use std::sync::Wait;
 
 /// Finds the value, or makes it by a closure that may fail. Spins while another thread makes it. If the closure fails,
@@ -19,13 +21,13 @@ pub(super) fn find_or_try<'a, T, R: RelaxStrategy, F: FnOnce() -> Result<T, E>, 
     rt: &W,
     f: F,
 ) -> Result<Found<'a, T, ()>, (E, Account<'a, T, ()>)>
-    requires out { is_out (what account.party.view) ≡ true }
+    requires out { has_begun (what account.party.view) ≡ false }
     requires calls { F.pre f }
     ensures found { IfOk result (λ found. Since (here account.entry) (IsCall (TryCallOnceOk tt) (Value tt)) (here found.account)) }
     ensures failed { IfErr result (λ failed. Since (here account.entry) IsFailedCall (here failed.1)) }
-    ensures err { IfErr result (λ failed. F.post f (Err failed.0) × (is_out (what failed.1.party.view) ≡ true)) }
+    ensures err { IfErr result (λ failed. F.post f (Err failed.0) × (has_begun (what failed.1.party.view) ≡ false)) }
 {
-    match account.come::<Unsure>() {
+    match account.come(OnceCall::TryCallOnceOk(())) {
         Ok(found) => Ok(found),
         Err(account) => try_make::<T, R, F, E, W>(rt, account, f),
     }
@@ -40,13 +42,13 @@ pub(super) fn make<'a, T, R: RelaxStrategy, F: FnOnce() -> T, W: Wait>(
     account: Account<'a, T, ()>,
     f: F,
 ) -> Found<'a, T, ()>
-    requires wants { what account.party.view ≡ Some (in_closure false TryBegin) }
+    requires wants { what account.party.view ≡ Some (in_call (CallOnce tt) TryBegin) }
     requires calls { F.pre f }
-    ensures { Since (here account.entry) (Ends (Value tt)) (here result.account) }
+    ensures { (p : Place T (Unit {0})) → Entered (CallOnce tt) p (here account.entry) → Since p (IsCall (CallOnce tt) (Value tt)) (here result.account) }
 {
-    match account.claim::<Sure, R, W>(rt) {
-        Claim::Found(found) => found,
-        Claim::Init(permit) => permit.complete(f()),
+    match account.claim::<R, W>(OnceCall::CallOnce(()), rt) {
+        Ok(found) => found,
+        Err(permit) => permit.complete(f()),
     }
 }
 
@@ -57,15 +59,15 @@ fn try_make<'a, T, R: RelaxStrategy, F: FnOnce() -> Result<T, E>, E, W: Wait>(
     account: Account<'a, T, ()>,
     f: F,
 ) -> Result<Found<'a, T, ()>, (E, Account<'a, T, ()>)>
-    requires wants { what account.party.view ≡ Some (in_closure true TryBegin) }
+    requires wants { what account.party.view ≡ Some (in_call (TryCallOnceOk tt) TryBegin) }
     requires calls { F.pre f }
-    ensures found { IfOk result (λ found. Since (here account.entry) (Ends (Value tt)) (here found.account)) }
-    ensures failed { IfErr result (λ failed. Since (here account.entry) Fails (here failed.1)) }
-    ensures err { IfErr result (λ failed. F.post f (Err failed.0) × (is_out (what failed.1.party.view) ≡ true)) }
+    ensures found { IfOk result (λ found. (p : Place T (Unit {0})) → Entered (TryCallOnceOk tt) p (here account.entry) → Since p (IsCall (TryCallOnceOk tt) (Value tt)) (here found.account)) }
+    ensures failed { IfErr result (λ failed. (p : Place T (Unit {0})) → Entered (TryCallOnceOk tt) p (here account.entry) → Since p IsFailedCall (here failed.1)) }
+    ensures err { IfErr result (λ failed. F.post f (Err failed.0) × (has_begun (what failed.1.party.view) ≡ false)) }
 {
-    let permit = match account.claim::<Unsure, R, W>(rt) {
-        Claim::Found(found) => return Ok(found),
-        Claim::Init(permit) => permit,
+    let permit = match account.claim::<R, W>(OnceCall::TryCallOnceOk(()), rt) {
+        Ok(found) => return Ok(found),
+        Err(permit) => permit,
     };
     match f() {
         Ok(value) => Ok(permit.complete(value)),

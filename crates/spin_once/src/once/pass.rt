@@ -1,19 +1,20 @@
 //! The calls of a [`Once`] by a thread that keeps track of them. Begin at [`Once::pass`].
-ghost use Rattle.std.specs.Prelude.{◌≡◌, ◌⊎◌, Some, None, Err, [], true, IfSome, IfOk, IfErr};
+ghost use Rattle.std.specs.Prelude.{◌≡◌, ◌⊎◌, Some, None, Err, [], false, IfSome, IfOk, IfErr};
 ghost use mathlib.Core.List.{IsPrefix};
 ghost use Rattle.spin_core.specs.Own.{what};
 ghost use Rattle.spin_step.specs.declared.answer.Answer.TheVariants.{Value, Is};
 ghost use Rattle.spin_step.specs.declared.once_calls.OnceCall.TheVariants.{CallOnce, Wait as WaitCall, Poll, Get, IsCompleted};
-ghost use Rattle.spin_step.specs.declared.once_calls.OnceCall.{OnceCall};
-ghost use Rattle.spin_once.specs.Accounts.{Place, here, Since, Finds};
+ghost use Rattle.spin_step.specs.declared.once_calls.OnceCall.{OnceCall as ACall};
+ghost use Rattle.spin_once.specs.Accounts.{found_or_none};
 ghost use Rattle.spin_core.specs.Passes.{IsCall};
-ghost use Rattle.spin_once.specs.Once.{is_out};
+ghost use Rattle.spin_session.specs.Turns.{has_begun};
 ghost use Rattle.spin_once.specs.OnceValues.{IsValue};
 
 use super::Once;
 use super::make::{find_or_try, make};
-use crate::once_core::{Account, Found, Sure};
+use crate::once_core::Account;
 use spin_core::relax::RelaxStrategy;
+use spin_step::OnceCall;
 use std::marker::PhantomData;
 use std::sync::Wait;
 
@@ -45,7 +46,7 @@ use std::sync::Wait;
 pub struct Pass<'a, T, R> {
     account: Account<'a, T, ()>,
     strategy: PhantomData<R>,
-    ghost out: { is_out (what account.party.view) ≡ true },
+    ghost out: { has_begun (what account.party.view) ≡ false },
 }
 
 impl<T, R> Once<T, R> {
@@ -65,7 +66,7 @@ impl<T, R> Once<T, R> {
 }
 
 impl<'a, T, R> Pass<'a, T, R> {
-    ghost use Rattle.spin_once.specs.OncePasses.{Called, found_or_none, history, opening_of};
+    ghost use Rattle.spin_once.specs.OncePasses.{Called, history, opening_of};
 
     /// Returns the value, or `None` if there is none yet, as [`Once::get`] does.
     ///
@@ -77,7 +78,8 @@ impl<'a, T, R> Pass<'a, T, R> {
         ensures found { IfSome result.0 (λ value. IsValue (opening_of self.entry) (history result.1) value.now) }
     {
         let Self { account, strategy } = self;
-        Self::answer(account.get(), strategy)
+        let (found, account) = account.get();
+        (found, Pass { account, strategy })
     }
 
     /// Returns whether there is a value, as [`Once::is_completed`] does.
@@ -90,23 +92,6 @@ impl<'a, T, R> Pass<'a, T, R> {
         let Self { account, strategy } = self;
         let (there, account) = account.is_completed();
         (there, Pass { account, strategy })
-    }
-
-    // Returns the answer of a call that found the value, or found none.
-    fn answer(
-        found: Result<Found<'a, T, ()>, Account<'a, T, ()>>,
-        strategy: PhantomData<R>,
-    ) -> (Option<&'a T>, Self)
-        requires { IfErr found (λ none. is_out (what none.party.view) ≡ true) }
-        ensures { (call : OnceCall (Unit {0})) (p : Place T (Unit {0})) → Finds call p found.entry → Since p (IsCall call (found_or_none result.0)) (here result.1.account) × IfSome result.0 (λ value. IsValue p.0.opening result.1.account.seen.entries value.now) }
-    {
-        match found {
-            Ok(found) => {
-                let (value, account) = found.read();
-                (Some(value), Pass { account, strategy })
-            }
-            Err(account) => (None, Pass { account, strategy }),
-        }
     }
 
     /// Compares what two passes of one `Once` know. It does nothing when it runs.
@@ -124,7 +109,7 @@ impl<'a, T, R> Pass<'a, T, R> {
 }
 
 impl<'a, T, R: RelaxStrategy> Pass<'a, T, R> {
-    ghost use Rattle.spin_once.specs.OncePasses.{Called, Tried, found_or_none, history, opening_of};
+    ghost use Rattle.spin_once.specs.OncePasses.{Called, Tried, history, opening_of};
 
     /// Calls `f` to make the value if there is none yet. Then returns the value, as [`Once::call_once`] does.
     ///
@@ -138,7 +123,7 @@ impl<'a, T, R: RelaxStrategy> Pass<'a, T, R> {
         ensures found { IsValue (opening_of self.entry) (history result.1) result.0.now }
     {
         let Self { account, strategy } = self;
-        let found = match account.come::<Sure>() {
+        let found = match account.come(OnceCall::CallOnce(())) {
             Ok(found) => found,
             Err(account) => make::<T, R, F, W>(rt, account, f),
         };
@@ -198,7 +183,8 @@ impl<'a, T, R: RelaxStrategy> Pass<'a, T, R> {
         ensures found { IfSome result.0 (λ value. IsValue (opening_of self.entry) (history result.1) value.now) }
     {
         let Self { account, strategy } = self;
-        Self::answer(account.poll::<R, W>(rt), strategy)
+        let (found, account) = account.poll::<R, W>(rt);
+        (found, Pass { account, strategy })
     }
 }
 

@@ -1,27 +1,29 @@
 //! What a party does, and knows of the trace. Begin with [`Account::get`] and [`Account::come`]; [`Account::claim`]
 //! gives the value or the right to make it.
-ghost use Rattle.std.specs.Prelude.{◌≡◌, ◌⊎◌, Some, true, length, IfOk, IfErr};
+ghost use Rattle.std.specs.Prelude.{◌≡◌, ◌⊎◌, ℕ, Some, None, true, false, length, IfErr, IfSome};
 ghost use mathlib.Core.List.{IsPrefix};
-ghost use Rattle.spin_core.specs.Cell.{use_of};
+ghost use Rattle.spin_core.specs.Cell.{use_of, Moved, Keeps};
 ghost use Rattle.spin_core.specs.Own.{what};
-ghost use Rattle.spin_core.specs.Passes.{mark_of, IsCall, Begins as BeginsWith, Waits as Goes};
-ghost use Rattle.spin_core.specs.Stable.{maybe_stable};
-ghost use Rattle.spin_step.specs.declared.answer.Answer.TheVariants.{Value, Is};
+ghost use Rattle.spin_core.specs.Passes.{mark_of, IsCall};
+ghost use Rattle.spin_core.specs.Traced.{Found as FoundIn, MayKnow, Named, Watches};
+ghost use Rattle.spin_session.specs.Meaning.{just_one};
+ghost use Rattle.spin_session.specs.Operating.{Operates};
+ghost use Rattle.spin_session.specs.Turns.{has_begun};
+ghost use Rattle.spin_step.specs.declared.answer.Answer.TheVariants.{Value, NoValue, Is};
+ghost use Rattle.spin_step.specs.declared.stepped.Next.TheVariants.{Answers};
 ghost use Rattle.spin_step.specs.declared.once_calls.OnceCall.TheVariants.{Get, IsCompleted, Wait as WaitCall, Poll};
-ghost use Rattle.spin_step.specs.declared.once_calls.OncePoint.TheVariants.{TryBegin, Await};
-ghost use Rattle.spin_once.specs.Once.{use_of_party, point_of, is_load, is_out, closure_call, in_closure};
+ghost use Rattle.spin_step.specs.declared.once_calls.OncePoint.TheVariants.{TryBegin};
+ghost use Rattle.spin_once.specs.Once.{IsOnce, Told, once_ways, use_of_party, next_at, view_of, turn_by, in_call, reader, Call, HasClosure, is_run, stops, IsAt, IsStepOf, IsTold};
 ghost use Rattle.spin_once.specs.OnceValues.{IsValue, Sees};
-ghost use Rattle.spin_once.specs.declared.once_core.rule.Stage.TheVariants.{Done};
-ghost use Rattle.spin_once.specs.declared.once_core.rule.View.TheVariants.{Reading};
 
 use super::init_permit::InitPermit;
 use super::known::known;
-use super::rule::{
-    COMPLETE, Call, Caller, Closure, Completes, Entry, Gets, NOTHING, Polls, Runs, Seed, Stage,
-    Turn, Waits, begun,
-};
+use super::rule::{Caller, Entry, Seed, Stage, Turn};
 use spin_core::relax::RelaxStrategy;
 use spin_core::trace::Watch;
+use spin_session::table::CallOf;
+use spin_step::{Answer, Next, OnceCall, OncePoint, OnceTable, Operation, Steps};
+use std::marker::Brand;
 use std::sync::Wait;
 
 /// A party that knows which moves in the trace are its own, and the whole trace up to its own last move.
@@ -33,29 +35,20 @@ pub(crate) struct Account<'a, T, S: Seed<T>> {
     ghost finds: { Sees party.key.opening seen.entries (use_of use_of_party party.view) party.value },
 }
 
-/// The account of a party that reads the value.
+/// The account of a party that reads the value for ever.
 pub(crate) struct Found<'a, T, S: Seed<T>> {
     pub(super) account: Account<'a, T, S>,
-    ghost reads: { what account.party.view ≡ Some Reading },
-}
-
-/// What a thread gets when it claims the value.
-pub(crate) enum Claim<'a, T, S: Seed<T>> {
-    Found(Found<'a, T, S>),
-    /// The right to make the value: no thread had begun to make it, or the last one left the seed.
-    Init(InitPermit<'a, T, S>),
+    ghost reads: { what account.party.view ≡ Some reader },
 }
 
 impl<'a, T, S: Seed<T>> Found<'a, T, S> {
-    ghost use Rattle.spin_once.specs.Accounts.{here};
+    ghost use Rattle.spin_once.specs.Accounts.{Place, here, Since};
 
     /// Returns the value, for as long as the cell is borrowed. The party keeps reading it.
     pub(crate) fn read(self) -> (&'a T, Account<'a, T, S>)
-        ensures value { self.entry.account.party.value ≡ Some (maybe_stable (Done result.0.now)) }
         ensures made { S.makes self.entry.account.party.key.seed.value result.0.now }
-        ensures same { here result.1 ≡ here self.entry.account }
-        ensures reads { what result.1.party.view ≡ Some Reading }
-        ensures found { IsValue result.1.party.key.opening result.1.seen.entries result.0.now }
+        ensures since { (p : Place T S) (c : Call) → Since p (IsCall c (Value tt)) (here self.entry.account) → Since p (IsCall c (Value tt)) (here result.1) × IsValue p.0.opening result.1.seen.entries result.0.now }
+        ensures out { has_begun (what result.1.party.view) ≡ false }
     {
         let Self { account } = self;
         let Account { party, seen } = account;
@@ -78,11 +71,11 @@ impl<'a, T, S: Seed<T>> Found<'a, T, S> {
 }
 
 impl<'a, T, S: Seed<T>> Account<'a, T, S> {
-    ghost use Rattle.spin_once.specs.Accounts.{Place, here, Since, Turned, FindsSeed, Finds, Claims, Attempts};
+    ghost use Rattle.spin_once.specs.Accounts.{Place, here, Since, Entered, Comes, Under, FindsSeed, GetsOrNone, ComesIn, Claims, MayRun};
 
     /// Ends the account of a party that is in no call.
     pub(crate) fn close(self)
-        requires { is_out (what self.party.view) ≡ true }
+        requires { has_begun (what self.party.view) ≡ false }
     {
         let Self { party, seen: _ } = self;
         party.finish();
@@ -96,164 +89,199 @@ impl<'a, T, S: Seed<T>> Account<'a, T, S> {
         self.seen.compare(&other.seen);
     }
 
-    // Makes the next step of the party's call, which is a load. A party in no call begins the call `C`.
-    fn load<C: Call>(self) -> (u64, Account<'a, T, S>)
-        requires { is_load (point_of (what self.party.view)) ≡ true }
-        ensures { Turned C.call result.0 (here self.entry) (here result.1) }
+    // Makes the step of the call at `point`, or begins the call there. The step is not the one that ends a closure.
+    #[inline(always)]
+    fn step(self, call: OnceCall<()>, point: OncePoint) -> (Next<OncePoint, Answer<()>>, Self)
+        requires at { IsAt call point (what self.party.view) }
+        requires quiet { is_run point ≡ false }
+        ensures comes { (p : Place T S) → Under call p (here self.entry) → Comes call result.0 p (here result.1) }
+        ensures key { result.1.party.key ≡ self.entry.party.key }
+        ensures view { what result.1.party.view ≡ Some (view_of call result.0) }
+        ensures goes { (n : ℕ) × (result.0 ≡ next_at call point n) }
+        ensures seed { FindsSeed result.1 }
     {
         let Self { party, seen } = self;
-        let (found, party, seen) = party.load::<Turn<C>>(seen);
-        (found, Account { party, seen })
+        let operation = OnceTable.operation(call, point, None);
+        let (found, party, seen) = operate::<T, S, Brand>(party, operation, seen, call);
+        (
+            OnceTable.next(call, point, None, found),
+            Account { party, seen },
+        )
+    }
+
+    // Goes on with the call at `point` until it is answered, or its closure may run. It pauses before each look. It is
+    // inlined, since its result would go through memory, which costs the path of a caller that finds a value.
+    #[inline(always)]
+    fn go_on<R: RelaxStrategy, W: Wait>(
+        self,
+        call: OnceCall<()>,
+        point: OncePoint,
+        rt: &W,
+    ) -> (Next<OncePoint, Answer<()>>, Self)
+        requires at { what self.party.view ≡ Some (in_call call point) }
+        requires quiet { is_run point ≡ false }
+        ensures comes { (p : Place T S) → Entered call p (here self.entry) → Comes call result.0 p (here result.1) }
+        ensures key { result.1.party.key ≡ self.entry.party.key }
+        ensures view { what result.1.party.view ≡ Some (view_of call result.0) }
+        ensures stops { IsStepOf call result.0 × (stops result.0 ≡ true) }
+        ensures seed { FindsSeed result.1 }
+    {
+        let mut at = point;
+        let mut given = 0;
+        let mut account = self;
+        for _ in rt.forever() {
+            if !matches!(at, OncePoint::TryBegin) {
+                given = R::bounded_pause(rt, 1, given);
+            }
+            let (next, further) = account.step(call, at);
+            match next {
+                Next::Continue(OncePoint::Run) => return (next, further),
+                Next::Continue(to) => {
+                    at = to;
+                    account = further;
+                }
+                Next::Answers(_, _) => return (next, further),
+            }
+        }
+        unreachable!()
+    }
+
+    // Returns the value to a party that has found it. The party reads it for as long as the cell is borrowed.
+    fn answer(self, call: OnceCall<()>, next: Next<OncePoint, Answer<()>>) -> (Option<&'a T>, Self)
+        requires view { what self.party.view ≡ Some (view_of call next) }
+        requires told { IsTold next }
+        ensures tells { (p : Place T S) → Comes call next p (here self.entry) → GetsOrNone call p result }
+        ensures makes { IfSome result.0 (λ value. S.makes self.entry.party.key.seed.value value.now) }
+    {
+        let _ = call;
+        if is_value(next) {
+            let (value, account) = Found { account: self }.read();
+            (Some(value), account)
+        } else {
+            (None, self)
+        }
     }
 
     /// Finds the value, or none, by one load.
-    pub(crate) fn get(self) -> Result<Found<'a, T, S>, Account<'a, T, S>>
-        requires { is_out (what self.party.view) ≡ true }
-        ensures { Finds Get (here self.entry) result }
+    pub(crate) fn get(self) -> (Option<&'a T>, Self)
+        requires { has_begun (what self.party.view) ≡ false }
+        ensures tells { GetsOrNone Get (here self.entry) result }
+        ensures makes { IfSome result.0 (λ value. S.makes self.entry.party.key.seed.value value.now) }
     {
-        let (found, account) = self.load::<Gets>();
-        if found == COMPLETE {
-            Ok(Found { account })
-        } else {
-            Err(account)
-        }
+        let (next, account) = self.step(OnceCall::Get, OncePoint::Look);
+        account.answer(OnceCall::Get, next)
     }
 
     /// Returns whether one load finds a value.
     pub(crate) fn is_completed(self) -> (bool, Account<'a, T, S>)
-        requires { is_out (what self.party.view) ≡ true }
+        requires { has_begun (what self.party.view) ≡ false }
         ensures made { Since (here self.entry) (IsCall IsCompleted (Is result.0)) (here result.1) }
-        ensures out { is_out (what result.1.party.view) ≡ true }
+        ensures out { has_begun (what result.1.party.view) ≡ false }
     {
-        let (found, account) = self.load::<Completes>();
-        (found == COMPLETE, account)
+        let (next, account) = self.step(OnceCall::IsCompleted, OncePoint::Look);
+        match next {
+            Next::Answers(Answer::Is(there), _) => (there, account),
+            _ => unreachable!(),
+        }
     }
 
-    /// Begins a call with a closure of kind `C`, by one load. If the load finds no value, the call continues by
+    /// Begins a call with a closure, by one load. If the load finds no value, the call continues by
     /// [`claim`](Account::claim).
-    pub(crate) fn come<C: Closure>(self) -> Result<Found<'a, T, S>, Account<'a, T, S>>
-        requires { is_out (what self.party.view) ≡ true }
-        ensures found { IfOk result (λ found. Since (here self.entry) (IsCall (closure_call C.may_fail) (Value tt)) (here found.account)) }
-        ensures wants { IfErr result (λ account. Since (here self.entry) (BeginsWith (closure_call C.may_fail) Goes) (here account) × (what account.party.view ≡ Some (in_closure C.may_fail TryBegin))) }
+    pub(crate) fn come(self, call: OnceCall<()>) -> Result<Found<'a, T, S>, Account<'a, T, S>>
+        requires out { has_begun (what self.party.view) ≡ false }
+        requires closure { HasClosure call }
+        ensures { ComesIn call (here self.entry) result }
     {
-        let (found, account) = self.load::<Runs<C>>();
-        if found == COMPLETE {
-            Ok(Found { account })
-        } else {
-            Err(account)
+        let (next, account) = self.step(call, OncePoint::Look);
+        match next {
+            Next::Answers(_, _) => Ok(Found { account }),
+            Next::Continue(_) => Err(account),
         }
     }
 
     /// Finds the value, or gets the right to make it. Spins while another thread makes it.
-    pub(crate) fn claim<C: Closure, R: RelaxStrategy, W: Wait>(self, rt: &W) -> Claim<'a, T, S>
-        requires { what self.party.view ≡ Some (in_closure C.may_fail TryBegin) }
-        ensures { Claims C.may_fail (here self.entry) result }
+    pub(crate) fn claim<R: RelaxStrategy, W: Wait>(
+        self,
+        call: OnceCall<()>,
+        rt: &W,
+    ) -> Result<Found<'a, T, S>, InitPermit<'a, T, S>>
+        requires wants { what self.party.view ≡ Some (in_call call TryBegin) }
+        requires closure { HasClosure call }
+        ensures claims { (p : Place T S) → Entered call p (here self.entry) → Claims call p result }
+        ensures runs { IfErr result (λ permit. MayRun call self.entry permit.account) }
     {
-        match self.begin::<C>() {
-            Ok(claim) => claim,
-            Err(account) => account.await_claim::<C, R, W>(rt),
+        let (next, account) = self.go_on::<R, W>(call, OncePoint::TryBegin, rt);
+        match next {
+            Next::Answers(_, _) => Ok(Found { account }),
+            Next::Continue(_) => Err(InitPermit { account }),
         }
-    }
-
-    // Looks until it finds the value, or gets the right to make it. Few calls come here, since a value is made once.
-    #[cold]
-    #[inline(never)]
-    fn await_claim<C: Closure, R: RelaxStrategy, W: Wait>(self, rt: &W) -> Claim<'a, T, S>
-        requires { what self.party.view ≡ Some (in_closure C.may_fail Await) }
-        ensures { (p : Place T S) → Since p Goes (here self.entry) → Claims C.may_fail p result }
-    {
-        let mut account = self;
-        let mut given = 0;
-        for _ in rt.forever() {
-            given = R::bounded_pause(rt, 1, given);
-            match account.look_and_begin::<C>() {
-                Ok(claim) => return claim,
-                Err(next) => account = next,
-            }
-        }
-        unreachable!()
-    }
-
-    // Looks. Finds the value, or tries to begin if there is none and no other thread makes it.
-    fn look_and_begin<C: Closure>(self) -> Result<Claim<'a, T, S>, Account<'a, T, S>>
-        requires { what self.party.view ≡ Some (in_closure C.may_fail Await) }
-        ensures { Attempts C.may_fail (here self.entry) result }
-    {
-        let (found, account) = self.load::<Runs<C>>();
-        if found == COMPLETE {
-            return Ok(Claim::Found(Found { account }));
-        }
-        if found != NOTHING {
-            return Err(account);
-        }
-        account.begin::<C>()
-    }
-
-    // Finds the value, or begins, by one exchange. Fails while another thread makes the value.
-    fn begin<C: Closure>(self) -> Result<Claim<'a, T, S>, Account<'a, T, S>>
-        requires { what self.party.view ≡ Some (in_closure C.may_fail TryBegin) }
-        ensures { Attempts C.may_fail (here self.entry) result }
-    {
-        let (found, account) = self.exchange::<C>();
-        if found == COMPLETE {
-            return Ok(Claim::Found(Found { account }));
-        }
-        if found != NOTHING {
-            return Err(account);
-        }
-        Ok(Claim::Init(InitPermit { account }))
-    }
-
-    // Makes the exchange by which a call begins to run its closure. If the closure begins, the cell still has the seed.
-    fn exchange<C: Closure>(self) -> (u64, Account<'a, T, S>)
-        requires { what self.party.view ≡ Some (in_closure C.may_fail TryBegin) }
-        ensures turned { Turned (closure_call C.may_fail) result.0 (here self.entry) (here result.1) }
-        ensures seed { FindsSeed result.1 }
-    {
-        let Self { party, seen } = self;
-        let (found, party, seen) = party.exchange::<Turn<Runs<C>>>(NOTHING, begun(), seen);
-        (found, Account { party, seen })
     }
 
     /// Spins until there is a value.
     pub(crate) fn wait<R: RelaxStrategy, W: Wait>(self, rt: &W) -> Found<'a, T, S>
-        requires { is_out (what self.party.view) ≡ true }
+        requires { has_begun (what self.party.view) ≡ false }
         ensures { Since (here self.entry) (IsCall WaitCall (Value tt)) (here result.account) }
     {
-        let mut account = self;
-        let mut given = 0;
-        for _ in rt.forever() {
-            let (found, next) = account.load::<Waits>();
-            if found == COMPLETE {
-                return Found { account: next };
+        let (next, account) = self.step(OnceCall::Wait, OncePoint::Look);
+        match next {
+            Next::Answers(_, _) => Found { account },
+            Next::Continue(point) => {
+                let (_, account) = account.go_on::<R, W>(OnceCall::Wait, point, rt);
+                Found { account }
             }
-            given = R::bounded_pause(rt, 1, given);
-            account = next;
         }
-        unreachable!()
     }
 
     /// Spins while a thread makes the value. Then finds the value, or none.
-    pub(crate) fn poll<R: RelaxStrategy, W: Wait>(
-        self,
-        rt: &W,
-    ) -> Result<Found<'a, T, S>, Account<'a, T, S>>
-        requires { is_out (what self.party.view) ≡ true }
-        ensures { Finds Poll (here self.entry) result }
+    pub(crate) fn poll<R: RelaxStrategy, W: Wait>(self, rt: &W) -> (Option<&'a T>, Self)
+        requires { has_begun (what self.party.view) ≡ false }
+        ensures { GetsOrNone Poll (here self.entry) result }
     {
-        let mut account = self;
-        let mut given = 0;
-        for _ in rt.forever() {
-            let (found, next) = account.load::<Polls>();
-            if found == COMPLETE {
-                return Ok(Found { account: next });
+        let (next, account) = self.step(OnceCall::Poll, OncePoint::Look);
+        match next {
+            Next::Answers(_, _) => account.answer(OnceCall::Poll, next),
+            Next::Continue(point) => {
+                let (next, account) = account.go_on::<R, W>(OnceCall::Poll, point, rt);
+                account.answer(OnceCall::Poll, next)
             }
-            if found == NOTHING {
-                return Err(next);
-            }
-            given = R::bounded_pause(rt, 1, given);
-            account = next;
         }
-        unreachable!()
+    }
+}
+
+// Returns whether the call is answered with the value.
+fn is_value(next: Next<OncePoint, Answer<()>>) -> bool
+    requires { IsTold next }
+    ensures is { result ≡ true → next ≡ Answers (Value tt) None }
+    ensures none { result ≡ false → next ≡ Answers NoValue None }
+{
+    matches!(next, Next::Answers(Answer::Value(()), _))
+}
+
+/// Makes an operation of the call's table. Returns the number found; a store finds 0.
+#[inline(always)]
+pub(super) fn operate<'a, T, S: Seed<T>, K: CallOf<OnceCall<()>>>(
+    party: Caller<'a, T, S>,
+    operation: Operation,
+    seen: Watch<Entry<T>>,
+    call: OnceCall<()>,
+) -> (u64, Caller<'a, T, S>, Watch<Entry<T>>)
+    requires knows { MayKnow (IsOnce party.key.opening) (once_ways S.makes party.key) seen }
+    requires keeps { Operates just_one (IsOnce party.key.opening) (once_ways S.makes party.key) party.view party.value 0 operation (Told party.key.opening (turn_by K.call (what party.view)) party.view) }
+    ensures moved { Moved (Watches (Named (IsOnce party.entry.key.opening) (once_ways S.makes party.entry.key) seen.name) seen result.2 (Told party.entry.key.opening (turn_by K.call (what party.entry.view)) party.entry.view) result.0) result.1.view }
+    ensures kept { Keeps (once_ways S.makes party.entry.key) party.entry.view result.1.view party.entry.value result.1.value }
+    ensures found { FoundIn (once_ways S.makes party.entry.key) party.entry.view result.1.view party.entry.value result.1.value result.2 }
+    ensures key { result.1.key ≡ party.entry.key }
+{
+    let _ = call;
+    match operation {
+        Operation::Load => party.load::<Turn<K>>(seen),
+        Operation::Exchange(old, new) => party.exchange::<Turn<K>>(old, new, seen),
+        Operation::Store(to) => {
+            let (party, seen) = party.store::<Turn<K>>(to, seen);
+            (0, party, seen)
+        }
+        Operation::Add(by) => party.add::<Turn<K>>(by, seen),
+        Operation::Subtract(by) => party.subtract::<Turn<K>>(by, seen),
+        Operation::SetLowestBit => party.set_bits::<Turn<K>>(1, seen),
     }
 }

@@ -1,19 +1,20 @@
 //! The right to make the value. It ends by [`InitPermit::complete`] or [`InitPermit::fail`], which return the party's
 //! account.
-ghost use Rattle.std.specs.Prelude.{◌≡◌, Some, true};
+ghost use Rattle.std.specs.Prelude.{◌≡◌, Some, true, false};
 ghost use Rattle.spin_core.specs.Cell.{use_of, writes};
 ghost use Rattle.spin_core.specs.Own.{what};
-ghost use Rattle.spin_core.specs.Passes.{Ends};
+ghost use Rattle.spin_core.specs.Passes.{IsCall};
 ghost use Rattle.spin_core.specs.Stable.{maybe_stable};
+ghost use Rattle.spin_session.specs.Turns.{has_begun};
 ghost use Rattle.spin_step.specs.declared.answer.Answer.TheVariants.{Value};
+ghost use Rattle.spin_step.specs.declared.once_calls.OnceCall.TheVariants.{TryCallOnceOk};
 ghost use Rattle.spin_step.specs.declared.once_calls.OncePoint.TheVariants.{Run};
-ghost use Rattle.spin_once.specs.Once.{use_of_party, is_running, in_closure, IsFailure};
-ghost use Rattle.spin_once.specs.declared.once_core.rule.Stage.TheVariants.{Done};
-ghost use Rattle.spin_once.specs.declared.once_core.rule.View.TheVariants.{Idle};
+ghost use Rattle.spin_once.specs.Once.{use_of_party, in_call, Call, is_running, IsFailedCall};
 
-use super::account::{Account, Found};
-use super::rule::{Caller, Fail, RUNNING, Runs, Seed, Stage, Sure, Turn};
-use spin_step::once;
+use super::account::{Account, Found, operate};
+use super::rule::{Caller, Fail, Seed, Stage};
+use spin_step::{OnceCall, OncePoint, OnceTable, Steps, once};
+use std::marker::Brand;
 use std::mem::{self, ManuallyDrop};
 
 /// The right of the party that began to make the value: this party has the cell's content to itself.
@@ -23,7 +24,7 @@ pub(crate) struct InitPermit<'a, T, S: Seed<T>> {
 }
 
 impl<'a, T, S: Seed<T>> InitPermit<'a, T, S> {
-    ghost use Rattle.spin_once.specs.Accounts.{here, HasSeed, Since};
+    ghost use Rattle.spin_once.specs.Accounts.{Place, here, HasSeed, Entered, Since};
 
     /// Takes the seed out.
     pub(crate) fn take(self) -> (Self, S)
@@ -51,13 +52,14 @@ impl<'a, T, S: Seed<T>> InitPermit<'a, T, S> {
     /// Stores the value, which all parties may read from then on. A seed that was not taken out is not dropped.
     pub(crate) fn complete(self, value: T) -> Found<'a, T, S>
         requires { S.makes self.account.party.key.seed.value value }
-        ensures value { result.account.party.value ≡ Some (maybe_stable (Done value)) }
-        ensures since { Since (here self.entry.account) (Ends (Value tt)) (here result.account) }
+        ensures { (c : Call) (p : Place T S) → what self.entry.account.party.view ≡ Some (in_call c Run) → Entered c p (here self.entry.account) → Since p (IsCall c (Value tt)) (here result.account) }
     {
         let Self { account } = self;
         let Account { party, seen } = account;
         let party = put(party, Stage::Done(value));
-        let (party, seen) = party.store::<Turn<Runs<Sure>>>(once::complete(RUNNING) as u64, seen);
+        let call = OnceCall::CallOnce(());
+        let store = OnceTable.operation(call, OncePoint::Run, None);
+        let (_, party, seen) = operate::<T, S, Brand>(party, store, seen, call);
         Found {
             account: Account { party, seen },
         }
@@ -66,13 +68,13 @@ impl<'a, T, S: Seed<T>> InitPermit<'a, T, S> {
     /// Leaves the seed in the cell, so that the next party may begin. The closure of the call is one that may fail.
     pub(crate) fn fail(self) -> Account<'a, T, S>
         requires seed { HasSeed self.account }
-        requires may { what self.account.party.view ≡ Some (in_closure true Run) }
-        ensures since { Since (here self.entry.account) IsFailure (here result) }
-        ensures idle { what result.party.view ≡ Some Idle }
+        requires may { what self.account.party.view ≡ Some (in_call (TryCallOnceOk tt) Run) }
+        ensures since { (p : Place T S) → Entered (TryCallOnceOk tt) p (here self.entry.account) → Since p IsFailedCall (here result) }
+        ensures out { has_begun (what result.party.view) ≡ false }
     {
         let Self { account } = self;
         let Account { party, seen } = account;
-        let (party, seen) = party.store::<Fail>(once::fail(RUNNING) as u64, seen);
+        let (party, seen) = party.store::<Fail>(once::fail(1) as u64, seen);
         Account { party, seen }
     }
 }

@@ -3,39 +3,33 @@ use mathlib.Core.Logic.{inr}
 use Rattle.spin_core.specs.Own.{what}
 use Rattle.spin_core.specs.Spots.{spot}
 use Rattle.spin_step.specs.declared.once_calls.OnceCall.TheVariants.{CallOnce}
-use Rattle.spin_once.specs.Once.{closure_call}
-use Rattle.spin_once.proofs.Accounts.{may_know, completes, reads_on}
-use Rattle.spin_once.proofs.Kept.{ends, running_call, writes_at}
+use Rattle.spin_once.specs.Once.{HasClosure}
+use Rattle.spin_once.proofs.Accounts as accounts
+use Rattle.spin_once.proofs.Kept.{ends, running_call}
 use Rattle.spin_once.proofs.once_core.init_permit.InitPermit.complete.Goals as goal
 
-pub put-party-requires : goal.put-party-requires
-put-party-requires g c =
-    let me = c.args.self in let call = running_call (what me.account.party.view) me.runs in writes_at me.account.party.view (closure_call call.0) call.1
+pub operate-party-requires-clause-knows : goal.operate-party-requires-clause-knows
+operate-party-requires-clause-knows g c =
+    let me = c.args.self.account in let it = c.put-party in inr (accounts.may_know g.S.Seed.makes it.result.key me.seen (ap (λ k. k.opening.name) it.ensures.same.0 ∙ me.named))
 
-pub store-party-requires : goal.store-party-requires
-store-party-requires g c =
-    let me = c.args.self.account in let it = c.put-party in let p = it.result in let makes = g.S.Seed.makes in
-    let call = running_call (what me.party.view) c.args.self.runs in (
-      inr (may_know makes p.key me.seen (ap (λ k. k.opening.name) it.ensures.same.0 ∙ me.named)),
-      rw (it.ensures.value, c.complete.ensures.exact) (ends makes p.key call.0 p.view (ap what it.ensures.same.1 ∙ call.1) (CallOnce tt) c.args.value
-          (rw it.ensures.same.0 c.requires)),
-    )
+pub operate-party-requires-clause-keeps : goal.operate-party-requires-clause-keeps
+operate-party-requires-clause-keeps g c =
+    let me = c.args.self in let it = c.put-party in let p = it.result in let (call, may, is) = running_call (what me.account.party.view) me.runs in
+    rw (it.ensures.value, c.operation-store.ensures.operation tt)
+    (ends g.S.Seed.makes p.key call may p.view (ap what it.ensures.same.1 ∙ is) (CallOnce tt) c.args.value (rw it.ensures.same.0 c.requires))
 
-pub returns-clause-since : goal.returns-clause-since
-returns-clause-since g c =
-    let me = c.args.self in let it = c.put-party in let s = c.store-party in let so = it.ensures.same in let seen = me.account.seen in
-    (completes g.S.Seed.makes me (spot it.result seen) (spot s.result.0 s.result.1) (λ i. (so.0 i, so.1 i, seen)) s.ensures.key s.ensures.moved).0
+pub returns : goal.returns
+returns g c call p is on =
+    let me = c.args.self in let it = c.put-party in let f = c.operate-party in let so = it.ensures.same in let may : HasClosure call = rw is at me.runs in
+    accounts.completes g.S.Seed.makes me (spot it.result me.account.seen) (spot f.result.1 f.result.2) f.result.0 (λ i. (so.0 i, so.1 i, me.account.seen)) f.ensures.key f.ensures.moved call may is p on
 
 pub invariant_of-result-2 : goal.invariant_of-result-2
 invariant_of-result-2 g c =
-    let me = c.args.self in let it = c.put-party in let s = c.store-party in let so = it.ensures.same in let seen = me.account.seen in
-    record {
-      reads = (completes g.S.Seed.makes me (spot it.result seen) (spot s.result.0 s.result.1) (λ i. (so.0 i, so.1 i, seen)) s.ensures.key
-          s.ensures.moved).1;
-    }
+    let me = c.args.self in let it = c.put-party in let f = c.operate-party in let so = it.ensures.same in let (call, may, is) = running_call (what me.account.party.view) me.runs in
+    record { reads = accounts.reads_value g.S.Seed.makes me (spot it.result me.account.seen) (spot f.result.1 f.result.2) f.result.0 (λ i. (so.0 i, so.1 i, me.account.seen)) f.ensures.key f.ensures.moved call may is }
 
 pub invariant_of-result : goal.invariant_of-result
 invariant_of-result g c =
-    let me = c.args.self in let it = c.put-party in let s = c.store-party in let so = it.ensures.same in let seen = me.account.seen in
-    reads_on g.S.Seed.makes me (spot it.result seen) (spot s.result.0 s.result.1) (λ i. (so.0 i, so.1 i, seen)) s.ensures.key s.ensures.moved
-    it.result.value s.result.0.value s.ensures.kept s.ensures.found
+    let me = c.args.self in let it = c.put-party in let f = c.operate-party in let so = it.ensures.same in let (call, may, is) = running_call (what me.account.party.view) me.runs in
+    accounts.knows_value g.S.Seed.makes me (spot it.result me.account.seen) (spot f.result.1 f.result.2) f.result.0 (λ i. (so.0 i, so.1 i, me.account.seen)) f.ensures.key f.ensures.moved call may is
+    it.result.value f.result.1.value f.ensures.kept f.ensures.found

@@ -1,0 +1,32 @@
+use mathlib.Core.Logic.{inr}
+use Rattle.spin_core.specs.Spots.{spot}
+use Rattle.spin_once.specs.Accounts.{here}
+use Rattle.spin_once.proofs.Accounts as accounts
+use Rattle.spin_once.proofs.Kept.{turns}
+use Rattle.spin_once.proofs.Moves.{next_is}
+use Rattle.spin_once.proofs.once_core.account.Account.step.Goals as goal
+
+pub operate-found-requires-clause-knows : goal.operate-found-requires-clause-knows
+operate-found-requires-clause-knows g c = let me = c.args.self in inr (accounts.may_know g.S.Seed.makes me.party.key me.seen me.named)
+
+pub operate-found-requires-clause-keeps : goal.operate-found-requires-clause-keeps
+operate-found-requires-clause-keeps g c =
+    let a = c.args in let it = a.self.party in
+    rw (c.operation-operation.ensures.operation tt) (turns g.S.Seed.makes it.key a.call a.point it.view it.value c.requires.at c.requires.quiet)
+
+pub invariant_of-result : goal.invariant_of-result
+invariant_of-result g c =
+    let a = c.args in let me = a.self in let f = c.operate-found in
+    accounts.knows g.S.Seed.makes (here me) (spot f.result.1 f.result.2) f.result.0 me.knows me.named f.ensures.key a.call a.point c.requires.at f.ensures.moved me.party.value f.result.1.value f.ensures.kept f.ensures.found me.finds
+
+pub returns : goal.returns
+returns g c =
+    let a = c.args in let me = a.self in let f = c.operate-found in let now = spot f.result.1 f.result.2 in let makes = g.S.Seed.makes in
+    let is = next_is a.call a.point f.result.0 c.next.result (c.next.ensures tt) in
+    record {
+      comes = accounts.comes makes (here me) now f.result.0 me.knows me.named f.ensures.key a.call a.point c.requires.at f.ensures.moved c.next.result is;
+      key = f.ensures.key;
+      view = accounts.next_view makes (here me) now f.result.0 me.knows me.named f.ensures.key a.call a.point c.requires.at f.ensures.moved c.next.result is;
+      goes = (f.result.0, is);
+      seed = accounts.seed makes (here me) now f.result.0 me.knows me.named f.ensures.key a.call a.point c.requires.at f.ensures.moved me.party.value f.result.1.value f.ensures.kept c.requires.quiet;
+    }
