@@ -10,7 +10,6 @@ use Rattle.spin_step.specs.declared.answer.Answer.TheVariants.{Granted}
 use Rattle.spin_step.specs.declared.flag_calls.FlagCall.{FlagCall}
 use Rattle.spin_step.specs.declared.flag_calls.FlagCall.TheVariants.{Lock, TryLock, Release}
 use Rattle.spin_step.specs.declared.flag_calls.FlagPoint.{FlagPoint}
-use Rattle.spin_step.specs.declared.flag_calls.FlagPoint.TheVariants.{First, Second}
 use Rattle.spin_step.specs.declared.place.Hold.{Hold}
 use Rattle.spin_step.specs.declared.place.Hold.TheVariants.{Write}
 use Rattle.spin_step.specs.declared.place.Seat.{Seat}
@@ -58,20 +57,15 @@ pub starts : {T : Type 0} (opening : Opening T) (trace : Trace (Done T) (Unit {0
 starts opening trace named empty = session.starts (flag_table opening.value) flag_meaning (flag_refines opening.value) opening trace named empty
 
 pub never_reads : (v : View) → use_at flag_meaning v ≡ reads → ⊥
-never_reads (Holding Write) e = absurd cc
-never_reads (Calling Lock l None) e = absurd cc
 never_reads v e = grind (arith, e)
 
 -- only a party that holds the lock writes
 pub holding_of : (v : View) → use_at flag_meaning v ≡ writes → v ≡ Holding Write
-holding_of (Holding Write) e = refl
 holding_of v e = grind (arith, e)
 
 -- how the calls that acquire the lock are answered
 pub lock_answers : {T : Type 0} (key : Opening T) → IsAnsweredBy flag_tables flag_meaning Lock None Granted (Some Write) key
-lock_answers key First n b k may is = grind (arith, is)
-lock_answers key Second n b k may is = grind (arith, is)
+lock_answers key l n b k may is = grind (arith, is)
 
 pub try_answers : {T : Type 0} (key : Opening T) → IsTry flag_tables flag_meaning TryLock None (Some Write) key
-try_answers key First n b k may is = grind (arith, is)
-try_answers key Second n b k may is = grind (arith, is)
+try_answers key l n b k may is = grind (arith, is)

@@ -1,5 +1,5 @@
 -- The table of a lock of seats refines the plain lock, all of whose holders read.
-use Rattle.std.proofs.Common.{◌≡◌, ℕ, ◌+◌, ◌-◌, ◌≤◌, ◌%◌, ◌^◌, true, false, Option, Some, None, List, [], ◌∷◌, refl, ap, ◌∙◌, arith}
+use Rattle.std.proofs.Common.{◌≡◌, ℕ, ◌+◌, ◌-◌, ◌≤◌, ◌%◌, ◌^◌, true, Option, Some, None, List, [], ◌∷◌, refl, ap, ◌∙◌, arith}
 use Rattle.std.proofs.lemmas.List.Sums.{sum_by-cons}
 use Rattle.spin_step.specs.Plain.{Plain, reading, gets, to_read, is_holder}
 use Rattle.spin_step.specs.Steps.{Decides}
@@ -16,17 +16,14 @@ use Rattle.spin_core.proofs.Leaving.{flag_word-up}
 use Rattle.spin_core.proofs.Views.{release-own}
 use Rattle.spin_session.specs.Meaning.{Sound, ComesFrom, Refines, use_at}
 use Rattle.spin_session.specs.Turns.{IsAnswered, IsAnsweredBy, IsTry}
-use Rattle.spin_step.specs.Acts.{is_section}
-use Rattle.spin_session.proofs.Word.{word_is}
 use Rattle.spin_session.proofs.Readers.{OnlyReads, all_read, as_many_hold, readers_fit}
 use Rattle.spin_seats.specs.Meaning.{seats_meaning}
 use Rattle.spin_seats.specs.Rule.{IsWord, View, part, seated, seats_tables}
 use Rattle.spin_seats.specs.Seats.{seats, seats_word, entered}
-use Rattle.spin_seats.specs.Table.{seats_table, act_of}
+use Rattle.spin_seats.specs.Table.{seats_table}
 use Rattle.spin_seats.specs.declared.calls.SeatsCall.{SeatsCall}
 use Rattle.spin_seats.specs.declared.calls.SeatsCall.TheVariants.{TryEnter, TryEnterWeak, Enter, Leave}
 use Rattle.spin_seats.specs.declared.calls.SeatsPoint.{SeatsPoint}
-use Rattle.spin_seats.specs.declared.calls.SeatsPoint.TheVariants.{First, Exchange}
 use Rattle.spin_seats.proofs.Taken.{enter-grants, leave-gives}
 
 module _ (n : ℕ) where
@@ -61,14 +58,11 @@ module _ (n : ℕ) where
       })
   sound c l h p s vs from comes room order is few has = grind (arith, comes, grants p s vs room is few, few)
 
-  operates : (c : SeatsCall) (l : SeatsPoint) (h : Option Hold) → is_section (act_of n c l h) ≡ false
-  operates = grind arith
-
   pub seats_refine : Refines (seats_table n) (seats_meaning n)
   seats_refine = record {
     one_word = λ l. refl;
-    operates = operates;
-    writes_word = λ c l h w. word_is (Unit {0}) (act_of n c l h) w (operates c l h);
+    operates = grind arith;
+    writes_word = grind arith;
     opens_at = (refl, refl);
     bounds_opening = omega arith;
     nobody = flag_word-up;
@@ -79,14 +73,12 @@ module _ (n : ℕ) where
 
   -- how the calls that take a seat are answered
   pub enter_answers : (key : Opening (Unit {0})) → IsAnsweredBy (seats_tables n) (seats_meaning n) Enter None Granted (Some hold.Read) key
-  enter_answers key First w b k may is = grind (arith, is)
-  enter_answers key (Exchange j) w b k may is = grind (arith, is)
+  enter_answers key l w b k may is = grind (arith, is)
 
   pub try_answers : (key : Opening (Unit {0})) → IsTry (seats_tables n) (seats_meaning n) TryEnter None (Some hold.Read) key
-  try_answers key First w b k may is = grind (arith, is)
-  try_answers key (Exchange j) w b k may is = grind (arith, is)
+  try_answers key l w b k may is = grind (arith, is)
 
-  pub weak_answers : (key : Opening (Unit {0})) → IsTry (table_of n) TryEnterWeak None (Some hold.Read) key × IsAnswered (table_of n) TryEnterWeak None key
+  pub weak_answers : (key : Opening (Unit {0})) → IsTry (seats_tables n) (seats_meaning n) TryEnterWeak None (Some hold.Read) key × IsAnswered (seats_tables n) TryEnterWeak None key
   weak_answers key = (grind arith, grind arith)
 
   -- the word is the number of parties that have a seat
