@@ -1,13 +1,12 @@
 -- What the mutex must show for each kind of step: the pass may make the call, the words become those of the next state, and the answer is
 -- the machine's.
-use Rattle.std.proofs.Common.{◌≡◌, ℕ, ◌==◌, Bool, true, false, not, List, [], ◌∷◌, length, Some, refl, ap, ◌∙◌, ne_eqb, arith}
-use prog.Atomic.{either}
+use Rattle.std.proofs.Common.{◌≡◌, ℕ, ◌==◌, true, false, not, List, ◌∷◌, length, Some, refl, ◌∙◌, ne_eqb, arith}
 use Rattle.spin_step.specs.Plain.{Plain, Holder, writing, gets, releases, to_write, is_open, apply, flag_word}
-use Rattle.spin_seated.specs.declared.mutex.Call.TheVariants.{TryLock, IsLocked}
+use Rattle.spin_seated.specs.declared.mutex.Call.TheVariants.{IsLocked}
 use Rattle.spin_seated.specs.declared.lock.Answer.TheVariants.{Truth}
 use Rattle.spin_seated.specs.Histories.{state, Owed, Owes}
 use Rattle.spin_seated.specs.Locked.{Locked}
-use Rattle.spin_seated.specs.Mutex.{mutex, Knows, holds, tries, loads, reads, writes, frees}
+use Rattle.spin_seated.specs.Mutex.{mutex, Knows, holds, loads, reads, writes, frees}
 use Rattle.spin_seated.proofs.Holders.{held_by, alone_state, alone_is}
 
 -- what the step function of `try_lock` ensures: if the flag is clear, the pass may acquire the lock, and `new` is the
@@ -22,17 +21,10 @@ Leaves new = (s : Plain) (p : ℕ) → flag_word s ≡ 1 → is_open s (releases
 not_zero : (h : Holder) (hs : List Holder) → (length (h ∷ hs) == 0) ≡ false
 not_zero h hs = ne_eqb (length (h ∷ hs)) 0 (λ e. omega arith)
 
-tries_at : (p new : ℕ) → Takes new → (s : Locked) (hs : List Holder) → Owed mutex p 0 (λ n. either (n == 0) new n) (held_by s hs) (Some (TryLock, Truth (length hs == 0)))
-tries_at p new takes s [] = (refl, ap (λ (n : ℕ). n ∷ s.value ∷ []) (takes (held_by s []).lock p refl).1, refl)
-tries_at p new takes s (h ∷ hs) = (refl, ap (λ (b : Bool). either b new (length (h ∷ hs)) ∷ s.value ∷ []) (not_zero h hs), ap Truth (not_zero h hs))
-
 looks_at : (p : ℕ) (s : Locked) (hs : List Holder) → Owed mutex p 0 (λ n. n) (held_by s hs) (Some (IsLocked, Truth (not (length hs == 0))))
 looks_at p s hs = grind (arith, not_zero)
 
 module _ (x : Knows) where
-  pub tries_owed : (old new : ℕ) → old ≡ 0 → Takes new → Owes mutex x 0 (λ n. either (n == old) new n) (tries old)
-  tries_owed old new is takes = grind (arith, tries, tries_at)
-
   pub loads_owed : Owes mutex x 0 (λ n. n) (loads 0)
   loads_owed log legal has small = let s : Locked = state mutex x.opening log in looks_at x.pass s s.lock.holders
 

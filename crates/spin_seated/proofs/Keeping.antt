@@ -30,7 +30,7 @@ module _ {K S C A H : Type 0} (m : Machine K S C A H) where
   -- The history of all calls, and what each seat knows, when one call is added.
   module _ (k : K) (log : List (Entry C A)) where
     stays : (x : Known K C A) (p : ℕ) (c : C) (a : A) → p ≢ x.pass → Fits m k log x → Fits m k (log ++ entry p c a ∷ []) x
-    stays x p c a apart fits = grind (arith, begins_longer log x.seen (entry p c a ∷ []) fits.begins, calls_by-append x.pass log (entry p c a ∷ []), calls_by-other x.pass p c a apart, append-nil (calls_by x.pass log))
+    stays x p c a apart fits = grind (arith, begins_longer, calls_by-append, calls_by-other, append-nil)
 
     all_stay : (p : ℕ) (c : C) (a : A) (v : List (Known K C A)) → names p v ≡ 0 → AllFit m k log v → AllFit m k (log ++ entry p c a ∷ []) v
     all_stay p c a [] absent fits = tt

@@ -1,16 +1,16 @@
 -- What the read-write lock must show for each kind of step.
 use Rattle.std.proofs.Common.{◌≡◌, ℕ, ◌+◌, ◌-◌, ◌%◌, ◌^◌, ◌==◌, ◌&&◌, Bool, true, false, if◌then◌else◌, List, [], ◌∷◌, Some, None, refl, sym, ap, ◌∙◌, eqb-true, arith}
 use prog.Atomic.{either}
-use Rattle.spin_step.specs.Plain.{Plain, reading, writing, Change, gets, releases, turns, to_read, to_write, is_open, apply, is_holder, weight, rw_word}
+use Rattle.spin_step.specs.Plain.{Plain, reading, writing, Change, gets, releases, turns, to_read, is_open, apply, is_holder, weight, rw_word}
 use Rattle.spin_step.specs.Parties.{apply_some}
 use Rattle.spin_step_more.specs.Readers.{reader_limit, OneOfEach, has_room}
-use Rattle.spin_step_more.proofs.Readers.{one_of_each, read-word, empty-word, reader-word, writer-word, readers-word, writers-word}
+use Rattle.spin_step_more.proofs.Readers.{one_of_each, read-word, reader-word, writer-word, readers-word, writers-word}
 use Rattle.spin_step_more.proofs.ReaderSteps.{rw_release-gives, rw_turn-gives}
 use Rattle.spin_seated.specs.declared.history.Entry.{Entry}
 use Rattle.spin_seated.specs.declared.rwlock.SeatedHold.TheVariants as hold
 use Rattle.spin_seated.specs.Histories.{state, Turned, Owed, Owes}
 use Rattle.spin_seated.specs.Passes.{Seated}
-use Rattle.spin_seated.specs.Rw.{Locked, Answer, Truth, Value, Call, TryRead, TryWrite, Read, Write, UnlockRead, UnlockWrite, Downgrade, SeatedHold, kind_of, hold_in, may_with, rw, Knows, holds, refused_by, loads, acquires_read, acquires_write, counts_readers, counts_writers, reads, writes, is_call}
+use Rattle.spin_seated.specs.Rw.{Locked, Answer, Truth, Value, Call, TryRead, Read, Write, UnlockRead, UnlockWrite, Downgrade, SeatedHold, kind_of, hold_in, may_with, rw, Knows, holds, refused_by, loads, acquires_read, counts_readers, counts_writers, reads, writes, is_call}
 use Rattle.spin_seated.proofs.Histories.{after_own}
 use Rattle.spin_seated.proofs.RwSteps.{places, there, Standing, standing, tracked}
 
@@ -19,9 +19,6 @@ use Rattle.spin_seated.proofs.RwSteps.{places, there, Standing, standing, tracke
 abbrev pub LetsRead : ℕ → ℕ → Type 0
 LetsRead old new =
     (s : Plain) (p : ℕ) → OneOfEach s → s.cap ≡ reader_limit → rw_word s ≡ old → (is_open s (gets p to_read) ≡ true) × (new ≡ rw_word (apply s (gets p to_read)))
-
-abbrev pub LetsWrite : ℕ → Type 0
-LetsWrite new = (s : Plain) (p : ℕ) → rw_word s ≡ 0 → (is_open s (gets p to_write) ≡ true) × (new ≡ rw_word (apply s (gets p to_write)))
 
 -- A step of a pass in a given state.
 module _ (p : ℕ) (s : Locked) (st : Standing s) where
@@ -47,9 +44,6 @@ module _ (p : ℕ) (s : Locked) (st : Standing s) where
   comes_at : (old new : ℕ) (b : Bool) → hold_in p s ≡ None → (word == old) ≡ b → LetsRead old new → Owed rw p 0 (λ _. either b new word) s (if b then Some (TryRead, Truth true) else refused_by word)
   comes_at old new b free same lets = grind (arith, one, eqb-true, ends, looks_at)
 
-  comes_to_write_at : (new : ℕ) (b : Bool) → hold_in p s ≡ None → (word == 0) ≡ b → LetsWrite new → Owed rw p 0 (λ _. either b new word) s (Some (TryWrite, Truth b))
-  comes_to_write_at new b free empty lets = grind (arith, eqb-true, ends, empty-word)
-
   -- if a pass holds, the plain lock has it as a holder of that kind
   stands : (k : SeatedHold) → hold_in p s ≡ Some k → is_holder p (kind_of k) s.lock.holders ≡ true
   stands k has = there p s k (st.one_place p ∙ ap (places p) has)
@@ -68,9 +62,6 @@ acquires_read_owed x old new lets free log legal has small = comes_at x.pass (fo
 module _ {v w : Seated Call} (same : v ≡ w) where
   held_now : holds v.known ≡ holds w.known
   held_now = ap (λ (u : Seated Call). holds u.known) same
-
-  pub acquires_write_owed : (new : ℕ) → LetsWrite new → holds w.known ≡ None → Owes rw v.known 0 (λ n. either (n == 0) new n) (acquires_write 0)
-  acquires_write_owed new lets free log legal has small = grind (arith, comes_to_write_at v.known.pass (found v.known log) (standing v.known.opening log legal) new (rw_word (found v.known log).lock == 0) (has ∙ (held_now ∙ free)) refl lets)
 
   pub counts_readers_owed : Owes rw v.known 0 (λ n. n) (counts_readers 0)
   counts_readers_owed log legal has small = (refl, refl, ap Value (sym (readers-word (found v.known log).lock _ (one v.known.pass (found v.known log) (standing v.known.opening log legal)) refl)))

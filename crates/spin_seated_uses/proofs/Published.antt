@@ -1,5 +1,5 @@
 -- What each pass read and wrote, as its calls say, and what follows in one history of all calls.
-use Rattle.std.proofs.Common.{◌≡◌, ℕ, zero, suc, ◌<◌, ◌≢◌, ◌==◌, Bool, true, false, if◌then◌else◌, List, [], ◌∷◌, ◌++◌, refl, sym, ap, subst, ◌∙◌, eq-eqb, arith}
+use Rattle.std.proofs.Common.{◌≡◌, ℕ, ◌<◌, ◌≢◌, ◌==◌, Bool, false, if◌then◌else◌, List, [], ◌∷◌, ◌++◌, refl, sym, ap, subst, ◌∙◌, eq-eqb, arith}
 use Rattle.std.proofs.lemmas.Grind.{flat_map-append}
 use Rattle.std.specs.Option.{option_to_list}
 use Rattle.std.proofs.lemmas.Bool.{false≢true}
@@ -22,18 +22,14 @@ none_after [] ys none = (refl, none)
 none_after (x ∷ xs) ys none = absurd (cc none)
 
 silent_after : (e : Entry Call Answer) (es : History) (b : Bool) → values_written (if b then e ∷ es else es) ≡ [] → values_written es ≡ []
-silent_after e es true silent = (none_after (option_to_list (written e.call)) (values_written es) silent).1
-silent_after e es false silent = silent
+silent_after e es b silent = grind (arith, none_after, written)
 
 silent_now : (e : Entry Call Answer) (es : History) → values_written (calls_by e.pass (e ∷ es)) ≡ [] → option_to_list (written e.call) ≡ []
-silent_now e es silent =
-    (none_after (option_to_list (written e.call)) (values_written (calls_by e.pass es))
-    (subst (λ (b : Bool). values_written (if b then e ∷ calls_by e.pass es else calls_by e.pass es) ≡ []) (eq-eqb e.pass e.pass refl) silent)).0
+silent_now e es silent = grind (arith, none_after, written, eq-eqb)
 
 one_more : (p : ℕ) (e : Entry Call Answer) (es : History) (b : Bool) → (b ≡ false → option_to_list (written e.call) ≡ []) → values_written es ≡ values_written (calls_by p es)
     → values_written (e ∷ es) ≡ values_written (if b then e ∷ calls_by p es else calls_by p es)
-one_more p e es true silent rest = ap (λ (l : List ℕ). option_to_list (written e.call) ++ l) rest
-one_more p e es false silent rest = ap (λ (l : List ℕ). l ++ values_written es) (silent refl) ∙ rest
+one_more p e es b silent rest = grind (arith, written)
 
 one_writes : (n p : ℕ) (s : Locked) (log : History) → IsLegalFrom rw n s log → ((q : ℕ) → q < n → q ≢ p → values_written (calls_by q log) ≡ []) → values_written log ≡ values_written (calls_by p log)
 one_writes n p s [] legal silent = refl
@@ -49,10 +45,7 @@ longer _ more _ (looks rest) = looks (longer _ more _ rest)
 longer _ more _ (goes_on rest) = goes_on (longer _ more _ rest)
 
 others : (log : History) → values_written (calls_by 1 log) ≡ [] → values_written (calls_by 2 log) ≡ [] → (q : ℕ) → q < 3 → q ≢ 0 → values_written (calls_by q log) ≡ []
-others log one two zero below apart = absurd (apart refl)
-others log one two (suc zero) below apart = one
-others log one two (suc (suc zero)) below apart = two
-others log one two (suc (suc (suc q))) below apart = absurd (omega arith)
+others log one two q below apart = grind arith
 
 -- Two readers meet, and then the writer meets one of them.
 module _ (k : Opening) (w x y met_x met_y met_w met_z : Knows) (three : k.passes ≡ 3) (of_x : x.opening ≡ k) (number_w : w.pass ≡ 0) (number_x : x.pass ≡ 1) (number_y : y.pass ≡ 2)
@@ -71,14 +64,10 @@ module _ (k : Opening) (w x y met_x met_y met_w met_z : Knows) (three : k.passes
   silent p z same none = ap values_written same ∙ none
 
   mine : values_written before ≡ values_written (calls_by 0 before)
-  mine =
-      one_writes 3 0 (rw.start k) before (subst (λ (n : ℕ). IsLegalFrom rw n (rw.start k) before) three legal)
-      (others before (silent 1 x (own 1 x before number_x first.own) silent_x) (silent 2 y (own 2 y before number_y second.own) silent_y))
+  mine = grind (arith, one_writes, before, legal, others, silent, own)
 
   whole : values_written (own_calls w) ≡ values_written before ++ values_written (calls_by 0 fourth.begins.rest)
-  whole =
-      ap values_written (sym (own 0 w met_w.seen number_w third.own) ∙ (ap (calls_by 0) fourth.begins.is ∙ calls_by-append 0 before fourth.begins.rest))
-      ∙ (values_written-append (calls_by 0 before) (calls_by 0 fourth.begins.rest) ∙ ap (λ (l : List ℕ). l ++ values_written (calls_by 0 fourth.begins.rest)) (sym mine))
+  whole = grind (arith, own, calls_by-append, before, values_written-append, mine)
 
   seen_by : (p : ℕ) (z : Knows) → calls_by p before ≡ own_calls z → InOrderOf (k.value ∷ values_written before) (values_read (calls_by p before)) → InOrderOf (k.value ∷ values_written (own_calls w)) (values_read (own_calls z))
   seen_by p z same ordered =

@@ -1,13 +1,13 @@
 -- Passes that add: the value is the opening value plus the number of writes.
-use Rattle.std.proofs.Common.{◌≡◌, ℕ, zero, suc, ◌+◌, ◌<◌, ◌≢◌, ◌==◌, ◌&&◌, ◌||◌, Bool, true, false, if◌then◌else◌, List, [], ◌∷◌, ◌++◌, Option, Some, None, option_and_then, append_assoc, refl, sym, ap, subst, ◌∙◌, eqb-true, eq-eqb, arith}
+use Rattle.std.proofs.Common.{◌≡◌, ℕ, zero, suc, ◌+◌, ◌<◌, ◌≢◌, ◌==◌, Bool, true, false, if◌then◌else◌, List, [], ◌∷◌, ◌++◌, Option, Some, None, option_and_then, append_assoc, refl, sym, ap, subst, ◌∙◌, eqb-true, eq-eqb, arith}
 use Rattle.std.proofs.lemmas.Bool.{false≢true}
-use Rattle.spin_step.specs.Plain.{Holder, holder, writing, same_kind, is_holder, is_empty}
+use Rattle.spin_step.specs.Plain.{Holder, writing, is_holder, is_empty}
 use Rattle.spin_seated.specs.declared.history.Entry.{Entry}
 use Rattle.spin_seated.specs.declared.lock.Opening.{Opening}
 use Rattle.spin_seated.specs.declared.mutex.Call.{Call}
-use Rattle.spin_seated.specs.declared.mutex.Call.TheVariants.{TryLock, IsLocked, Read, Write, Unlock}
+use Rattle.spin_seated.specs.declared.mutex.Call.TheVariants.{TryLock, Read, Write, Unlock}
 use Rattle.spin_seated.specs.declared.lock.Answer.{Answer}
-use Rattle.spin_seated.specs.declared.lock.Answer.TheVariants.{Truth, Value, Done}
+use Rattle.spin_seated.specs.declared.lock.Answer.TheVariants.{Truth, Value}
 use Rattle.spin_seated.specs.Histories.{BeginsWith, entry, calls_by, own_calls, after, state, IsLegalFrom, IsLegal, Made, Met}
 use Rattle.spin_seated.specs.Locked.{Locked}
 use Rattle.spin_seated.specs.Mutex.{may_call, plain_answer, after_call, mutex, Knows}
@@ -18,13 +18,11 @@ use Rattle.spin_seated.proofs.Histories.{made_at, none_between}
 
 -- how far a pass is after one more call
 then_one : (o : Option Section) (w : Section) → o ≡ Some w → option_and_then (λ u. section_from u []) o ≡ Some w
-then_one None w is = absurd (cc is)
-then_one (Some u) w is = is
+then_one o w is = grind arith
 
 then_more : (o : Option Section) (xs ys : List (Entry Call Answer)) (u w : Section) → option_and_then (λ v. section_from v xs) o ≡ Some u
     → ((v : Section) → section_from v xs ≡ Some u → section_from v ys ≡ Some w) → option_and_then (λ v. section_from v ys) o ≡ Some w
-then_more None xs ys u w is more = absurd (cc is)
-then_more (Some v) xs ys u w is more = more v is
+then_more o xs ys u w is more = grind arith
 
 section-append : (t u w : Section) (xs : List (Entry Call Answer)) (e : Entry Call Answer) → section_from t xs ≡ Some u → next_section u e.call e.answer ≡ Some w → section_from t (xs ++ e ∷ []) ≡ Some w
 section-append t u w [] e at next = let same : t ≡ u = cc at in then_one (next_section t e.call e.answer) w (ap (λ (v : Section). next_section v e.call e.answer) same ∙ next)
@@ -50,24 +48,14 @@ Matches p has_written s = is_held_by p s ≡ true
 -- One call: how it changes the value, and each pass's section.
 module _ (n : ℕ) (s : Locked) (alone : Alone n s.lock.holders) where
   only_one : (p q : ℕ) → is_held_by p s ≡ true → is_held_by q s ≡ true → q ≡ p
-  only_one p q held too =
-      let one : holder q writing ∷ [] ≡ holder p writing ∷ [] = sym (alone_is n q s.lock.holders alone too) ∙ alone_is n p s.lock.holders alone held in
-      let h : holder q writing ≡ holder p writing = cc one in
-      ap (λ (h : Holder). h.party) h
+  only_one p q held too = grind (arith, alone_is)
 
   -- only the holder writes; so a call of another pass does not change the value while q holds
   value_stays : (p q : ℕ) (c : Call) → may_call p c s ≡ true → q ≢ p → is_held_by q s ≡ true → (after_call p c s).value ≡ s.value
-  value_stays p q TryLock may apart held = value_tried p s (is_empty s.lock.holders)
-  value_stays p q IsLocked may apart held = refl
-  value_stays p q Read may apart held = refl
-  value_stays p q (Write v) may apart held = absurd (apart (only_one p q may held))
-  value_stays p q Unlock may apart held = refl
+  value_stays p q c may apart held = grind (arith, value_tried, only_one)
 
   others_match : (p q : ℕ) (c : Call) (t : Section) → may_call p c s ≡ true → q ≢ p → Matches q t s → Matches q t (after_call p c s)
-  others_match p q c away may apart m = steady q p c s (λ e. apart (sym e)) ∙ m
-  others_match p q c entered may apart m = steady q p c s (λ e. apart (sym e)) ∙ m
-  others_match p q c (has_read v) may apart m = (steady q p c s (λ e. apart (sym e)) ∙ m.0, value_stays p q c may apart m.0 ∙ m.1)
-  others_match p q c has_written may apart m = steady q p c s (λ e. apart (sym e)) ∙ m
+  others_match p q c t may apart m = grind (arith, steady, value_stays)
 
   module _ (p : ℕ) where
     abbrev Leads : Call → Section → Type 0
@@ -77,22 +65,13 @@ module _ (n : ℕ) (s : Locked) (alone : Alone n s.lock.holders) where
     goes_to c t u is leads = let same : t ≡ u = cc is in subst (Leads c) same leads
 
     wrote : (v w : ℕ) (u : Section) (b : Bool) → (w == v + 1) ≡ b → (if b then Some has_written else None) ≡ Some u → Matches p (has_read v) s → Leads (Write w) u
-    wrote v w u true same is m = goes_to (Write w) has_written u is (m.0, (let e = eqb-true w (v + 1) same in let f = m.1 in omega arith))
-    wrote v w u false same is m = absurd (cc is)
+    wrote v w u b same is m = grind (arith, goes_to, eqb-true)
 
     let_go : (u : Section) → may_call p Unlock s ≡ true → Some away ≡ Some u → Leads Unlock u
     let_go u may is = goes_to Unlock away u is (ap (is_holder p writing) (freed n p s.lock.holders alone may), omega arith)
 
     own_goes : (t : Section) (c : Call) (a : Answer) (u : Section) → may_call p c s ≡ true → a ≡ plain_answer p c s → Matches p t s → next_section t c a ≡ Some u → Leads c u
-    own_goes away TryLock (Truth true) u may is m next =
-        goes_to TryLock entered u next (tried p s s.lock.holders true is ∙ ap (λ (h : Bool). h || true) m, (let e = value_tried p s (is_empty s.lock.holders) in omega arith))
-    own_goes away TryLock (Truth false) u may is m next =
-        goes_to TryLock away u next (tried p s s.lock.holders false is ∙ ap (λ (h : Bool). h || false) m, (let e = value_tried p s (is_empty s.lock.holders) in omega arith))
-    own_goes entered Read (Value v) u may is m next = goes_to Read (has_read v) u next ((m, (let e : v ≡ s.value = cc is in sym e)), omega arith)
-    own_goes (has_read v) (Write w) Done u may is m next = wrote v w u (w == v + 1) refl next m
-    own_goes (has_read v) Unlock Done u may is m next = let_go u may next
-    own_goes has_written Unlock Done u may is m next = let_go u may next
-    own_goes _ _ _ u may is m next = absurd cc
+    own_goes t c a u may is m next = grind (arith, goes_to, tried, value_tried, wrote, let_go)
 
 -- Over a whole history: the value counts the writes, and each pass is as far in its section as its own calls say.
 abbrev or_away : Option Section → Section
@@ -100,8 +79,7 @@ or_away None = away
 or_away (Some t) = t
 
 first_goes : (o : Option Section) (es : List (Entry Call Answer)) (t : Section) → option_and_then (λ u. section_from u es) o ≡ Some t → (o ≡ Some (or_away o)) × (section_from (or_away o) es ≡ Some t)
-first_goes None es t is = absurd (cc is)
-first_goes (Some u) es t is = (refl, is)
+first_goes o es t is = grind arith
 
 -- how far the pass q is after a call of the pass p
 abbrev section_next : ℕ → Call → Answer → ℕ → Section → Section
@@ -109,8 +87,7 @@ section_next p c a q t = if p == q then or_away (next_section t c a) else t
 
 passes_on : (p : ℕ) (c : Call) (a : Answer) (q : ℕ) (t w : Section) (es : List (Entry Call Answer)) (b : Bool)
     → section_from t (if b then entry p c a ∷ es else es) ≡ Some w → section_from (if b then or_away (next_section t c a) else t) es ≡ Some w
-passes_on p c a q t w es true is = (first_goes (next_section t c a) es w is).1
-passes_on p c a q t w es false is = is
+passes_on p c a q t w es b is = grind (arith, first_goes)
 
 abbrev Ends : ℕ → (ℕ → Section) → (ℕ → Section) → List (Entry Call Answer) → Type 0
 Ends n begin end log = (q : ℕ) → q < n → section_from (begin q) (calls_by q log) ≡ Some (end q)
@@ -125,15 +102,13 @@ module _ (n : ℕ) (s : Locked) (alone : Alone n s.lock.holders) (begin end : �
   here = or_away (next_section (begin e.pass) e.call e.answer)
 
   own_next : next_section (begin e.pass) e.call e.answer ≡ Some here
-  own_next = (first_goes (next_section (begin e.pass) e.call e.answer) (calls_by e.pass es) (end e.pass)
-      (subst (λ (b : Bool). section_from (begin e.pass) (if b then e ∷ calls_by e.pass es else calls_by e.pass es) ≡ Some (end e.pass)) (eq-eqb e.pass e.pass refl) (ends e.pass given))).0
+  own_next = grind (arith, first_goes, eq-eqb)
 
   own_step : Matches e.pass here (after_call e.pass e.call s) × ((after_call e.pass e.call s).value ≡ s.value + is_write e.call)
   own_step = own_goes n s alone e.pass (begin e.pass) e.call e.answer here may is (match e.pass given) own_next
 
   match_at : (q : ℕ) (b : Bool) → q < n → (e.pass == q) ≡ b → Matches q (if b then or_away (next_section (begin q) e.call e.answer) else begin q) (after_call e.pass e.call s)
-  match_at q true below same = subst (λ (p : ℕ). Matches p (or_away (next_section (begin p) e.call e.answer)) (after_call e.pass e.call s)) (eqb-true e.pass q same) own_step.0
-  match_at q false below other = others_match n s alone e.pass q e.call (begin q) may (λ eq. false≢true (sym other ∙ eq-eqb e.pass q (sym eq))) (match q below)
+  match_at q b below same = grind (arith, eqb-true, own_step, others_match, false≢true, eq-eqb)
 
   abbrev begin_next : ℕ → Section
   begin_next q = section_next e.pass e.call e.answer q (begin q)
@@ -147,26 +122,16 @@ module _ (n : ℕ) (s : Locked) (alone : Alone n s.lock.holders) (begin end : �
 pub counts : (n : ℕ) (s : Locked) (begin end : ℕ → Section) (log : List (Entry Call Answer)) → Alone n s.lock.holders → IsLegalFrom mutex n s log → Ends n begin end log → AllMatch n begin s
     → ((after mutex s log).value ≡ s.value + writes_in log) × AllMatch n end (after mutex s log)
 counts n s begin end [] alone legal ends match = (omega arith, (λ q below. let same : begin q ≡ end q = cc (ends q below) in subst (λ (t : Section). Matches q t s) same (match q below)))
-counts n s begin end (e ∷ es) alone legal ends match =
-    let step = own_step n s alone begin end e es legal.0 legal.1 legal.2 ends match in
-    let rest = counts n (after_call e.pass e.call s) (begin_next n s alone begin end e es legal.0 legal.1 legal.2 ends match) end es (alone_after n e.pass e.call s legal.0 legal.1 alone) legal.3
-    (ends_next n s alone begin end e es legal.0 legal.1 legal.2 ends match) (match_next n s alone begin end e es legal.0 legal.1 legal.2 ends match) in
-    let value = step.1 in let more = rest.0 in (omega arith, rest.1)
+counts n s begin end (e ∷ es) alone legal ends match = grind (arith, own_step, counts n (after_call e.pass e.call s) (begin_next n s alone begin end e es legal.0 legal.1 legal.2 ends match) end es (alone_after n e.pass e.call s legal.0 legal.1 alone) legal.3 (ends_next n s alone begin end e es legal.0 legal.1 legal.2 ends match) (match_next n s alone begin end e es legal.0 legal.1 legal.2 ends match))
 
 -- each call is one of the first pass or of the second
 two_parts : (e : Entry Call Answer) (w x y : ℕ) (b d : Bool) → e.pass < 2 → (e.pass == 0) ≡ b → (e.pass == 1) ≡ d → (xs ys : List (Entry Call Answer)) → x ≡ writes_in xs → y ≡ writes_in ys → w ≡ x + y
     → is_write e.call + w ≡ writes_in (if b then e ∷ xs else xs) + writes_in (if d then e ∷ ys else ys)
-two_parts e w x y true true below zero_is one_is xs ys ex ey sum = let z = eqb-true e.pass 0 zero_is in let o = eqb-true e.pass 1 one_is in absurd (omega arith)
-two_parts e w x y true false below zero_is one_is xs ys ex ey sum = omega arith
-two_parts e w x y false true below zero_is one_is xs ys ex ey sum = omega arith
-two_parts e w x y false false below zero_is one_is xs ys ex ey sum =
-    absurd (false≢true (sym zero_is ∙ eq-eqb e.pass 0 (let o : e.pass ≢ 1 = λ h. false≢true (sym one_is ∙ eq-eqb e.pass 1 h) in omega arith)))
+two_parts e w x y b d below zero_is one_is xs ys ex ey sum = grind (arith, eqb-true, false≢true, eq-eqb)
 
 writes_of_two : (s : Locked) (log : List (Entry Call Answer)) → IsLegalFrom mutex 2 s log → writes_in log ≡ writes_in (calls_by 0 log) + writes_in (calls_by 1 log)
 writes_of_two s [] legal = refl
-writes_of_two s (e ∷ es) legal =
-    two_parts e (writes_in es) (writes_in (calls_by 0 es)) (writes_in (calls_by 1 es)) (e.pass == 0) (e.pass == 1) legal.0 refl refl (calls_by 0 es) (calls_by 1 es) refl refl
-    (writes_of_two (after_call e.pass e.call s) es legal.3)
+writes_of_two s (e ∷ es) legal = grind (arith, two_parts e (writes_in es) (writes_in (calls_by 0 es)) (writes_in (calls_by 1 es)) (e.pass == 0) (e.pass == 1) legal.0 refl refl (calls_by 0 es) (calls_by 1 es) refl refl (writes_of_two (after_call e.pass e.call s) es legal.3))
 
 -- two passes add: the first is this far in its section, and the second is outside
 abbrev first_at : Section → ℕ → Section
@@ -174,9 +139,7 @@ first_at t zero = t
 first_at t (suc q) = away
 
 ends_of_two : (t : Section) (log : List (Entry Call Answer)) → section_from away (calls_by 0 log) ≡ Some t → section_from away (calls_by 1 log) ≡ Some away → Ends 2 (λ q. away) (first_at t) log
-ends_of_two t log first second zero below = first
-ends_of_two t log first second (suc zero) below = second
-ends_of_two t log first second (suc (suc q)) below = absurd (omega arith)
+ends_of_two t log first second = grind arith
 
 pub counts_two : (k : Opening) (log : List (Entry Call Answer)) (t : Section) → k.passes ≡ 2 → IsLegal mutex k log → section_from away (calls_by 0 log) ≡ Some t → section_from away (calls_by 1 log) ≡ Some away
     → ((state mutex k log).value ≡ k.value + (writes_in (calls_by 0 log) + writes_in (calls_by 1 log))) × Matches 0 t (state mutex k log) × Matches 1 away (state mutex k log)
@@ -191,17 +154,7 @@ own_stays : (x : Knows) (log : List (Entry Call Answer)) (y : Knows) → Met mut
 own_stays x log y met = ap (λ (p : ℕ). calls_by p y.seen) met.pass ∙ (ap (calls_by x.pass) met.history ∙ met.own)
 
 nobody : (hs : List Holder) → Alone 2 hs → is_holder 0 writing hs ≡ false → is_holder 1 writing hs ≡ false → hs ≡ []
-nobody [] alone first second = refl
-nobody (h ∷ []) alone first second =
-    let kind : same_kind writing h.kind ≡ true = ap (same_kind writing) alone.1 in
-    absurd (not_either h.party alone.0 (held_if h kind 0 first) (held_if h kind 1 second))
-  where
-    held_if : (h : Holder) → same_kind writing h.kind ≡ true → (p : ℕ) → (((h.party == p) && same_kind writing h.kind) || false) ≡ false → h.party ≢ p
-    held_if h kind p is same = false≢true (sym is ∙ (ap (λ (b : Bool). (b && same_kind writing h.kind) || false) (eq-eqb h.party p same) ∙ ap (λ (b : Bool). b || false) kind))
-
-    not_either : (q : ℕ) → q < 2 → q ≢ 0 → q ≢ 1 → ⊥
-    not_either q below zero_no one_no = omega arith
-nobody (h ∷ g ∷ hs) alone first second = absurd alone
+nobody hs alone first second = grind (arith, false≢true, eq-eqb)
 
 -- Two passes that have added meet. Then the first one, whose number is 0, tries to acquire the lock.
 module _ (k : Opening) (a b met_a met_b tried_a : Knows) (granted : Bool) (two : k.passes ≡ 2) (of_a : a.opening ≡ k) (number_a : a.pass ≡ 0) (number_b : b.pass ≡ 1)

@@ -45,9 +45,6 @@ module _ (a b c : Option (List ℕ)) (text piece : List ℕ) (so_far : AppendsBu
   pub but_then : (rest : List ℕ) → AppendsBut b c piece rest → AppendsBut a c text rest
   but_then rest next = grind (arith, Appends-append, append_assoc)
 
-  pub but_last : Appends b c piece → Appends a c text
-  but_last last = grind (arith, Appends-append)
-
   pub but_beginning : AppendsBeginning b c piece → AppendsBeginning a c text
   but_beginning part =
       let P : List ℕ → Type 0 = λ t. AppendsBeginning a c t in
@@ -60,7 +57,7 @@ module _ (a b c : Option (List ℕ)) (text piece : List ℕ) (so_far : AppendsBu
 
 -- first bytes of a text are first bytes of a longer text that begins with it
 pub beginning_longer : (a b : Option (List ℕ)) (text more all : List ℕ) → all ≡ text ++ more → AppendsBeginning a b text → AppendsBeginning a b all
-beginning_longer a b text more all is part = grind (arith, length-append text more, take-append-le part.0 text more part.1)
+beginning_longer a b text more all is part = grind (arith, length-append, take-append-le)
 
 -- the bytes of a list from place i up to its end
 pub rest_is : (xs line : List ℕ) (n i : ℕ) → length xs ≡ n → drop i xs ≡ line → take (n - i) (drop i xs) ≡ line

@@ -4,8 +4,6 @@ pub mod Numerals
 pub mod Cuts
 pub mod Moves
 pub mod Calls
-pub mod Consumed
 pub mod Headers
 pub mod Scripts
 pub mod Lines
-pub mod Putting

@@ -1,5 +1,5 @@
 -- Reading a whole text inverts its spelling. So a text has one reading, and its first bad line is where reading stops.
-use Rattle.std.proofs.Common.{◌≡◌, ℕ, suc, Bool, true, false, Result, OnOk, IfErr, ◌+◌, ◌-◌, Option, Some, None, IsSome, List, [], ◌∷◌, ◌++◌, length, map, take, arith, refl, sym, ◌∙◌, ap, subst, length-append, append_assoc, append-nil}
+use Rattle.std.proofs.Common.{◌≡◌, ℕ, suc, Result, OnOk, IfErr, ◌+◌, ◌-◌, Option, Some, None, IsSome, List, [], ◌∷◌, ◌++◌, length, map, take, arith, refl, sym, ◌∙◌, ap, subst, length-append, append_assoc, append-nil}
 use Rattle.std.specs.List.{cons_option}
 use Rattle.std.proofs.lemmas.List.{length-map, map-append}
 use Rattle.spin_step.specs.declared.answer.Answer.{Answer}
@@ -14,7 +14,7 @@ use Rattle.spin_text.specs.Objects.{CallOf, calls_of, header_words, HeaderFits}
 use Rattle.spin_text.specs.Reading.{◌>>=◌, read_entry, entries_in, read_header}
 use Rattle.spin_text.specs.Readable.{ReadsCalls, AllSpell, AllRead, StopsEntries}
 use Rattle.spin_text.specs.Transcripts.{transcript_text}
-use Rattle.spin_text.specs.Texts.{Script, script_words, ScriptFits, Spells, AreOfScript, IsFirstBad, played, PlaysBytes, PlaysLines, StopsPlaying, StopsWriting, ReadsAll, Streams, Plays, Stops}
+use Rattle.spin_text.specs.Texts.{Script, script_words, ScriptFits, Spells, AreOfScript, IsFirstBad, played, PlaysBytes, PlaysLines, StopsPlaying, StopsWriting}
 use Rattle.spin_text.proofs.Options.{some_is, on_ok, if_err}
 use Rattle.spin_text.proofs.Moves.{entry_takes, entry_again}
 use Rattle.spin_text.proofs.Headers.{header_takes, header_again, read_of, reads_of}
@@ -72,7 +72,7 @@ module _ {C : Type 0} (calls : Calls C) (read : List (List ℕ) → Option C) (r
       (es ++ (e ∷ []), more.0, more.1, omega (arith, so_far.3, length-append es (e ∷ [])))
 
   pub checked_all : (n : ℕ) (left all : List (List (List ℕ))) → Checked calls left all n → left ≡ [] → AllSpell calls read all
-  checked_all n left all so_far over = grind (arith, append-nil (map (entry_words calls) (so_far.0)), entries_found (so_far.0) so_far.1)
+  checked_all n left all so_far over = grind (arith, append-nil, entries_found)
 
 pub read_script : List (List (List ℕ)) → Option Script
 read_script [] = None
@@ -174,28 +174,3 @@ module _ {X W L : Type 0} (r : Result X RunError) (bytes : List ℕ) (h : Header
     some_so r _ _ each_text a b plays,
     beginning_so r _ _ each_text a b _ _ U F (λ e. bad_entry bytes h rest e headed_so.0 headed_so.1) stops,
   )
-
--- What holds of playing holds of the whole call.
-module _ {X : Type 0} (r : Result X RunError) (bytes : List ℕ) (left left_after written written_after : Option (List ℕ))
-    (source_failed sink_failed : Bool) (reads : ReadsAll left left_after bytes) where
-  abbrev streams : Streams
-  streams = record {
-    left = left;
-    left_after = left_after;
-    source_failed = source_failed;
-    written = written;
-    written_after = written_after;
-    sink_failed = sink_failed;
-  }
-
-  pub world_plays : OnOk r (AppendsSome (PlaysBytes bytes) written written_after) → OnOk r (Plays streams)
-  world_plays = on_ok r _ _ (λ t. (bytes, t.0, reads, t.1, t.2))
-
-  stops_whole : (U : Type 0) → source_failed ≡ false → (e : RunError)
-      → StopsWriting (StopsPlaying bytes) U ((sink_failed ≡ true) × AppendsSomeBeginning (PlaysBytes bytes) written written_after) e → Stops streams U e
-  stops_whole U ok e stops = grind arith
-
-  pub world_stops : (U : Type 0) → source_failed ≡ false
-      → IfErr r (StopsWriting (StopsPlaying bytes) U ((sink_failed ≡ true) × AppendsSomeBeginning (PlaysBytes bytes) written written_after))
-      → IfErr r (Stops streams U)
-  world_stops U ok = if_err r _ _ (stops_whole U ok)

@@ -23,7 +23,7 @@ module _ (n : ℕ) where
   counted : (seen : Seen BarrierWords ℕ BarrierCall BarrierPoint) (es : Entries) → Invariant f seen
       → (seen_after m seen es).plain.arrivals ≡ seen.plain.arrivals + steps_made is_arrival m seen es
   counted seen [] good = omega arith
-  counted seen (e ∷ es) good = grind (arith, kept f seen e.0 e.1 good, one_more seen.plain (scene m seen e.0 e.1).change (kept f seen e.0 e.1 good).keeps.belongs, counted (scene m seen e.0 e.1).after es (kept f seen e.0 e.1 good).good)
+  counted seen (e ∷ es) good = grind (arith, kept, one_more, counted (scene m seen e.0 e.1).after es (kept f seen e.0 e.1 good).good)
 
   -- The party has any seat o. `last` is the place that the next arrival gets in its group, or 0 if this arrival fills
   -- the group.

@@ -55,7 +55,7 @@ length-with_begins before (x ∷ xs) = ap suc (length-with_begins (before ++ x �
 -- a run that starts after the events xs has the events of the longer run, with places counted from its own start
 with_begins_from : {W V A : Type 0} (xs before ys : List (Event W V A)) → with_begins before ys ≡ map (event_from (length xs)) (with_begins (xs ++ before) ys)
 with_begins_from xs before [] = refl
-with_begins_from xs before (y ∷ ys) = grind (arith, begin_from y.party xs before, with_begins_from xs (before ++ y ∷ []) ys, append_assoc xs before (y ∷ []))
+with_begins_from xs before (y ∷ ys) = grind (arith, begin_from, with_begins_from xs (before ++ y ∷ []) ys, append_assoc)
 
 -- Two runs of one world: the second run starts in the state in which the first has stopped, on the same object. They
 -- end as one run does, their transcripts are its transcript, cut in two, and both together tell its scenes.

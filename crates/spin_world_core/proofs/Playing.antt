@@ -50,11 +50,6 @@ module _ {W V C L A : Type 0} (m : Machine W V C L A) where
         parties = grind (arith, length-set begins entry.0, played, length-happens m now entry.0 entry.1, acted);
       })
 
-  -- the whole schedule has been played
-  pub played_all : (from now : State W V C L) (begins : List (Option ℕ)) (events : List (Event W V A)) (schedule : Schedule C V) (k : ℕ)
-      → Played from now begins events (take k schedule) → length schedule ≤ k → Played from now begins events schedule
-  played_all from now begins events schedule k played all = subst (Played from now begins events) (take_all k schedule all) played
-
   -- a state that a schedule leads to from a reached state is reached
   pub further : (s t : State W V C L) (schedule : Schedule C V) → t ≡ after m s schedule → IsReached m s → IsReached m t
   further s t schedule is reached = ∥∥₁_map reached (λ led.

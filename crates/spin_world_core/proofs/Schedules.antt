@@ -6,7 +6,7 @@ use Rattle.spin_step.specs.declared.schedule.Outcome.TheVariants as outcome
 pub with_begins-append : {W V A : Type 0} (before xs ys : List (Event W V A))
     → with_begins before (xs ++ ys) ≡ with_begins before xs ++ with_begins (before ++ xs) ys
 with_begins-append before [] ys = grind (arith, append-nil)
-with_begins-append before (x ∷ xs) ys = grind (arith, with_begins-append (before ++ x ∷ []) xs ys, append_assoc before (x ∷ []) xs)
+with_begins-append before (x ∷ xs) ys = grind (arith, with_begins-append (before ++ x ∷ []) xs ys, append_assoc)
 
 -- the last event that begins a call of the party, in two lists of events one after the other
 pub last_begin-append : {W V A : Type 0} (p k : ℕ) (found : Option ℕ) (xs ys : List (Event W V A))

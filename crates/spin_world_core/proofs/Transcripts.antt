@@ -60,7 +60,7 @@ module _ {W V C L A : Type 0} (m : Machine W V C L A) where
   stage-seen_after : (seen : Seen W V C L) (p : ℕ) (es : Schedule C V)
       → stage_of (seat_of (seen_after m seen es) p) ≡ stage_after p (stage_of (seat_of seen p)) (scenes m seen es)
   stage-seen_after seen p [] = refl
-  stage-seen_after seen p (e ∷ es) = grind (arith, stage-seen_after (scene m seen e.0 e.1).after p es, brought seen p e.0 e.1)
+  stage-seen_after seen p (e ∷ es) = grind (arith, stage-seen_after (scene m seen e.0 e.1).after p es, brought)
 
   length-seen_after : (seen : Seen W V C L) (es : Schedule C V) → length (seen_after m seen es).state.seats ≡ length seen.state.seats
   length-seen_after seen [] = refl

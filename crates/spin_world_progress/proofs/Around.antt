@@ -96,7 +96,7 @@ module _ {W V C L A : Type 0} (m : Machine W V C L A) where
 
       never : (place : ℕ) (s : State W V C L) (x : ℕ × Move C V) (xs : Turn) → Within s (x ∷ xs) → occurs m test s (stretch (around e es x xs) 0 place) ≡ false
       never zero s x xs w = refl
-      never (suc place) s x (y ∷ ys) w = grind (arith, later (around e es x (y ∷ ys)) 0 place, not_here s x (y ∷ ys) w, never place (happens m s x.0 x.1).next y ys (next_is s x (y ∷ ys) w))
+      never (suc place) s x (y ∷ ys) w = grind (arith, later, not_here, never place (happens m s x.0 x.1).next y ys (next_is s x (y ∷ ys) w))
       never (suc place) s x [] w = rw (later (around e es x []) 0 place, not_here s x [] w, w.back) (never place start e es first)
 
       pub fair_around : IsFair m start (around e es e es)
@@ -140,4 +140,4 @@ module _ {W V C L A : Type 0} (m : Machine W V C L A) where
 
   pub rounds_are : (s : State W V C L) (rounds : List Turn) → are_rounds s rounds ≡ true → AreRounds m s rounds
   rounds_are s [] is = tt
-  rounds_are s (es ∷ rounds) is = grind (arith, and_parts (all_move s es 0 s.seats) (are_rounds (after m s es) rounds) is, all_is, rounds_are (after m s es) rounds (and_parts (all_move s es 0 s.seats) (are_rounds (after m s es) rounds) is).1)
+  rounds_are s (es ∷ rounds) is = grind (arith, and_parts, all_is, rounds_are (after m s es) rounds (and_parts (all_move s es 0 s.seats) (are_rounds (after m s es) rounds) is).1)

@@ -135,7 +135,7 @@ module _ {V : Type 0} (v : V) (cap patience : ℕ) where
       -- by its step, a holder releases the lock, or its call is granted
       holder_steps : (n q : ℕ) (d : FairCall) (i : FairPoint) (j : Option Hold) → seat_of seen q ≡ Some (Calling d i j) → Sits q (Some (Calling d i j)) → walk.After f x seen q (sc seen q d i j) → theirs_by true (Some (Calling d i j)) ≤ suc n
           → walk.Reaches f x (sc seen q d i j) ⊎ walk.Falls f x seen l q (sc seen q d i j) n
-      holder_steps n q Release First (Some Write) seat so made few = grind (arith, one_gone writing q s.holders good.shape.one made.opens.1, others_same)
+      holder_steps n q Release First (Some Write) seat so made few = grind (arith, one_gone, others_same)
       holder_steps n q d Unregister j seat so made few = inl (rw (get-set_same seen.state.seats q (Holding Write) _ seat) refl)
       holder_steps n q d i j seat so made few = absurd (grind (arith, so))
 

@@ -2,7 +2,7 @@
 -- which is a number of rounds and no atomic load. After at most this many rounds the party lets the others continue. A
 -- round lowers the highest loads by one, or reaches the goal. The record `Walks` below has what is to be shown of the
 -- steps of each object. All other moves are alike in every object.
-use Rattle.spin_world_progress.proofs.Names.{suc, max, if◌then◌else◌, eqb_self, ne_eqb, eq-eqb, entries, Gone, may_read, entries_of, Table, machine_of, StandsFor, entries_held, Mark, Notes, StandsSo, row_passes, ◌≡◌, ℕ, ◌<◌, ◌≤◌, ◌⊎◌, ◌==◌, ◌||◌, Bool, true, false, Option, Some, None, List, [], ◌∷◌, length, slice_get, refl, ap, sym, ◌∙◌, subst, arith, inl, inr, ⊎_elim, cases_eq, cases_lt, false≢true, Plain, IsOpenStep, Hold, Seat, Calling, Holding, Leaked, Next, Move, Begin, Step, Weak, BelongsTo, Machine, goes_on, resting, is_owners, Seen, Scene, scene, scene_at, opening, joined, seen_after, after, at_first, ◌-◌, get-set_same, of_event, Plays, Invariant, kept, good_after, state-seen_after, seen_after-append, state_is, seat_is, Test, occurs, IsRound, AreRounds}
+use Rattle.spin_world_progress.proofs.Names.{suc, max, if◌then◌else◌, eqb_self, ne_eqb, eq-eqb, entries, Gone, entries_of, Table, machine_of, StandsFor, entries_held, Mark, Notes, StandsSo, row_passes, ◌≡◌, ℕ, ◌<◌, ◌≤◌, ◌⊎◌, ◌==◌, ◌||◌, Bool, true, false, Option, Some, None, List, [], ◌∷◌, length, slice_get, refl, ap, sym, ◌∙◌, subst, arith, inl, inr, ⊎_elim, cases_eq, cases_lt, false≢true, Plain, IsOpenStep, Hold, Seat, Calling, Holding, Leaked, Next, Move, Begin, Step, Weak, BelongsTo, Machine, goes_on, resting, is_owners, Seen, Scene, scene, scene_at, opening, joined, seen_after, after, at_first, ◌-◌, get-set_same, of_event, Plays, Invariant, kept, good_after, state-seen_after, seen_after-append, state_is, seat_is, Test, occurs, IsRound, AreRounds}
 use Rattle.spin_world_progress.specs.Rounds.{is_release}
 use Rattle.spin_world_progress.proofs.Progress.{or_left, or_right, or_rest, has_left, is_busy, is_idle, calls_not, holds_not, unawaited, awaited_of, same_beside, no_owner, left_never, moves_on, occurs-append, step_first}
 use Rattle.spin_world.proofs.FairNames.{Entries}
@@ -28,10 +28,6 @@ module _ {W V C L A : Type 0} {t : Table W V C L A} (n : Notes t) (test : Entrie
 
   pub sits_so : {f : Plays (machine_of t) n} (seen : Seen W V C L) → Invariant f seen → (p : ℕ) → test (entries p seen.plain) ≡ true → SitsSo p (seat_of seen p)
   sits_so seen good p has = sits_by p seen.plain (seen.span p) _ (good.parties p).stands (good.parties p).knows has
-
-  -- others may wait for a party with a seat that implies such entries
-  pub busy_so : (p : ℕ) (o : Option (Seat C L)) → test (entries_held p None) ≡ false → ((h : Hold) → test (entries_of p h) ≡ true → may_read h ≡ true) → SitsSo p o → is_busy o ≡ true
-  busy_so p o none reads sits = grind (arith, none, reads, sits)
 
 -- A party that waits for an event that passes the test `goal`. `At` are the points of its call, and `Known` is known
 -- there. `Fine` has to hold at the end of the rounds. `mine` is the load of the waiting party, by the plain lock and the

@@ -40,7 +40,7 @@ module _ {V : Type 0} (v : V) (cap patience : ℕ) where
   -- party 0 has looked n times, and goes on to register when it has looked often enough
   looked : (k n : ℕ) → n + k ≡ patience → after m (beside (Look n)) (looks k) ≡ beside Load
   looked zero n is = let often : nat_lt n patience ≡ false = le-ltb n patience (omega (arith, is)) in grind (arith, often)
-  looked (suc k) n is = grind (arith, lt-ltb n patience (omega (arith, is)), after, looked k (n + 1) (omega (arith, is)))
+  looked (suc k) n is = grind (arith, lt-ltb, after, looked k (n + 1) (omega (arith, is)))
 
   abbrev front : Schedule
   front = (1, Begin TryLock) ∷ (1, Step) ∷ (0, Begin Lock) ∷ (0, Step) ∷ []

@@ -150,9 +150,6 @@ lead_none : (p : ℕ) (hs : List Holder) → same_kind reading (leading hs) ≡ 
 lead_none p [] none = refl
 lead_none p (h ∷ hs) none = grind (arith, none, lead_none p hs)
 
-its_fewer : (u : ℕ) (h : Holder) (hs : List Holder) → length (its u (h ∷ hs)) ≤ 1 → length (its u hs) ≤ 1
-its_fewer u h hs one = grind (arith, one)
-
 kind_later : (u : ℕ) (a : Kind) (h : Holder) (hs : List Holder) → length (its u (h ∷ hs)) ≤ 1 → kind_of u hs ≡ Some a → kind_of u (h ∷ hs) ≡ Some a
 kind_later u a h hs one is = grind (arith, one, is, kind_holds u a hs is)
 

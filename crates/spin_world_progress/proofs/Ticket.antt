@@ -340,7 +340,7 @@ module _ {V : Type 0} (v : V) (first : ℕ) where
       -- the call's step finds the next number, and the call then tries to take it
       goes_for_next : N < ticket_limit → mine_by p n N seen.plain l ≡ doorway n (N - seen.plain.next) false → ((o : ℕ) (his : Option TicketSeat) → theirs_by N seen.plain (Take seen.state.words.next) o his ≡ theirs_by N seen.plain l o his)
           → seat_of sc.after p ≡ Some (Calling Lock (Take seen.state.words.next) None) → sc.after.plain ≡ seen.plain → walk.Own f x seen l r sc
-      goes_for_next room stale same at plain = grind (arith, eq-eqb seen.state.words.next seen.plain.next (next_is seen l w), doorway_next n (N - seen.plain.next) r (omega (arith, stale, within.mine)))
+      goes_for_next room stale same at plain = grind (arith, eq-eqb, doorway_next)
 
     -- the party takes its ticket, whose number was the next one
     own_taken : (seen : World) (j r : ℕ) → (w : walk.Waits f x seen (Take j)) → walk.Within f x seen (Take j) (suc r) → walk.After f x seen p (its seen (Take j)) → seen.state.words.next ≡ j → nat_lt seen.state.words.next ticket_limit ≡ true → walk.Own f x seen (Take j) r (its seen (Take j))
