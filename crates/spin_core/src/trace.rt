@@ -74,8 +74,8 @@ impl<E> Watch<E> {
         let Self { marker: _ } = self;
     }
 
-    // Returns a watch that knows nothing, under the name that the caller chooses.
-    pub(crate) fn start() -> Watch<E>
+    /// Returns a watch that knows nothing, under the name that the caller chooses.
+    pub fn start() -> Watch<E>
         ghost name: { ℕ }
         ensures { (result.name ≡ name) × (result.entries ≡ []) }
     {

@@ -71,33 +71,40 @@ module _ {T : Type 0} (value : T) where
     -- A party that is not registered
 
     tries : (n : ℕ) → Is TryLock First None p s idle × Is TryLockStarver First None p s idle × Is Lock (Attempt n) None p s idle
-    tries n = let grants = fair_lock-grants s p (fair_word s) refl in
-        (record { opens = grind (arith, grants); entries = grind arith; knows = grind arith; counts = grind (arith, grants); same = grind arith; bounded = tt },
-        record { opens = grind (arith, grants); entries = grind arith; knows = grind arith; counts = grind (arith, grants); same = grind arith; bounded = tt },
-        record { opens = grind (arith, grants); entries = grind arith; knows = grind arith; counts = grind (arith, grants); same = grind arith; bounded = tt })
+    tries n = let grants = fair_lock-grants s p (fair_word s) refl in (
+      record { opens = grind (arith, grants); entries = grind arith; knows = grind arith; counts = grind (arith, grants); same = grind arith; bounded = tt },
+      record { opens = grind (arith, grants); entries = grind arith; knows = grind arith; counts = grind (arith, grants); same = grind arith; bounded = tt },
+      record { opens = grind (arith, grants); entries = grind arith; knows = grind arith; counts = grind (arith, grants); same = grind arith; bounded = tt },
+    )
 
     looks : (n : ℕ) → Is IsLocked First None p s idle × Is Lock (Look n) None p s idle × Is Lock Load None p s idle × Is Starve Load None p s idle
-    looks n = (record { opens = tt; entries = refl; knows = tt; counts = refl; same = refl; bounded = tt },
-        record { opens = tt; entries = grind arith; knows = grind arith; counts = refl; same = refl; bounded = tt },
-        record { opens = tt; entries = grind arith; knows = grind arith; counts = refl; same = refl; bounded = tt },
-        record { opens = tt; entries = grind arith; knows = grind arith; counts = refl; same = refl; bounded = tt })
+    looks n = (
+      record { opens = tt; entries = refl; knows = tt; counts = refl; same = refl; bounded = tt },
+      record { opens = tt; entries = grind arith; knows = grind arith; counts = refl; same = refl; bounded = tt },
+      record { opens = tt; entries = grind arith; knows = grind arith; counts = refl; same = refl; bounded = tt },
+      record { opens = tt; entries = grind arith; knows = grind arith; counts = refl; same = refl; bounded = tt },
+    )
 
     registers : (n : ℕ) → Is Lock (Register n) None p s idle × Is Starve (Register n) None p s idle
-    registers n = let grants : Decides s (gets p to_starve) fair_word (starve most_starvers (fair_word s)) = fair_starve-grants s p (fair_word s) most_starvers one room refl in
-        (record { opens = grind (arith, grants); entries = grind arith; knows = grind arith; counts = grind (arith, grants); same = grind arith; bounded = tt },
-        record { opens = grind (arith, grants); entries = grind arith; knows = grind arith; counts = grind (arith, grants); same = grind arith; bounded = tt })
+    registers n = let grants : Decides s (gets p to_starve) fair_word (starve most_starvers (fair_word s)) = fair_starve-grants s p (fair_word s) most_starvers one room refl in (
+      record { opens = grind (arith, grants); entries = grind arith; knows = grind arith; counts = grind (arith, grants); same = grind arith; bounded = tt },
+      record { opens = grind (arith, grants); entries = grind arith; knows = grind arith; counts = grind (arith, grants); same = grind arith; bounded = tt },
+    )
 
     -- A starver
 
     sets : is_starver p s.starvers ≡ true → Is Lock SetFlag None p s starves × Is StarverTryLock SetFlag (Some hold.Starver) p s starves × Is StarverLock SetFlag (Some hold.Starver) p s starves
-    sets mine = let grants = fair_lock_starved-grants s p (fair_word s) one mine refl in let set = set_is (fair_word s) in
-        (record { opens = grind (arith, grants); entries = grind arith; knows = grind arith; counts = grind (arith, grants, set); same = grind (arith, set); bounded = tt },
-        record { opens = grind (arith, grants); entries = grind arith; knows = grind arith; counts = grind (arith, grants, set); same = grind (arith, set); bounded = tt },
-        record { opens = grind (arith, grants); entries = grind arith; knows = grind arith; counts = grind (arith, grants, set); same = grind (arith, set); bounded = tt })
+    sets mine = let grants = fair_lock_starved-grants s p (fair_word s) one mine refl in let set = set_is (fair_word s) in (
+      record { opens = grind (arith, grants); entries = grind arith; knows = grind arith; counts = grind (arith, grants, set); same = grind (arith, set); bounded = tt },
+      record { opens = grind (arith, grants); entries = grind arith; knows = grind arith; counts = grind (arith, grants, set); same = grind (arith, set); bounded = tt },
+      record { opens = grind (arith, grants); entries = grind arith; knows = grind arith; counts = grind (arith, grants, set); same = grind (arith, set); bounded = tt },
+    )
 
     awaits : Is Lock Await None p s starves × Is StarverLock Await (Some hold.Starver) p s starves
-    awaits = (record { opens = tt; entries = grind arith; knows = grind arith; counts = refl; same = refl; bounded = tt },
-        record { opens = tt; entries = grind arith; knows = grind arith; counts = refl; same = refl; bounded = tt })
+    awaits = (
+      record { opens = tt; entries = grind arith; knows = grind arith; counts = refl; same = refl; bounded = tt },
+      record { opens = tt; entries = grind arith; knows = grind arith; counts = refl; same = refl; bounded = tt },
+    )
 
     alone : is_starver p s.starvers ≡ true → Is StarverTryLockFair First (Some hold.Starver) p s starves
     alone mine = let grants = fair_lock_fair-grants s p (fair_word s) one mine refl in
@@ -111,11 +118,12 @@ module _ {T : Type 0} (value : T) where
         record { opens = grind (arith, mine); entries = grind arith; knows = tt; counts = grind (arith, gives, mine, less.1); same = grind (arith, less.1); bounded = tt }
 
     unregisters : is_starver p s.starvers ≡ true → Is Lock Unregister None p s holds_starving × Is StarverTryLockFair Unregister (Some hold.Starver) p s holds_starving × Is StarverTryLock Unregister (Some hold.Starver) p s holds_starving × Is StarverLock Unregister (Some hold.Starver) p s holds_starving
-    unregisters mine = let gives = fair_unstarve-gives s p (fair_word s) refl in let less = fewer mine in
-        (record { opens = grind (arith, mine); entries = grind arith; knows = tt; counts = grind (arith, gives, mine, less.1); same = grind (arith, less.1); bounded = tt },
-        record { opens = grind (arith, mine); entries = grind arith; knows = tt; counts = grind (arith, gives, mine, less.1); same = grind (arith, less.1); bounded = tt },
-        record { opens = grind (arith, mine); entries = grind arith; knows = tt; counts = grind (arith, gives, mine, less.1); same = grind (arith, less.1); bounded = tt },
-        record { opens = grind (arith, mine); entries = grind arith; knows = tt; counts = grind (arith, gives, mine, less.1); same = grind (arith, less.1); bounded = tt })
+    unregisters mine = let gives = fair_unstarve-gives s p (fair_word s) refl in let less = fewer mine in (
+      record { opens = grind (arith, mine); entries = grind arith; knows = tt; counts = grind (arith, gives, mine, less.1); same = grind (arith, less.1); bounded = tt },
+      record { opens = grind (arith, mine); entries = grind arith; knows = tt; counts = grind (arith, gives, mine, less.1); same = grind (arith, less.1); bounded = tt },
+      record { opens = grind (arith, mine); entries = grind arith; knows = tt; counts = grind (arith, gives, mine, less.1); same = grind (arith, less.1); bounded = tt },
+      record { opens = grind (arith, mine); entries = grind arith; knows = tt; counts = grind (arith, gives, mine, less.1); same = grind (arith, less.1); bounded = tt },
+    )
 
     frees : is_holder p writing s.holders ≡ true → Is Release First (Some hold.Write) p s (holds writing)
     frees found = let gives = fair_unlock-gives s p writing (fair_word s) refl in let less = length-without_holder p writing s.holders found in
@@ -155,7 +163,6 @@ module _ {T : Type 0} (value : T) where
   sound StarverDrop First (Some hold.Starver) p s from comes room order one has = let e : from ≡ starves = grind (arith, comes) in rw e (gives_up p s room order one (owns p s room order one (rw e at has)))
   sound Release First (Some hold.Write) p s from comes room order one has = let e : from ≡ holds writing = grind (arith, comes) in rw e (frees p s room order one (is_holder-from_entries p writing s.holders (ap (λ e. e.holders) (let h : HasPart s p (holds writing) = rw e at has in h.0))))
   sound c l h p s from comes room order one has = absurd (grind (arith, comes))
-
 
 -- A party that uses the value holds the lock, and writes.
 facts : (v : View) → Writes (part_of fair_meaning) (part_of fair_meaning v) × (reading (use_at fair_meaning v) ≡ 0) × (writes_of (use_at fair_meaning v) ≤ length (entries_of 0 (part_of fair_meaning v)).holders)

@@ -1,3 +1,5 @@
-pub mod Steps
-pub mod Passes
+pub mod Shapes
+pub mod RwRefines
+pub mod RwCalls
 pub mod Standing
+pub mod Lends

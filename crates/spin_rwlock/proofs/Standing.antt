@@ -8,10 +8,9 @@ use Rattle.spin_step_more.proofs.Readers.{tells-holder}
 use Rattle.spin_step.proofs.Sums.{upgrader, one_of, by_kinds, all_kinds, sum-less, sum-turned, length-with_kind}
 use Rattle.spin_core.specs.Views.{Part, holds, holds_starving, entries_of}
 use Rattle.spin_core.proofs.Owners.{exactly}
-use Rattle.spin_rwlock.specs.declared.rwlock.rule.View.{View}
-use Rattle.spin_rwlock.specs.Rw.{part, Word}
+use Rattle.spin_rwlock.specs.Rw.{part, Word, View}
 use Rattle.spin_rwlock.specs.Standing.{is_of_kind, has_kind, held, readers, upgradables, askers, writers, holders, ReadersOrWriter, HoldsAt}
-use Rattle.spin_rwlock.proofs.Steps.{fits_cap, bounded}
+use Rattle.spin_rwlock.proofs.RwRefines.{few, bounded}
 
 abbrev one_if : Bool → ℕ
 one_if b = cond b 1 0
@@ -37,7 +36,7 @@ readers_or_one_writer word vs rule = let s = rule.0 in
     record {
       one_upgradable = omega (arith, u, a, by_kinds upgrader s.holders, rule.2.exclusive.one_upgradable);
       writer_alone = λ some. omega (arith, r, u, a, w, all_kinds s.holders, rule.2.exclusive.writer (omega (arith, w, some)));
-      within_limit = omega (arith, r, u, a, w, all_kinds s.holders, fits_cap s rule.1 rule.2);
+      within_limit = omega (arith, r, u, a, w, all_kinds s.holders, few s rule.1 rule.2);
     }
 
 pub zero_when_free : (word : ℕ) (vs : List View) → Word word tt vs → (word ≡ 0 → holders vs ≡ 0) × (holders vs ≡ 0 → word ≡ 0)
@@ -51,12 +50,12 @@ stands vs p k word rule at = is_holder-from_entries p k rule.0.holders (ap (λ e
 told : (vs : List View) (p : ℕ) (k : Kind) (word : ℕ) (rule : Word word tt vs) → HoldsAt vs p k → tells k word ≡ true
 told vs p k word rule at =
     let s = rule.0 in
-    ap (tells k) rule.4 ∙ tells-holder s p k rule.2.exclusive (fits_cap s rule.1 rule.2) (stands vs p k word rule at)
+    ap (tells k) rule.4 ∙ tells-holder s p k rule.2.exclusive (few s rule.1 rule.2) (stands vs p k word rule at)
 
 pub goes_as_step : (word : ℕ) (vs : List View) (p : ℕ) (k : Kind) → Word word tt vs → HoldsAt vs p k → (tells k word ≡ true) × ((word + (2 ^ 64 - weight k)) % 2 ^ 64 ≡ released k word)
 goes_as_step word vs p k rule at =
     let s = rule.0 in
-    (told vs p k word rule at, omega (arith, rule.4, bounded s.holders (fits_cap s rule.1 rule.2), sum-less weight p k s.holders (stands vs p k word rule at)))
+    (told vs p k word rule at, omega (arith, rule.4, bounded s.holders (few s rule.1 rule.2), sum-less weight p k s.holders (stands vs p k word rule at)))
 
 heavier : (j k : Kind) → may_turn j k ≡ true → weight j ≤ weight k
 heavier writing reading may = omega arith
@@ -69,5 +68,5 @@ pub turns_as_step : (word : ℕ) (vs : List View) (p : ℕ) (j k : Kind) → Wor
 turns_as_step word vs p j k rule at may =
     let s = rule.0 in
     let some = sum-turned weight p j k s.holders (stands vs p j word rule at) in
-    let within = bounded (with_kind p j k s.holders) (omega (arith, length-with_kind p j k s.holders, fits_cap s rule.1 rule.2)) in
+    let within = bounded (with_kind p j k s.holders) (omega (arith, length-with_kind p j k s.holders, few s rule.1 rule.2)) in
     (told vs p j word rule at, omega (arith, rule.4, heavier j k may, some, within))

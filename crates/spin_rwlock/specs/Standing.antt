@@ -3,8 +3,7 @@ use Rattle.std.specs.Prelude.{◌≡◌, ℕ, ◌+◌, ◌<◌, ◌≤◌, Bool,
 use Rattle.spin_step.specs.Plain.{Kind, reading, upgradable, asking, writing, same_kind}
 use Rattle.spin_step_more.specs.Readers.{reader_limit}
 use Rattle.spin_core.specs.Views.{Part, holds, holds_starving, part_at}
-use Rattle.spin_rwlock.specs.Rw.{part}
-use Rattle.spin_rwlock.specs.declared.rwlock.rule.View.{View}
+use Rattle.spin_rwlock.specs.Rw.{part, View}
 
 -- whether a party with this part is a holder of this kind
 abbrev pub is_of_kind : Kind → Part → Bool

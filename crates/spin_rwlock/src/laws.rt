@@ -3,11 +3,10 @@
 ghost use Rattle.std.specs.Prelude.{◌≡◌, ◌+◌, ◌-◌, ◌*◌, ◌%◌, ◌^◌, ℕ, List, true};
 ghost use Rattle.spin_step.specs.Plain.{Kind, reading, upgradable, asking, writing, weight, may_turn};
 ghost use Rattle.spin_step_more.specs.Readers.{tells, released, turned};
-ghost use Rattle.spin_rwlock.specs.declared.rwlock.rule.View.{View};
 ghost use Rattle.spin_core.specs.Own.{Numbered, IsRun};
 ghost use Rattle.spin_core.specs.declared.tie.Opening.{Opening};
 ghost use Rattle.spin_core.specs.declared.trace.Trace.{Trace};
-ghost use Rattle.spin_rwlock.specs.Rw.{Done, IsRw, views, model, seat_of, words_of};
+ghost use Rattle.spin_rwlock.specs.Rw.{Done, IsRw, View, views, model, seat_of, words_of};
 ghost use Rattle.spin_rwlock.specs.Standing.{readers, upgradables, askers, writers, holders, ReadersOrWriter, HoldsAt};
 
 /// Each run of an [`RwLock`](crate::rwlock::RwLock) on threads is a schedule of its model.

@@ -1,17 +1,24 @@
 //! A spinning lock for many readers or one writer. Begin at [`RwLock::read`] and [`RwLock::write`].
-ghost use Rattle.std.specs.Prelude.{◌≡◌, ◌≤◌, true};
+ghost use Rattle.std.specs.Prelude.{◌≤◌};
 ghost use Rattle.spin_step_more.specs.Readers.{reader_limit};
+ghost use Rattle.spin_session.specs.Turns.{IsNew, spot};
+ghost use Rattle.spin_rwlock.specs.RwPasses.{OpensWith, opening};
 
+use self::rule::RwSession;
 use spin_core::cell::{Cell, Rule};
 use spin_core::lock::{Lock, SharedLock, with_guard};
 use spin_core::relax::{RelaxStrategy, Spin};
 use spin_core::tie::Opening;
 use spin_core::trace::Trace;
+use spin_session::calls::{exchange_for, finish, in_three};
+use spin_session::session::Session;
+use spin_session::table::Ahead;
+use spin_step::Hold;
+use spin_step_more::rw;
+use spin_step_more::rw_calls::{RwCall, RwPoint};
 use std::marker::PhantomData;
 use std::sync::Wait;
 
-mod account;
-mod coming;
 mod pass;
 mod reader;
 mod rule;
@@ -21,7 +28,7 @@ mod writer;
 
 pub use self::pass::Pass;
 pub use self::reader::{ReadHeld, RwLockReadGuard, SharedGuard};
-pub use self::rule::{Entry, Party, RwRule, View};
+pub use self::rule::{Entry, Kind, Party, Reader, RwRule, Upgrader};
 pub use self::upgradable::RwLockUpgradableGuard;
 pub use self::writer::{RwLockWriteGuard, WriteHeld};
 pub use spin_core::laws::{a_guard_reads_the_last_value_written, two_guards_read_one_value};
@@ -61,7 +68,7 @@ impl<T, R> RwLock<T, R> {
     /// # Contract
     /// The lock's history begins with this value (`opens`). The call returns.
     pub const fn new(value: T) -> Self
-        ensures opens { (result.cell.value ≡ value) × (result.cell.told ≡ true) }
+        ensures opens { OpensWith value (opening result) }
     {
         let trace = Trace::new(());
         let opening = Opening::of(&trace, &value);
@@ -70,6 +77,16 @@ impl<T, R> RwLock<T, R> {
         RwLock {
             cell,
             strategy: PhantomData,
+        }
+    }
+
+    // Returns a party that has made no call.
+    fn session(&self) -> RwSession<'_, T>
+        ensures { IsNew (opening self.now) (spot result) }
+    {
+        Session {
+            permit: self.cell.enter(),
+            seen: self.cell.watch(),
         }
     }
 
@@ -124,7 +141,7 @@ impl<T, R> RwLock<T, R> {
     /// ```
     #[must_use = "dropping the guard at once releases the lock: bind the answer, or write `drop(..)`"]
     pub fn try_read_weak(&self) -> Option<RwLockReadGuard<'_, T, R>> {
-        coming::peek(&self.cell)
+        peek(self)
     }
 
     /// Tries to acquire upgradable shared access. Returns `None` if a writer or an upgradable reader holds the lock.
@@ -314,6 +331,29 @@ impl<T, R: RelaxStrategy> RwLock<T, R> {
     /// ```
     pub fn write<W: Wait>(&self, rt: &W) -> RwLockWriteGuard<'_, T, R> {
         self.pass().write(rt).0
+    }
+}
+
+// Tries to read without a right to wait, by one load and at most one exchange.
+#[tactic(auto, using(crate::proofs::RwCalls::peeks, crate::proofs::RwCalls::peek_wins, crate::proofs::RwCalls::may_count, crate::proofs::RwCalls::count_at_once))]
+fn peek<T, R>(lock: &RwLock<T, R>) -> Option<RwLockReadGuard<'_, T, R>> {
+    let (_, _, counted, word) = in_three(lock.session(), RwCall::ReaderCount, None);
+    finish(counted);
+    let next = rw::read(word as usize, rw::MAX_READERS)?;
+    let ahead = Ahead {
+        old: word,
+        new: next as u64,
+        point: RwPoint::Exchange(word as usize),
+        number: word,
+        looks: true,
+    };
+    let (read, count) = (RwCall::TryRead, RwCall::ReaderCount);
+    match exchange_for(lock.session(), read, count, None, Some(Hold::Read), ahead) {
+        Ok(session) => Some(SharedGuard::lent(session).0),
+        Err(session) => {
+            finish(session);
+            None
+        }
     }
 }
 

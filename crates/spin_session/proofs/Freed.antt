@@ -33,6 +33,10 @@ module _ {W V C L : Type 0} (t : ℕ → V → Table W V C L (Answer V)) (s : Me
   seat None moved = absurd moved
   seat (Some w) moved = let (same, (log, es, known, grew, (own, outs, mine, mark, none, alike, (stays, so)))) = as_step (Some w) moved in ap Some (rw (ends n) at stays)
 
+  pub keeps_name : (w : Option (Numbered (Seat C L))) → Moves w → named → q.2.name ≡ p.2.name
+  keeps_name None moved so = absurd moved
+  keeps_name (Some w) moved so = moved.0 so
+
   pub knows : (w : Option (Numbered (Seat C L))) → Moves w → mark_of w ≡ length q.2.entries
   knows None moved = absurd moved
   knows (Some w) moved = let (same, (log, es, known, grew, (own, outs, mine, mark, none, alike, so))) = as_step (Some w) moved in mark ∙ ap length (sym grew)

@@ -1,5 +1,7 @@
 //! The calls of a session: each is made by the steps of the lock's table. Begin with [`wait_for`].
 ghost use Rattle.std.specs.Prelude.{◌≡◌, ◌≢◌, true, None, Some, Option, IfOk, IfErr, length};
+ghost use Rattle.std.specs.Option.{IfSome};
+ghost use Rattle.spin_core.specs.Values.{IsLast};
 ghost use Rattle.spin_core.specs.Cell.{off, writes, use_of, Moved, Keeps};
 ghost use Rattle.spin_core.specs.Own.{what};
 ghost use Rattle.spin_core.specs.Passes.{IsOut, Nothing, mark_of};
@@ -261,7 +263,7 @@ pub fn attempt<'a, T, P: Runs<T>>(
     requires tries { IsTry P.tables P.meaning call holds after session.permit.key }
     requires once { IsAnswered P.tables call holds session.permit.key }
     ensures granted { IfOk result (λ now. Stands after now × SeesLast now × Calls P.tables call Granted (spot session.entry) (spot now)) }
-    ensures refused { IfErr result (λ now. Stands holds now × Calls P.tables call Refused (spot session.entry) (spot now)) }
+    ensures refused { IfErr result (λ now. Stands holds now × SeesLast now × Calls P.tables call Refused (spot session.entry) (spot now)) }
     ensures sees { IfOk result (SeesOn P.meaning call holds session.entry.permit.value) }
     ensures still { IfErr result (SeesOn P.meaning call holds session.entry.permit.value) }
 {
@@ -326,6 +328,7 @@ pub fn make<'a, T, P: Runs<T>>(
     ensures stands { Stands after result }
     ensures calls { Calls P.tables call answer (spot session.entry) (spot result) }
     ensures last { SeesLast result }
+    ensures left { use_at P.meaning (resting holds) ≢ off → IfSome session.entry.permit.value (IsLast result.permit.key result.seen.entries) }
     ensures sees { SeesOn P.meaning call holds session.entry.permit.value result }
 {
     let _ = (answer, after);
@@ -454,6 +457,7 @@ pub fn give<'a, T, P: Runs<T>>(
     ensures knows { mark_of result.permit.view ≡ length result.seen.entries }
     ensures key { result.permit.key ≡ writer.entry.key }
     ensures same { use_at P.meaning (resting after) ≢ off → result.permit.value ≡ Some writer.entry.value }
+    ensures name { writer.entry.key.name ≡ seen.name → result.seen.name ≡ seen.name }
     ensures releases { writer.entry.key.name ≡ seen.name → writer.entry.view.2 ≡ length seen.entries → Releases (model_at P.tables) (λ o. o) call Done writer.entry.value (writer.entry.key, Some writer.entry.view, seen) (spot result) }
 {
     let _ = after;
@@ -846,6 +850,7 @@ fn step<'a, T, P: Runs<T>>(
     ensures comes { (p : Spot T P.Call P.Point) → Under P.tables P.meaning call p (spot session.entry) → Comes P.tables P.meaning call holds result.0 p (spot result.2) }
     ensures goes { GoesBy P.tables P.meaning call point holds result.1 result.0 session.entry.permit.key }
     ensures last { SeesLast result.2 }
+    ensures left { use_of (use_at P.meaning) (what session.entry.permit.view) ≢ off → IfSome session.entry.permit.value (IsLast result.2.permit.key result.2.seen.entries) }
     ensures sees { SeesOn P.meaning call holds session.entry.permit.value result.2 }
 {
     P::laws();

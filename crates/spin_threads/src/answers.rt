@@ -19,7 +19,7 @@ ghost use Rattle.spin_step.specs.declared.flag_calls.FlagCall.TheVariants as fla
 ghost use Rattle.spin_step.specs.declared.once_calls.OnceCall.TheVariants as once;
 ghost use Rattle.spin_step.specs.declared.ticket_calls.TicketCall.TheVariants as ticket;
 ghost use Rattle.spin_rwlock.specs.Rw as rwlock;
-ghost use Rattle.spin_rwlock.specs.declared.rwlock.rule.View.{View as RwLockView};
+ghost use Rattle.spin_rwlock.specs.Rw.{View as RwLockView};
 ghost use Rattle.spin_seats.specs.Passes.{history, party, Counted, SeatsSpot, WasRefused};
 ghost use Rattle.spin_seats.specs.Rule as seats;
 ghost use Rattle.spin_seats.specs.Seats.{seats as as_many_as_seats};

@@ -16,7 +16,7 @@ ghost use Rattle.spin_once.specs.Once as once;
 ghost use Rattle.spin_once.specs.OnceValues as once_values;
 ghost use Rattle.spin_once.specs.declared.once_core.rule.Stage.{Stage as OnceStage};
 ghost use Rattle.spin_rwlock.specs.Rw as rwlock;
-ghost use Rattle.spin_rwlock.specs.declared.rwlock.rule.View.{View as RwLockView};
+ghost use Rattle.spin_rwlock.specs.Rw.{View as RwLockView};
 ghost use Rattle.spin_seats.specs.Rule as seats;
 ghost use Rattle.spin_ticket.specs.Queue as ticket_mutex;
 ghost use Rattle.spin_ticket.specs.Queue.{View as TicketMutexView};

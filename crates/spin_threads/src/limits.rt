@@ -17,7 +17,7 @@ ghost use Rattle.spin_step.specs.declared.answer.Answer.TheVariants.{Granted};
 ghost use Rattle.spin_step.specs.declared.ticket_calls.TicketCall.TheVariants.{Lock};
 ghost use Rattle.spin_step_more.specs.declared.rw_calls.RwCall.TheVariants.{Upgrade};
 ghost use Rattle.spin_rwlock.specs.Rw as rwlock;
-ghost use Rattle.spin_rwlock.specs.declared.rwlock.rule.View.{View as RwLockView};
+ghost use Rattle.spin_rwlock.specs.Rw.{View as RwLockView};
 ghost use Rattle.spin_seats.specs.Rule as seats;
 ghost use Rattle.spin_ticket.specs.Queue as ticket_mutex;
 ghost use Rattle.spin_ticket.specs.Queue.{View as TicketMutexView};

@@ -12,7 +12,7 @@ ghost use Rattle.spin_core.specs.declared.trace.Trace.{Trace};
 ghost use Rattle.spin_flag.specs.Flag as spin_mutex;
 ghost use Rattle.spin_step.specs.FlagCalls.{flag_machine};
 ghost use Rattle.spin_rwlock.specs.Rw as rwlock;
-ghost use Rattle.spin_rwlock.specs.declared.rwlock.rule.View.{View as RwLockView};
+ghost use Rattle.spin_rwlock.specs.Rw.{View as RwLockView};
 ghost use Rattle.spin_threads.specs.Progress.{InHistory, GrantsInFour, GrantsBeside, GrantsTheUpgrade};
 
 /// While a thread waits in a `lock` of a `SpinMutex`, some thread is granted the lock in every four rounds.

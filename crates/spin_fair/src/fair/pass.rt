@@ -13,7 +13,9 @@ use super::{FairMutex, FairMutexGuard, LockRejectReason};
 use spin_core::guard::Guard;
 use spin_core::relax::{RelaxStrategy, Strategy};
 use spin_core::trace::Watch;
-use spin_session::calls::{SessionOf, ask, attempt, finish, give, guarded, in_three, try_for, wait_for};
+use spin_session::calls::{
+    SessionOf, ask, attempt, finish, give, guarded, in_three, try_for, wait_for,
+};
 use spin_step::{Answer, Hold};
 use spin_step_more::FairCall;
 use std::marker::{Model, PhantomData};

@@ -64,7 +64,12 @@ impl<'a, T, R> StarvingPass<'a, T, R> {
     {
         let Self { session, strategy } = self;
         let held = Some(Hold::Starver);
-        match attempt(session, FairCall::StarverTryLockFair, held, Some(Hold::Write)) {
+        match attempt(
+            session,
+            FairCall::StarverTryLockFair,
+            held,
+            Some(Hold::Write),
+        ) {
             Ok(session) => Ok(guarded(session)),
             Err(session) => Err(StarvingPass { session, strategy }),
         }

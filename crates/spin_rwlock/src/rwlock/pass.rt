@@ -1,28 +1,29 @@
 //! The calls of an [`RwLock`] by a thread that keeps track of them. Begin at [`RwLock::pass`].
-ghost use Rattle.std.specs.Prelude.{◌≡◌, ◌⊎◌, ◌≤◌, true, false, Some, None, [], IfOk, IfErr};
+ghost use Rattle.std.specs.Prelude.{◌≡◌, ◌⊎◌, ◌≤◌, true, false, None, IfOk, IfErr};
+ghost use Rattle.std.specs.Option.{IfSome};
 ghost use mathlib.Core.List.{IsPrefix};
 ghost use Rattle.spin_core.specs.Calls.{AnswersOf, AnswersOfShared};
-ghost use Rattle.spin_core.specs.Own.{what};
 ghost use Rattle.spin_core.specs.Values.{IsLast};
 ghost use Rattle.spin_step.specs.declared.answer.Answer.TheVariants.{Granted, Refused, Count, Done};
 ghost use Rattle.spin_step_more.specs.Readers.{reader_limit};
 ghost use Rattle.spin_step_more.specs.declared.rw_calls.RwCall.TheVariants.{TryRead, Read, TryUpgradeableRead, UpgradeableRead, TryWrite, Write, ReaderCount, WriterCount, Release};
-ghost use Rattle.spin_rwlock.specs.Guards.{shared_party, write_party, shared_opening, write_opening, write_value, ReadsWith, WritesWith, ReadsLast, FindsLast};
-ghost use Rattle.spin_rwlock.specs.Rw.{call_of, Called, Wrote};
-ghost use Rattle.spin_rwlock.specs.Sights.{sight};
-ghost use Rattle.spin_rwlock.specs.Steps.{IsPass};
+ghost use Rattle.spin_session.specs.Turns.{IsNew, Stands, history, lock_of, spot};
+ghost use Rattle.spin_rwlock.specs.Guards.{RwSpot, shared_value, shared_opening, shared_spot, ReadsWith, WritesWith};
+ghost use Rattle.spin_rwlock.specs.Rw.{call_of};
+ghost use Rattle.spin_rwlock.specs.RwPasses.{Calls, Grants, Lends, Leaves, opening, opening_of};
 
 use super::RwLock;
-use super::account::{Account, Lent};
-use super::coming::{Coming, Tries, Waits};
-use super::reader::{RwLockReadGuard, SharedGuard};
-use super::rule::{CountsReaders, CountsWriters, Entry, Kind, Reader, TriesToWrite, Upgrader};
+use super::reader::{Lent, RwLockReadGuard, SharedGuard, release};
+use super::rule::{Entry, Kind, Party, Reader, RwRule, Upgrader, call_of};
 use super::upgradable::RwLockUpgradableGuard;
 use super::writer::RwLockWriteGuard;
-use spin_core::relax::RelaxStrategy;
+use spin_core::relax::{RelaxStrategy, Strategy};
 use spin_core::trace::Watch;
-use spin_step_more::rw;
-use std::marker::PhantomData;
+use spin_session::calls::{ask, attempt, finish, try_for, wait_for};
+use spin_session::session::Session;
+use spin_step::{Answer, Hold};
+use spin_step_more::rw_calls::RwCall;
+use std::marker::{Model, PhantomData};
 use std::sync::Wait;
 
 /// A thread's record of its calls of an [`RwLock`].
@@ -54,25 +55,28 @@ use std::sync::Wait;
 /// ```
 #[must_use = "a pass that is dropped ends: bind it, or write `drop(..)`"]
 pub struct Pass<'a, T, R> {
-    pub(super) account: Account<'a, T>,
+    pub(super) session: Session<'a, T, Party, Entry<T>, RwRule<T>>,
     pub(super) strategy: PhantomData<R>,
-    ghost knows: { IsPass (sight account) },
+}
+
+impl<'a, T, R> Model for Pass<'a, T, R> {
+    ghost Value = { RwSpot T };
+
+    ghost view = { λ pass. spot pass.session };
+
+    ghost invariant = { λ pass. Stands None pass.session };
 }
 
 impl<T, R> RwLock<T, R> {
     /// Returns a pass that has made no call. It makes no operation on the lock.
     ///
     /// # Contract
-    /// The pass is of this lock, and knows nothing of its history yet (`new`, `lock`).
+    /// The pass is of this lock, and knows nothing of its history yet (`new`).
     pub fn pass(&self) -> Pass<'_, T, R>
-        ensures new { (result.account.seen.name ≡ self.now.cell.name) × (result.account.seen.entries ≡ []) × (result.account.permit.view ≡ None) }
-        ensures lock { result.account.permit.key ≡ self.now.cell }
+        ensures new { IsNew (opening self.now) result }
     {
         Pass {
-            account: Account {
-                permit: self.cell.enter(),
-                seen: self.cell.watch(),
-            },
+            session: self.session(),
             strategy: PhantomData,
         }
     }
@@ -89,12 +93,11 @@ impl<T, R> RwLock<T, R> {
         seen: Watch<Entry<T>>,
     ) -> Pass<'a, T, R>
         requires { ReadsWith guard seen }
-        ensures still { ReadsLast guard.entry result.account.seen }
-        ensures made { Called (shared_opening guard.entry).value Release Done (shared_party guard.entry) seen.entries result.account.permit.view result.account.seen.entries }
-        ensures same { (result.account.seen.name ≡ seen.name) × (result.account.permit.key ≡ shared_opening guard.entry) }
+        ensures still { IfSome (shared_value guard.entry) (IsLast (shared_opening guard.entry) (history result)) }
+        ensures made { Calls Release Done (shared_spot guard.entry seen) result }
     {
         Pass {
-            account: guard.release(seen),
+            session: release::<T, K>(guard.knowing(seen)),
             strategy: PhantomData,
         }
     }
@@ -105,17 +108,13 @@ impl<T, R> RwLock<T, R> {
     ///
     /// # Contract
     /// `seen` has to be what the pass knew when it got the guard (`WritesWith`). The pass writes the guard's value into
-    /// the history, and then makes one call, `Release` (`made`, `wrote`). So that value is the one written last
-    /// (`left`).
+    /// the history, and then makes one call, `Release`. So that value is the one written last (`Leaves`).
     pub fn unlock<'a>(guard: RwLockWriteGuard<'a, T, R>, seen: Watch<Entry<T>>) -> Pass<'a, T, R>
         requires { WritesWith guard seen }
-        ensures made { Wrote (write_opening guard.entry).value (λ x. Unit {0}) Release (write_party guard.entry) seen.entries result.account.permit.view result.account.seen.entries }
-        ensures wrote { Wrote (write_opening guard.entry).value (λ x. (write_opening guard.entry).told ≡ true → x ≡ write_value guard.entry) Release (write_party guard.entry) seen.entries result.account.permit.view result.account.seen.entries }
-        ensures left { IsLast (write_opening guard.entry) result.account.seen.entries (write_value guard.entry) }
-        ensures same { (result.account.seen.name ≡ seen.name) × (result.account.permit.key ≡ write_opening guard.entry) }
+        ensures { Leaves Release guard.entry seen result }
     {
         Pass {
-            account: guard.release(seen),
+            session: guard.release(seen),
             strategy: PhantomData,
         }
     }
@@ -128,10 +127,7 @@ impl<'a, T, R: RelaxStrategy> Pass<'a, T, R> {
     /// The call is one `Read` with the answer `Granted`, however often it looked and tried (`made`). The guard's value
     /// is the one written last in the history (`found`). Whether and when the call returns is not promised.
     pub fn read<W: Wait>(self, rt: &W) -> (RwLockReadGuard<'a, T, R>, Watch<Entry<T>>)
-        ensures reads { ReadsWith result.0 result.1 × (result.1.name ≡ self.entry.account.seen.name) }
-        ensures found { ReadsLast result.0 result.1 }
-        ensures lock { shared_opening result.0 ≡ self.entry.account.permit.key }
-        ensures made { Called self.entry.account.permit.key.value Read Granted self.entry.account.permit.view self.entry.account.seen.entries (shared_party result.0) result.1.entries }
+        ensures { Lends Read Granted self.entry result.0 result.1 }
     {
         self.lend::<Reader, _>(rt)
     }
@@ -141,16 +137,13 @@ impl<'a, T, R: RelaxStrategy> Pass<'a, T, R> {
     ///
     /// # Contract
     /// The call is one `UpgradeableRead` with the answer `Granted`, however often it looked and tried (`made`). The
-    /// guard's value is the one written last in the history (`found`). Whether and when the call returns is not
+    /// guard's value is the one written last in the history. Whether and when the call returns is not
     /// promised.
     pub fn upgradeable_read<W: Wait>(
         self,
         rt: &W,
     ) -> (RwLockUpgradableGuard<'a, T, R>, Watch<Entry<T>>)
-        ensures reads { ReadsWith result.0 result.1 × (result.1.name ≡ self.entry.account.seen.name) }
-        ensures found { ReadsLast result.0 result.1 }
-        ensures lock { shared_opening result.0 ≡ self.entry.account.permit.key }
-        ensures made { Called self.entry.account.permit.key.value UpgradeableRead Granted self.entry.account.permit.view self.entry.account.seen.entries (shared_party result.0) result.1.entries }
+        ensures { Lends UpgradeableRead Granted self.entry result.0 result.1 }
     {
         self.lend::<Upgrader, _>(rt)
     }
@@ -175,37 +168,29 @@ impl<'a, T, R: RelaxStrategy> Pass<'a, T, R> {
     /// drop(pass);
     /// ```
     pub fn write<W: Wait>(self, rt: &W) -> (RwLockWriteGuard<'a, T, R>, Watch<Entry<T>>)
-        ensures writes { WritesWith result.0 result.1 × (result.1.name ≡ self.entry.account.seen.name) }
-        ensures found { FindsLast result.0 result.1 }
-        ensures lock { write_opening result.0 ≡ self.entry.account.permit.key }
-        ensures made { Called self.entry.account.permit.key.value Write Granted self.entry.account.permit.view self.entry.account.seen.entries (write_party result.0) result.1.entries }
+        ensures { Grants Write self.entry result.0 result.1 }
     {
         let Self {
-            account,
+            session,
             strategy: _,
         } = self;
-        match account.write() {
-            Ok(held) => held,
-            Err(waiting) => waiting.wait(rt),
-        }
+        let by = Strategy::<R>::named();
+        let (call, after) = (RwCall::Write, Some(Hold::Write));
+        let session = wait_for(session, call, None, Answer::Granted, after, by, rt);
+        RwLockWriteGuard::written(session)
     }
 
     // Waits until the lock admits a reader of this kind.
     fn lend<K: Kind, W: Wait>(self, rt: &W) -> Lent<'a, T, K, R>
-        ensures reads { ReadsWith result.0 result.1 × (result.1.name ≡ self.entry.account.seen.name) }
-        ensures found { ReadsLast result.0 result.1 }
-        ensures lock { shared_opening result.0 ≡ self.entry.account.permit.key }
-        ensures made { Called self.entry.account.permit.key.value (call_of K.view true) Granted self.entry.account.permit.view self.entry.account.seen.entries (shared_party result.0) result.1.entries }
+        ensures { Lends (call_of K.hold true) Granted self.entry result.0 result.1 }
     {
         let Self {
-            account,
+            session,
             strategy: _,
         } = self;
-        let begun: Result<_, Coming<T, K, Waits, R>> = Coming::begin(account);
-        match begun {
-            Ok(lent) => lent,
-            Err(coming) => coming.wait(rt),
-        }
+        let by = Strategy::<R>::named();
+        let (call, after) = (call_of(K::hold(), true), Some(K::hold()));
+        SharedGuard::lent(wait_for(session, call, None, Answer::Granted, after, by, rt))
     }
 }
 
@@ -234,7 +219,6 @@ impl<'a, T, R: RelaxStrategy> Pass<'a, T, R> {
         requires { F.IsAlwaysCallable by }
         ensures answers { AnswersOf F.FnOnce by result.0 }
         ensures made { WroteOnce self.entry result.1 }
-        ensures same { (result.1.account.seen.name ≡ self.entry.account.seen.name) × (result.1.account.permit.key ≡ self.entry.account.permit.key) }
     {
         let (mut guard, seen) = self.write(rt);
         let answer = by(&mut *guard);
@@ -251,7 +235,6 @@ impl<'a, T, R: RelaxStrategy> Pass<'a, T, R> {
         requires { F.IsAlwaysCallable by }
         ensures answers { AnswersOfShared F.FnOnce by result.0 }
         ensures made { ReadOnce self.entry result.1 }
-        ensures same { (result.1.account.seen.name ≡ self.entry.account.seen.name) × (result.1.account.permit.key ≡ self.entry.account.permit.key) }
     {
         let (guard, seen) = self.read(rt);
         let answer = by(&*guard);
@@ -264,46 +247,32 @@ impl<'a, T, R> Pass<'a, T, R> {
     ///
     /// # Contract
     /// The call is one `TryRead`, with the answer `Granted` and a guard (`granted`), or else `Refused` (`refused`). The
-    /// guard's value is the one written last in the history (`found`). Whether and when the call returns is not
+    /// guard's value is the one written last in the history. Whether and when the call returns is not
     /// promised.
     pub fn try_read<W: Wait>(
         self,
         rt: &W,
     ) -> Result<(RwLockReadGuard<'a, T, R>, Watch<Entry<T>>), Pass<'a, T, R>>
-        ensures reads { IfOk result (λ lent. ReadsWith lent.0 lent.1 × (lent.1.name ≡ self.entry.account.seen.name)) }
-        ensures found { IfOk result (λ lent. ReadsLast lent.0 lent.1) }
-        ensures lock { IfOk result (λ lent. shared_opening lent.0 ≡ self.entry.account.permit.key) }
-        ensures granted { IfOk result (λ lent. Called self.entry.account.permit.key.value TryRead Granted self.entry.account.permit.view self.entry.account.seen.entries (shared_party lent.0) lent.1.entries) }
-        ensures refused { IfErr result (λ pass. (pass.account.permit.key ≡ self.entry.account.permit.key) × (pass.account.seen.name ≡ self.entry.account.seen.name) × Called self.entry.account.permit.key.value TryRead Refused self.entry.account.permit.view self.entry.account.seen.entries pass.account.permit.view pass.account.seen.entries) }
+        ensures granted { IfOk result (λ lent. Lends TryRead Granted self.entry lent.0 lent.1) }
+        ensures refused { IfErr result (λ pass. Calls TryRead Refused self.entry pass) }
     {
-        let Self {
-            account,
-            strategy: _,
-        } = self;
-        Coming::<_, Reader, Tries, _>::try_to_lend(rt, account)
+        self.try_lend::<Reader, _>(rt)
     }
 
     /// Tries to acquire upgradable shared access as [`RwLock::try_upgradeable_read`] does. A failure returns the pass.
     ///
     /// # Contract
     /// The call is one `TryUpgradeableRead`, with the answer `Granted` and a guard (`granted`), or else `Refused`
-    /// (`refused`). The guard's value is the one written last in the history (`found`). Whether and when the call
+    /// (`refused`). The guard's value is the one written last in the history. Whether and when the call
     /// returns is not promised.
     pub fn try_upgradeable_read<W: Wait>(
         self,
         rt: &W,
     ) -> Result<(RwLockUpgradableGuard<'a, T, R>, Watch<Entry<T>>), Pass<'a, T, R>>
-        ensures reads { IfOk result (λ lent. ReadsWith lent.0 lent.1 × (lent.1.name ≡ self.entry.account.seen.name)) }
-        ensures found { IfOk result (λ lent. ReadsLast lent.0 lent.1) }
-        ensures lock { IfOk result (λ lent. shared_opening lent.0 ≡ self.entry.account.permit.key) }
-        ensures granted { IfOk result (λ lent. Called self.entry.account.permit.key.value TryUpgradeableRead Granted self.entry.account.permit.view self.entry.account.seen.entries (shared_party lent.0) lent.1.entries) }
-        ensures refused { IfErr result (λ pass. (pass.account.permit.key ≡ self.entry.account.permit.key) × (pass.account.seen.name ≡ self.entry.account.seen.name) × Called self.entry.account.permit.key.value TryUpgradeableRead Refused self.entry.account.permit.view self.entry.account.seen.entries pass.account.permit.view pass.account.seen.entries) }
+        ensures granted { IfOk result (λ lent. Lends TryUpgradeableRead Granted self.entry lent.0 lent.1) }
+        ensures refused { IfErr result (λ pass. Calls TryUpgradeableRead Refused self.entry pass) }
     {
-        let Self {
-            account,
-            strategy: _,
-        } = self;
-        Coming::<_, Upgrader, Tries, _>::try_to_lend(rt, account)
+        self.try_lend::<Upgrader, _>(rt)
     }
 
     /// Tries to acquire exclusive access as [`RwLock::try_write`] does. Returns the pass at once if any thread holds
@@ -311,7 +280,7 @@ impl<'a, T, R> Pass<'a, T, R> {
     ///
     /// # Contract
     /// The call is one `TryWrite`, with the answer `Granted` and a guard (`granted`), or else `Refused`
-    /// (`refused`). The guard's value is the one written last in the history (`found`). The call returns.
+    /// (`refused`). The guard's value is the one written last in the history. The call returns.
     ///
     /// # Examples
     /// ```
@@ -324,17 +293,31 @@ impl<'a, T, R> Pass<'a, T, R> {
     /// assert!(rt; pass.try_write().is_ok());
     /// ```
     pub fn try_write(self) -> Result<(RwLockWriteGuard<'a, T, R>, Watch<Entry<T>>), Pass<'a, T, R>>
-        ensures writes { IfOk result (λ held. WritesWith held.0 held.1 × (held.1.name ≡ self.entry.account.seen.name)) }
-        ensures found { IfOk result (λ held. FindsLast held.0 held.1) }
-        ensures lock { IfOk result (λ held. write_opening held.0 ≡ self.entry.account.permit.key) }
-        ensures granted { IfOk result (λ held. Called self.entry.account.permit.key.value TryWrite Granted self.entry.account.permit.view self.entry.account.seen.entries (write_party held.0) held.1.entries) }
-        ensures refused { IfErr result (λ pass. (pass.account.permit.key ≡ self.entry.account.permit.key) × (pass.account.seen.name ≡ self.entry.account.seen.name) × Called self.entry.account.permit.key.value TryWrite Refused self.entry.account.permit.view self.entry.account.seen.entries pass.account.permit.view pass.account.seen.entries) }
+        ensures granted { IfOk result (λ held. Grants TryWrite self.entry held.0 held.1) }
+        ensures refused { IfErr result (λ pass. Calls TryWrite Refused self.entry pass) }
     {
-        let Self { account, strategy } = self;
-        let next = rw::write(0).unwrap();
-        match account.attempt::<TriesToWrite, R>(0, next as u64) {
-            Ok(held) => Ok(held),
-            Err(account) => Err(Pass { account, strategy }),
+        let Self { session, strategy } = self;
+        match attempt(session, RwCall::TryWrite, None, Some(Hold::Write)) {
+            Ok(session) => Ok(RwLockWriteGuard::written(session)),
+            Err(session) => Err(Pass { session, strategy }),
+        }
+    }
+
+    // Tries to come as a reader of this kind.
+    fn try_lend<K: Kind, W: Wait>(self, rt: &W) -> Result<Lent<'a, T, K, R>, Pass<'a, T, R>>
+        ensures granted { IfOk result (λ lent. Lends (call_of K.hold false) Granted self.entry lent.0 lent.1) }
+        ensures refused { IfErr result (λ pass. Calls (call_of K.hold false) Refused self.entry pass) }
+    {
+        let Self { session, strategy } = self;
+        match try_for(
+            session,
+            call_of(K::hold(), false),
+            None,
+            Some(K::hold()),
+            rt,
+        ) {
+            Ok(session) => Ok(SharedGuard::lent(session)),
+            Err(session) => Err(Pass { session, strategy }),
         }
     }
 
@@ -345,12 +328,13 @@ impl<'a, T, R> Pass<'a, T, R> {
     /// (`reader_limit`).
     pub fn reader_count(self) -> (usize, Pass<'a, T, R>)
         ensures limit { result.0 ≤ reader_limit }
-        ensures made { Called self.entry.account.permit.key.value ReaderCount (Count result.0) self.entry.account.permit.view self.entry.account.seen.entries result.1.account.permit.view result.1.account.seen.entries }
-        ensures same { (result.1.account.seen.name ≡ self.entry.account.seen.name) × (result.1.account.permit.key ≡ self.entry.account.permit.key) }
+        ensures made { Calls ReaderCount (Count result.0) self.entry result.1 }
     {
-        let Self { account, strategy } = self;
-        let (found, account) = account.load::<CountsReaders>();
-        (rw::readers(found as usize), Pass { account, strategy })
+        let Self { session, strategy } = self;
+        match ask(session, RwCall::ReaderCount, None) {
+            (Answer::Count(number), session) => (number, Pass { session, strategy }),
+            _ => unreachable!(),
+        }
     }
 
     /// Counts the writers, as [`RwLock::writer_count`] does.
@@ -359,12 +343,13 @@ impl<'a, T, R> Pass<'a, T, R> {
     /// The call is one `WriterCount`, with the returned answer, 0 or 1 (`made`).
     pub fn writer_count(self) -> (usize, Pass<'a, T, R>)
         ensures limit { result.0 ≤ 1 }
-        ensures made { Called self.entry.account.permit.key.value WriterCount (Count result.0) self.entry.account.permit.view self.entry.account.seen.entries result.1.account.permit.view result.1.account.seen.entries }
-        ensures same { (result.1.account.seen.name ≡ self.entry.account.seen.name) × (result.1.account.permit.key ≡ self.entry.account.permit.key) }
+        ensures made { Calls WriterCount (Count result.0) self.entry result.1 }
     {
-        let Self { account, strategy } = self;
-        let (found, account) = account.load::<CountsWriters>();
-        (rw::writers(found as usize), Pass { account, strategy })
+        let Self { session, strategy } = self;
+        match ask(session, RwCall::WriterCount, None) {
+            (Answer::Count(number), session) => (number, Pass { session, strategy }),
+            _ => unreachable!(),
+        }
     }
 
     /// Compares what two passes of one lock know. It does nothing when it runs.
@@ -373,19 +358,19 @@ impl<'a, T, R> Pass<'a, T, R> {
     /// The history that one of the passes knows is a prefix of the history that the other knows. The longer of the two
     /// histories has the calls of both passes, each once, in the order in which each pass made them.
     pub fn compare(&self, other: &Pass<'_, T, R>)
-        requires { self.now.account.seen.name ≡ other.now.account.seen.name }
-        ensures { IsPrefix self.now.account.seen.entries other.now.account.seen.entries ⊎ IsPrefix other.now.account.seen.entries self.now.account.seen.entries }
+        requires { lock_of self.now ≡ lock_of other.now }
+        ensures { IsPrefix (history self.now) (history other.now) ⊎ IsPrefix (history other.now) (history self.now) }
     {
-        self.account.seen.compare(&other.account.seen);
+        self.session.seen.compare(&other.session.seen);
     }
 }
 
 impl<T, R> Drop for Pass<'_, T, R> {
     fn drop(self) {
         let Self {
-            account,
+            session,
             strategy: _,
         } = self;
-        account.leave();
+        finish(session);
     }
 }

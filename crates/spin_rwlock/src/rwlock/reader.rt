@@ -1,21 +1,25 @@
 //! The guard of a reader, of either kind, and a reader's hold without a guard. Begin at [`RwLockReadGuard`].
-ghost use Rattle.std.specs.Prelude.{◌≡◌, Some};
-ghost use Rattle.spin_core.specs.Own.{what};
-ghost use Rattle.spin_core.specs.Passes.{IsCall};
+ghost use Rattle.std.specs.Prelude.{◌≡◌, Some, None};
+ghost use Rattle.std.specs.Option.{IfSome};
+ghost use Rattle.spin_core.specs.Values.{IsLast};
 ghost use Rattle.spin_step.specs.declared.answer.Answer.TheVariants.{Done};
+ghost use Rattle.spin_step.specs.declared.place.Hold.TheVariants.{Read as Reads};
 ghost use Rattle.spin_step_more.specs.declared.rw_calls.RwCall.TheVariants.{Release};
-ghost use Rattle.spin_rwlock.specs.Rw.{IsOut};
-ghost use Rattle.spin_rwlock.specs.Sights.{sight, view_of};
-ghost use Rattle.spin_rwlock.specs.Steps.{IsLent, MayKnow, Does};
-ghost use Rattle.spin_rwlock.specs.declared.rwlock.rule.View.TheVariants.{Reading};
+ghost use Rattle.spin_session.specs.Turns.{Calls, Stands, spot};
+ghost use Rattle.spin_rwlock.specs.Rw.{IsLent, rw_tables};
 
-use super::account::Account;
-use super::rule::{Entry, Kind, Party, Reader, Releases, RwPermit, RwRule};
-use spin_core::cell::Permit;
+use super::rule::{Entry, Kind, Party, Reader, RwRule, RwSession};
 use spin_core::relax::Spin;
 use spin_core::trace::Watch;
+use spin_session::calls::{finish, make};
+use spin_session::session::Session;
+use spin_step::Answer;
+use spin_step_more::rw_calls::RwCall;
 use std::marker::PhantomData;
 use std::ops::Deref;
+
+/// A reader's guard, and what its party knows of the lock's history.
+pub(super) type Lent<'a, T, K, R> = (SharedGuard<'a, T, K, R>, Watch<Entry<T>>);
 
 /// The guard of a reader of kind `K`. Dropping it releases the shared access.
 ///
@@ -26,9 +30,9 @@ use std::ops::Deref;
 /// `shared_value` is `Some` of the lock's value, which stays the same while the guard lives.
 #[must_use = "dropping the guard at once releases the lock: bind it, or write `drop(..)`"]
 pub struct SharedGuard<'a, T, K: Kind, R = Spin> {
-    permit: Permit<'a, T, Party, RwRule<T>>,
+    session: Session<'a, T, Party, Entry<T>, RwRule<T>>,
     marker: PhantomData<(K, R)>,
-    ghost lent: { IsLent permit.view permit.value K.view },
+    ghost lent: { IsLent K.hold session },
 }
 
 /// The guard of a reader of an [`RwLock`](super::RwLock). Dropping it releases the shared access.
@@ -46,24 +50,26 @@ pub type RwLockReadGuard<'a, T, R = Spin> = SharedGuard<'a, T, Reader, R>;
 /// The hold's party still reads (`reading`). `read_held_value` is the value that the guard showed.
 #[must_use = "dropping a hold does not release the lock: pass it to `force_read_decrement`"]
 pub struct ReadHeld<'a, T, R = Spin> {
-    permit: Permit<'a, T, Party, RwRule<T>>,
+    session: Session<'a, T, Party, Entry<T>, RwRule<T>>,
     strategy: PhantomData<R>,
-    ghost reading: { what permit.view ≡ Some Reading },
+    ghost reading: { IsLent Reads session },
 }
 
 impl<'a, T, K: Kind, R> SharedGuard<'a, T, K, R> {
-    ghost use Rattle.spin_rwlock.specs.Guards.{shared_value, ReadsLast};
-    ghost use Rattle.spin_rwlock.specs.Waits.{reads_at};
+    ghost use Rattle.spin_rwlock.specs.Guards.{shared_value, shared_spot, ReadsWith};
 
-    pub(super) fn new(permit: RwPermit<'a, T>) -> Self
-        requires { IsLent permit.view permit.value K.view }
-        ensures value { shared_value result ≡ permit.entry.value }
-        ensures same { result.permit ≡ permit.entry }
+    // Returns the guard of this party, and what it knows.
+    pub(super) fn lent(session: RwSession<'a, T>) -> Lent<'a, T, K, R>
+        requires { IsLent K.hold session }
+        ensures same { (result.0.session.permit ≡ session.entry.permit) × (result.0.session.seen ≡ session.entry.seen) }
+        ensures seen { (result.1.name ≡ session.entry.seen.name) × (result.1.entries ≡ session.entry.seen.entries) }
     {
-        SharedGuard {
-            permit,
+        let seen = session.seen.copy();
+        let guard = SharedGuard {
+            session,
             marker: PhantomData,
-        }
+        };
+        (guard, seen)
     }
 
     /// Consumes the guard and returns a reference to the value.
@@ -86,36 +92,40 @@ impl<'a, T, K: Kind, R> SharedGuard<'a, T, K, R> {
     pub fn leak(this: Self) -> &'a T
         ensures { Some result.now ≡ shared_value this.entry }
     {
-        this.into_permit().see()
+        let Session { permit, seen: _ } = this.into_session();
+        permit.see()
     }
 
-    pub(super) fn into_permit(self) -> RwPermit<'a, T>
-        ensures same { result ≡ self.entry.permit }
-        ensures lent { IsLent result.view result.value K.view }
+    pub(super) fn into_session(self) -> RwSession<'a, T>
+        ensures same { result ≡ self.entry.session }
+        ensures lent { IsLent K.hold result }
     {
-        let Self { permit, marker: _ } = self;
-        permit
+        let Self { session, marker: _ } = self;
+        session
     }
 
-    pub(super) fn into_account(self, seen: Watch<Entry<T>>) -> Account<'a, T>
-        ensures same { sight result ≡ reads_at (self.entry, seen) }
-        ensures lent { IsLent result.permit.view result.permit.value K.view }
+    // Returns the party, which knows this of the history.
+    pub(super) fn knowing(self, seen: Watch<Entry<T>>) -> RwSession<'a, T>
+        requires { ReadsWith self seen }
+        ensures same { spot result ≡ shared_spot self.entry seen }
+        ensures value { result.permit.value ≡ shared_value self.entry }
+        ensures lent { IsLent K.hold result }
     {
-        Account {
-            permit: self.into_permit(),
-            seen,
-        }
+        let Session { permit, seen: _ } = self.into_session();
+        Session { permit, seen }
     }
+}
 
-    // Releases the shared access. The party is then in no call, and holds nothing.
-    pub(super) fn release(self, seen: Watch<Entry<T>>) -> Account<'a, T>
-        requires { MayKnow (reads_at (self, seen)) }
-        ensures out { IsOut (view_of result) }
-        ensures still { ReadsLast self.entry result.seen }
-        ensures made { Does (IsCall Release Done) (reads_at (self.entry, seen)) (sight result) }
-    {
-        self.into_account(seen).subtract::<Releases>(K::WEIGHT).1
-    }
+// Releases the shared access of this party. It is then in no call, and holds nothing.
+#[tactic(auto, using(crate::proofs::RwCalls::leaves, crate::proofs::RwCalls::may_leave))]
+pub(super) fn release<'a, T, K: Kind>(session: RwSession<'a, T>) -> RwSession<'a, T>
+    requires { IsLent K.hold session }
+    ensures stands { Stands None result }
+    ensures made { Calls rw_tables Release Done (spot session.entry) (spot result) }
+    ensures still { IfSome session.entry.permit.value (IsLast result.permit.key result.seen.entries) }
+{
+    let (call, held) = (RwCall::Release, Some(K::hold()));
+    make(session, call, held, Answer::Done, None)
 }
 
 impl<'a, T, R> SharedGuard<'a, T, Reader, R> {
@@ -139,10 +149,10 @@ impl<'a, T, R> SharedGuard<'a, T, Reader, R> {
     /// ```
     pub fn hold(this: Self) -> ReadHeld<'a, T, R>
         ensures value { read_held_value result ≡ shared_value this.entry }
-        ensures party { (read_held_party result ≡ shared_party this.entry) × (result.permit.key ≡ this.entry.permit.key) }
+        ensures party { (read_held_party result ≡ shared_party this.entry) × (result.session.permit.key ≡ this.entry.session.permit.key) }
     {
         ReadHeld {
-            permit: this.into_permit(),
+            session: this.into_session(),
             strategy: PhantomData,
         }
     }
@@ -159,13 +169,16 @@ impl<'a, T, R> ReadHeld<'a, T, R> {
     /// The guard has the hold's value and its party (`value`, `party`). The call returns.
     pub fn into_guard(self) -> RwLockReadGuard<'a, T, R>
         ensures value { shared_value result ≡ read_held_value self.entry }
-        ensures party { (shared_party result ≡ read_held_party self.entry) × (result.permit.key ≡ self.entry.permit.key) }
+        ensures party { (shared_party result ≡ read_held_party self.entry) × (result.session.permit.key ≡ self.entry.session.permit.key) }
     {
         let Self {
-            permit,
+            session,
             strategy: _,
         } = self;
-        SharedGuard::new(permit)
+        SharedGuard {
+            session,
+            marker: PhantomData,
+        }
     }
 }
 
@@ -179,22 +192,23 @@ impl<T, K: Kind, R> Deref for SharedGuard<'_, T, K, R> {
     fn deref(&self) -> &T
         ensures { Some result.now ≡ shared_value self.now }
     {
-        self.permit.get()
+        self.session.permit.get()
     }
 }
 
 impl<T, K: Kind, R> Drop for SharedGuard<'_, T, K, R> {
     fn drop(self) {
-        self.release(Watch::nothing()).leave();
+        finish(release::<T, K>(self.into_session()));
     }
 }
 
 impl<T, R> Drop for ReadHeld<'_, T, R> {
     fn drop(self) {
         let Self {
-            permit,
+            session,
             strategy: _,
         } = self;
+        let Session { permit, seen: _ } = session;
         permit.leak();
     }
 }

@@ -1,49 +1,20 @@
-//! What a party is to an `RwLock`, the rule of the lock, and each kind of step. Begin at [`RwRule`].
-ghost use Rattle.std.specs.Prelude.{◌≡◌, ℕ, Bool, refl, Option};
-ghost use Rattle.spin_step.specs.Plain.{Plain, gets, rw_word};
-ghost use Rattle.spin_step.specs.Steps.{Decides};
-ghost use Rattle.spin_step_more.specs.Readers.{OneOfEach, reader_limit, readers_in, writers_in};
-ghost use Rattle.spin_step_more.specs.declared.rw_calls.RwCall.TheVariants.{Downgrade, Release, ReaderCount, WriterCount};
-ghost use Rattle.spin_step.specs.declared.answer.Answer.TheVariants as answer;
-ghost use Rattle.spin_core.specs.Cell.{reads};
-ghost use Rattle.spin_core.specs.Own.{what};
+//! The rule of the cell of an `RwLock`, which runs the table of a read-write lock. Begin at [`RwRule`].
+ghost use Rattle.std.specs.Prelude.{◌≡◌};
 ghost use Rattle.spin_core.specs.Values.{untold};
-ghost use Rattle.spin_rwlock.specs.Rw.{IsRw, rw_ways, Told, Turn, Attempt, ends_by, leaves_by, counts_by, tries_by, try_write, write, try_upgrade, upgrade, asks_by, use_of_view, Comes, in_call, grants, call_of, asks, weight_of, downgrade_to};
-ghost use Rattle.spin_rwlock.specs.declared.rwlock.rule.View.{View};
-ghost use Rattle.spin_rwlock.specs.declared.rwlock.rule.View.TheVariants.{Idle, Reading, Upgradable};
+ghost use Rattle.spin_session.specs.Meaning.{ways_of};
+ghost use Rattle.spin_step.specs.declared.place.Hold.{Hold as AHold};
+ghost use Rattle.spin_step.specs.declared.place.Hold.TheVariants as hold;
+ghost use Rattle.spin_rwlock.specs.Rw.{IsRw, Comes, call_of, downgrade_to, rw_meaning, rw_tables};
 
-use spin_core::cell::{Permit, Play, Rule, WritePermit};
-use spin_core::tie::{self, Opening};
+use spin_core::cell::{Rule, WritePermit};
+use spin_core::relax::MAX_HINTS;
+use spin_core::tie::Opening;
 use spin_core::trace::Trace;
+use spin_session::calls::SessionOf;
+use spin_session::table::{self, Ahead, Runs};
+use spin_step::Hold;
 use spin_step_more::rw;
-use spin_step_more::rw_calls::RwCall;
-use std::marker::PhantomData;
-
-// The weights that holders of each kind have in the word.
-pub(super) const READER: u64 = rw::READER as u64;
-
-pub(super) const UPGRADABLE: u64 = rw::UPGRADABLE as u64;
-
-pub(super) const ASKING: u64 = rw::ASKING as u64;
-
-pub(super) const WRITER: u64 = rw::WRITER as u64;
-
-/// What a party is to the lock: where it is in a call, or what it holds.
-#[derive(Clone, Copy)]
-pub enum View {
-    Idle,
-    Reading,
-    Upgradable,
-    /// It still reads, and has asked to become the writer.
-    Asking,
-    Writing,
-    /// It writes, and had asked before it became the writer.
-    WritingAsked,
-    /// It is in this call, which wants to read. The call found this word last.
-    Coming(RwCall, usize),
-    /// It is in `write`, and its next step is the exchange.
-    WaitingToWrite,
-}
+use spin_step_more::rw_calls::{RwCall, RwPoint, RwTable};
 
 /// The rule of an [`RwLock`](super::RwLock): its word is the sum of the weights of its holders.
 ///
@@ -52,11 +23,21 @@ pub enum View {
 ///
 /// # Contract
 /// `IsRw`: the word is that of a plain lock with these holders. The trace is a schedule of the lock's model. The
-/// schedule leads to this word, and to the seat that each party's view names. While nobody writes the value, it is the
-/// one that this schedule writes last (`IsLast`), until the owner borrows it.
+/// schedule leads to this word, and to the seat of each party. While nobody writes the value, it is the one that this
+/// schedule writes last (`IsLast`), until the owner borrows it.
 pub struct RwRule<T> {
     never: T,
 }
+
+/// A party: its seat in the model, with its number and its mark.
+pub type Party = table::Party<RwCall, RwPoint>;
+
+/// An entry of the trace of a lock of values of type `T`.
+pub type Entry<T> = table::Entry<RwCall, T>;
+
+pub(super) type RwSession<'a, T> = SessionOf<'a, T, RwRule<T>>;
+
+pub(super) type Writer<'a, T> = WritePermit<'a, T, Party, RwRule<T>>;
 
 impl<T> Rule<T, Party> for RwRule<T> {
     type Key = Opening<T>;
@@ -65,158 +46,83 @@ impl<T> Rule<T, Party> for RwRule<T> {
 
     ghost holds = { IsRw };
 
-    ghost ways = { rw_ways };
+    ghost ways = { ways_of rw_meaning };
 
     ghost lent = { untold };
 }
 
-/// A party with its number.
-pub type Party = tie::Numbered<View>;
+impl<T> Runs<T> for RwRule<T> {
+    type Call = RwCall;
 
-/// An entry of the trace of a lock of values of type `T`.
-pub type Entry<T> = tie::Entry<RwCall, T>;
+    type Word = ();
 
-pub(super) type RwPermit<'a, T> = Permit<'a, T, Party, RwRule<T>>;
+    type Point = RwPoint;
 
-pub(super) type Writer<'a, T> = WritePermit<'a, T, Party, RwRule<T>>;
+    type Table = RwTable;
 
-/// A kind of step of a party.
-pub(super) trait Turns {
-    // The step, given the party's view, the operand and the word found. The operand is 0 for a load, and the word
-    // expected for an exchange.
-    ghost turn: { (T : Type 0) → Option View → ℕ → ℕ → Turn T };
-}
+    ghost tables = { rw_tables };
 
-/// The operation that makes a step of the kind `K`.
-pub(super) struct Makes<K> {
-    kind: PhantomData<K>,
-}
+    ghost meaning = { rw_meaning };
 
-impl<K: Turns, T> Play<Opening<T>, Party, Entry<T>> for Makes<K> {
-    ghost told = { λ key old new before. Told key.value (K.turn T (what before) old) before };
-}
+    fn table() -> RwTable {
+        RwTable {
+            cap: rw::MAX_READERS,
+        }
+    }
 
-/// A kind of exchange by which a party may become the writer.
-pub(super) trait Attempts {
-    // The exchange, given the party's view.
-    ghost attempt: { (T : Type 0) → Option View → Attempt T };
-}
+    // A reader that the word found keeps out gives one hint before it looks again. A reader whose exchange has failed
+    // twice stands back, since readers that try again at once keep each other from succeeding. A writer backs off.
+    fn hints(
+        call: RwCall,
+        from: RwPoint,
+        to: RwPoint,
+        holds: Option<Hold>,
+        found: u64,
+        last: u32,
+    ) -> u32 {
+        let _ = (holds, found);
+        match (call, from, to) {
+            (RwCall::Write, _, _) => last.saturating_mul(2).max(1).min(MAX_HINTS),
+            (RwCall::Upgrade, RwPoint::First, _) => 0,
+            (_, RwPoint::Exchange(_), RwPoint::Exchange(_)) => MAX_HINTS,
+            (_, _, RwPoint::Exchange(_)) => 0,
+            _ => 1,
+        }
+    }
 
-/// The exchange of the kind `K`.
-pub(super) struct Tries<K> {
-    kind: PhantomData<K>,
-}
+    // A call that acquires shared access expects a free lock, and makes its exchange at once. This saves a load, since a
+    // failed exchange returns the word too.
+    fn ahead(call: RwCall, holds: Option<Hold>) -> Option<Ahead<RwPoint>> {
+        let _ = holds;
+        let new = match call {
+            RwCall::Read | RwCall::TryRead => rw::READER,
+            RwCall::UpgradeableRead | RwCall::TryUpgradeableRead => rw::UPGRADABLE,
+            _ => return None,
+        };
+        Some(Ahead {
+            old: 0,
+            new: new as u64,
+            point: RwPoint::Exchange(0),
+            number: 0,
+            looks: true,
+        })
+    }
 
-impl<K: Attempts> Turns for Tries<K> {
-    ghost turn = { λ T view old. tries_by (K.attempt T view) };
-}
-
-/// The load of `reader_count`.
-pub(super) struct CountsReaders;
-
-impl Turns for CountsReaders {
-    ghost turn = { λ T view old. counts_by ReaderCount readers_in };
-}
-
-/// The load of `writer_count`.
-pub(super) struct CountsWriters;
-
-impl Turns for CountsWriters {
-    ghost turn = { λ T view old. counts_by WriterCount writers_in };
-}
-
-/// The exchange of `try_write`.
-pub(super) struct TriesToWrite;
-
-impl Attempts for TriesToWrite {
-    ghost attempt = { λ T view. try_write };
-}
-
-/// The exchange of `write`.
-pub(super) struct Writes;
-
-impl Attempts for Writes {
-    ghost attempt = { λ T view. write (in_call view) };
-}
-
-/// The exchange of `try_upgrade`.
-pub(super) struct TriesToUpgrade;
-
-impl Attempts for TriesToUpgrade {
-    ghost attempt = { λ T view. try_upgrade };
-}
-
-/// The addition by which `upgrade` asks.
-pub(super) struct Asks;
-
-impl Turns for Asks {
-    ghost turn = { λ T view old n. asks_by };
-}
-
-/// The exchange of `upgrade`.
-pub(super) struct Upgrades;
-
-impl Attempts for Upgrades {
-    ghost attempt = { λ T view. upgrade };
-}
-
-/// The addition by which the writer becomes a reader of kind `K`.
-pub(super) struct Downgrades<K> {
-    marker: PhantomData<K>,
-}
-
-impl<K: Kind> Turns for Downgrades<K> {
-    ghost turn = { λ T view old n. leaves_by (downgrade_to K.view) K.view };
-}
-
-/// The addition by which the upgradable reader becomes a plain one.
-pub(super) struct ReadsOn;
-
-impl Turns for ReadsOn {
-    ghost turn = { λ T view old n. ends_by Downgrade answer.Done Reading };
-}
-
-/// The subtraction by which the writer leaves.
-pub(super) struct Frees;
-
-impl Turns for Frees {
-    ghost turn = { λ T view old n. leaves_by Release Idle };
-}
-
-/// The subtraction by which a reader leaves.
-pub(super) struct Releases;
-
-impl Turns for Releases {
-    ghost turn = { λ T view old n. ends_by Release answer.Done Idle };
+    fn laws() {}
 }
 
 /// A kind of reader: [`Reader`] or [`Upgrader`].
 ///
 /// # Contract
-/// A reader of the kind has the view `view`, which reads the value (`lends`).
+/// A reader of the kind holds `hold`.
 pub trait Kind {
-    // The view of a reader of this kind.
-    ghost view: { View };
+    ghost hold: { AHold };
 
-    ghost WEIGHT: { ℕ };
+    /// Returns what a reader of this kind holds.
+    fn hold() -> Hold
+        ensures { result ≡ Self.hold };
 
-    /// The weight of such a reader in the word.
-    const WEIGHT: u64;
-
-    /// Returns the word with one more such reader, or `None` if this word admits none.
-    ///
-    /// # Contract
-    /// The answer is exactly that of `grants`. It is `None` where the plain lock refuses, else the word of the next
-    /// state (`Decides`).
-    fn next(word: usize) -> Option<usize>
-        ensures exact { (waits : Bool) → result ≡ grants (call_of Self.view waits) word }
-        ensures plain { (s : Plain) (party : ℕ) → OneOfEach s → s.cap ≡ reader_limit → rw_word s ≡ word → Decides s (gets party (asks Self.view)) rw_word result };
-
-    ghost lends: { use_of_view Self.view ≡ reads };
-
-    ghost comes: { Comes Self.view };
-
-    ghost weighs: { WEIGHT ≡ weight_of view };
+    ghost comes: { Comes Self.hold };
 }
 
 /// The kind of a plain reader.
@@ -226,37 +132,43 @@ pub struct Reader;
 pub struct Upgrader;
 
 impl Kind for Reader {
-    ghost view = { Reading };
+    ghost hold = { hold.Read };
 
-    ghost WEIGHT = { weight_of Reading };
-
-    const WEIGHT: u64 = READER;
-
-    fn next(word: usize) -> Option<usize> {
-        rw::read(word, rw::MAX_READERS)
+    fn hold() -> Hold {
+        Hold::Read
     }
 
-    ghost lends = { refl };
-
     ghost comes = { tt };
-
-    ghost weighs = { refl };
 }
 
 impl Kind for Upgrader {
-    ghost view = { Upgradable };
+    ghost hold = { hold.Upgradable };
 
-    ghost WEIGHT = { weight_of Upgradable };
-
-    const WEIGHT: u64 = UPGRADABLE;
-
-    fn next(word: usize) -> Option<usize> {
-        rw::upgradable(word, rw::MAX_READERS)
+    fn hold() -> Hold {
+        Hold::Upgradable
     }
 
-    ghost lends = { refl };
-
     ghost comes = { tt };
+}
 
-    ghost weighs = { refl };
+// Returns the call by which a party comes to hold so: the one that waits, or the one that tries.
+pub(super) fn call_of(hold: Hold, waits: bool) -> RwCall
+    ensures { result ≡ call_of hold waits }
+{
+    match (hold, waits) {
+        (Hold::Upgradable, true) => RwCall::UpgradeableRead,
+        (Hold::Upgradable, false) => RwCall::TryUpgradeableRead,
+        (Hold::Read | Hold::Write | Hold::Ticket(_) | Hold::Starver, true) => RwCall::Read,
+        (Hold::Read | Hold::Write | Hold::Ticket(_) | Hold::Starver, false) => RwCall::TryRead,
+    }
+}
+
+// Returns the call by which the writer becomes such a reader.
+pub(super) fn downgrade_to(hold: Hold) -> RwCall
+    ensures { result ≡ downgrade_to hold }
+{
+    match hold {
+        Hold::Upgradable => RwCall::DowngradeToUpgradeable,
+        Hold::Read | Hold::Write | Hold::Ticket(_) | Hold::Starver => RwCall::Downgrade,
+    }
 }

@@ -1,19 +1,23 @@
 //! The writer's guard, and its hold without a guard. Begin at [`RwLockWriteGuard`].
-ghost use Rattle.std.specs.Prelude.{◌≡◌, true, Some};
+ghost use Rattle.std.specs.Prelude.{◌≡◌, ◌⊎◌, ℕ, true, Some, None, []};
 ghost use Rattle.spin_core.specs.Cell.{use_of, writes};
-ghost use Rattle.spin_core.specs.Values.{IsLast};
 ghost use Rattle.spin_step_more.specs.declared.rw_calls.RwCall.TheVariants.{Downgrade, DowngradeToUpgradeable, Release};
-ghost use Rattle.spin_rwlock.specs.Rw.{use_of_party, use_of_view, downgrade_to, IsOut, Wrote};
-ghost use Rattle.spin_rwlock.specs.Sights.{sight, view_of};
-ghost use Rattle.spin_rwlock.specs.Steps.{MayKnow, Ends};
+ghost use Rattle.spin_core.specs.Own.{what};
+ghost use Rattle.spin_step.specs.declared.place.Hold.TheVariants.{Write};
+ghost use Rattle.spin_step.specs.declared.place.Seat.TheVariants.{Idle};
+ghost use Rattle.spin_session.specs.Meaning.{seat_now};
+ghost use Rattle.spin_session.specs.Turns.{Stands, spot};
+ghost use Rattle.spin_rwlock.specs.Rw.{IsLent, downgrade_to, use_of_party};
 
-use super::account::{Account, Lent};
-use super::reader::RwLockReadGuard;
-use super::rule::{Downgrades, Entry, Frees, Kind, Party, RwRule, WRITER, Writer};
+use super::reader::{Lent, RwLockReadGuard, SharedGuard};
+use super::rule::{Entry, Kind, Party, RwRule, RwSession, Writer, downgrade_to};
 use super::upgradable::RwLockUpgradableGuard;
 use spin_core::cell::{Permit, WritePermit};
 use spin_core::relax::Spin;
 use spin_core::trace::Watch;
+use spin_session::calls::{finish, give, writer};
+use spin_step::Hold;
+use spin_step_more::rw_calls::RwCall;
 use std::marker::PhantomData;
 use std::ops::{Deref, DerefMut};
 
@@ -44,8 +48,8 @@ pub struct WriteHeld<'a, T, R = Spin> {
 }
 
 impl<'a, T, R> RwLockWriteGuard<'a, T, R> {
-    ghost use Rattle.spin_rwlock.specs.Guards.{shared_value, write_value, write_held_value, shared_party, write_party, write_held_party, shared_opening, write_opening, ReadsWith, WritesWith};
-    ghost use Rattle.spin_rwlock.specs.Waits.{reads_at, writes_at};
+    ghost use Rattle.spin_rwlock.specs.Guards.{shared_value, write_value, write_held_value, write_party, write_held_party, shared_spot, write_spot, ReadsWith, WritesWith};
+    ghost use Rattle.spin_rwlock.specs.RwPasses.{Leaves};
 
     pub(super) fn new(writer: Writer<'a, T>) -> Self
         ensures { result.writer ≡ writer.entry }
@@ -54,6 +58,16 @@ impl<'a, T, R> RwLockWriteGuard<'a, T, R> {
             writer,
             strategy: PhantomData,
         }
+    }
+
+    // Returns the guard of this party, and what it knows.
+    pub(super) fn written(session: RwSession<'a, T>) -> (Self, Watch<Entry<T>>)
+        requires { Stands (Some Write) session }
+        ensures same { write_spot result.0 result.1 ≡ spot session.entry }
+        ensures value { Some (write_value result.0) ≡ session.entry.permit.value }
+    {
+        let (permit, seen) = writer(session, Hold::Write);
+        (Self::new(permit), seen)
     }
 
     /// Becomes a reader. Other readers are then admitted too. It never fails.
@@ -77,7 +91,8 @@ impl<'a, T, R> RwLockWriteGuard<'a, T, R> {
     pub fn downgrade(self) -> RwLockReadGuard<'a, T, R>
         ensures { shared_value result ≡ Some (write_value self.entry) }
     {
-        self.lend(Watch::nothing()).0
+        let seen = watch_of(&self.writer);
+        self.lend(seen).0
     }
 
     /// Like [`downgrade`](Self::downgrade), for a guard that a [`Pass`](super::Pass) acquired.
@@ -87,19 +102,16 @@ impl<'a, T, R> RwLockWriteGuard<'a, T, R> {
     ///
     /// # Contract
     /// `seen` has to be what the pass knew when it got this guard (`WritesWith`). The pass writes the guard's value
-    /// into the history, and then makes one call, `Downgrade` (`made`, `wrote`). The reader's guard has that value,
-    /// which is the one written last (`left`).
+    /// into the history, and then makes one call, `Downgrade` (`made`). The reader's guard has that value, which is the
+    /// one written last.
     pub fn downgrade_seen(
         self,
         seen: Watch<Entry<T>>,
     ) -> (RwLockReadGuard<'a, T, R>, Watch<Entry<T>>)
         requires { WritesWith self seen }
         ensures value { shared_value result.0 ≡ Some (write_value self.entry) }
-        ensures reads { ReadsWith result.0 result.1 × (result.1.name ≡ seen.name) }
-        ensures lock { shared_opening result.0 ≡ write_opening self.entry }
-        ensures made { Wrote (write_opening self.entry).value (λ x. Unit {0}) Downgrade (write_party self.entry) seen.entries (shared_party result.0) result.1.entries }
-        ensures wrote { Wrote (write_opening self.entry).value (λ x. (write_opening self.entry).told ≡ true → x ≡ write_value self.entry) Downgrade (write_party self.entry) seen.entries (shared_party result.0) result.1.entries }
-        ensures left { IsLast (write_opening self.entry) result.1.entries (write_value self.entry) }
+        ensures reads { ReadsWith result.0 result.1 }
+        ensures made { Leaves Downgrade self.entry seen (shared_spot result.0 result.1) }
     {
         self.lend(seen)
     }
@@ -123,7 +135,8 @@ impl<'a, T, R> RwLockWriteGuard<'a, T, R> {
     pub fn downgrade_to_upgradeable(self) -> RwLockUpgradableGuard<'a, T, R>
         ensures { shared_value result ≡ Some (write_value self.entry) }
     {
-        self.lend(Watch::nothing()).0
+        let seen = watch_of(&self.writer);
+        self.lend(seen).0
     }
 
     /// Like [`downgrade_to_upgradeable`](Self::downgrade_to_upgradeable), for a guard that a [`Pass`](super::Pass)
@@ -134,41 +147,41 @@ impl<'a, T, R> RwLockWriteGuard<'a, T, R> {
     ///
     /// # Contract
     /// `seen` has to be what the pass knew when it got this guard (`WritesWith`). The pass writes the guard's value
-    /// into the history, and then makes one call, `DowngradeToUpgradeable` (`made`, `wrote`). The upgradable reader's
-    /// guard has that value, which is the one written last (`left`).
+    /// into the history, and then makes one call, `DowngradeToUpgradeable` (`made`). The upgradable reader's guard has
+    /// that value, which is the one written last.
     pub fn downgrade_to_upgradeable_seen(
         self,
         seen: Watch<Entry<T>>,
     ) -> (RwLockUpgradableGuard<'a, T, R>, Watch<Entry<T>>)
         requires { WritesWith self seen }
         ensures value { shared_value result.0 ≡ Some (write_value self.entry) }
-        ensures reads { ReadsWith result.0 result.1 × (result.1.name ≡ seen.name) }
-        ensures lock { shared_opening result.0 ≡ write_opening self.entry }
-        ensures made { Wrote (write_opening self.entry).value (λ x. Unit {0}) DowngradeToUpgradeable (write_party self.entry) seen.entries (shared_party result.0) result.1.entries }
-        ensures wrote { Wrote (write_opening self.entry).value (λ x. (write_opening self.entry).told ≡ true → x ≡ write_value self.entry) DowngradeToUpgradeable (write_party self.entry) seen.entries (shared_party result.0) result.1.entries }
-        ensures left { IsLast (write_opening self.entry) result.1.entries (write_value self.entry) }
+        ensures reads { ReadsWith result.0 result.1 }
+        ensures made { Leaves DowngradeToUpgradeable self.entry seen (shared_spot result.0 result.1) }
     {
         self.lend(seen)
     }
 
     // Becomes a reader of kind `K`.
+    #[tactic(auto, using(crate::proofs::RwCalls::lowers, crate::proofs::RwCalls::may_lower))]
     fn lend<K: Kind>(self, seen: Watch<Entry<T>>) -> Lent<'a, T, K, R>
-        requires { MayKnow (writes_at (self, seen)) }
+        requires { (seen.entries ≡ [] ⊎ WritesWith self seen) × (self.writer.key.name ≡ seen.name) }
         ensures value { shared_value result.0 ≡ Some (write_value self.entry) }
-        ensures made { Ends (downgrade_to K.view) (writes_at (self.entry, seen)) (reads_at result) }
+        ensures reads { ReadsWith result.0 result.1 }
+        ensures made { WritesWith self.entry seen → Leaves (downgrade_to K.hold) self.entry seen (shared_spot result.0 result.1) }
     {
-        let account = self.into_account(seen);
-        let (_, account) = account.add::<Downgrades<K>>(K::WEIGHT - WRITER);
-        account.into_reader()
+        let (call, after) = (downgrade_to(K::hold()), Some(K::hold()));
+        let writer = self.into_writer();
+        SharedGuard::lent(give::<T, RwRule<T>>(writer, seen, call, Hold::Write, after))
     }
 
     // Releases the exclusive access. The party is then in no call, and holds nothing.
-    pub(super) fn release(self, seen: Watch<Entry<T>>) -> Account<'a, T>
-        requires { MayKnow (writes_at (self, seen)) }
-        ensures out { IsOut (view_of result) }
-        ensures made { Ends Release (writes_at (self.entry, seen)) (sight result) }
+    pub(super) fn release(self, seen: Watch<Entry<T>>) -> RwSession<'a, T>
+        requires { seen.entries ≡ [] ⊎ (self.writer.key.name ≡ seen.name) }
+        ensures out { seat_now (what result.permit.view) ≡ Idle }
+        ensures made { WritesWith self.entry seen → Stands None result × Leaves Release self.entry seen (spot result) }
     {
-        self.into_account(seen).subtract::<Frees>(WRITER).1
+        let writer = self.into_writer();
+        give::<T, RwRule<T>>(writer, seen, RwCall::Release, Hold::Write, None)
     }
 
     /// Consumes the guard and returns a mutable reference to the value.
@@ -218,16 +231,6 @@ impl<'a, T, R> RwLockWriteGuard<'a, T, R> {
         } = self;
         writer
     }
-
-    fn into_account(self, seen: Watch<Entry<T>>) -> Account<'a, T>
-        ensures same { sight result ≡ writes_at (self.entry, seen) }
-        ensures held { use_of use_of_view (view_of result) ≡ writes }
-    {
-        Account {
-            permit: self.into_writer().into_permit(),
-            seen,
-        }
-    }
 }
 
 impl<'a, T, R> WriteHeld<'a, T, R> {
@@ -249,6 +252,15 @@ impl<'a, T, R> WriteHeld<'a, T, R> {
         } = self;
         RwLockWriteGuard::new(permit.into_writer())
     }
+}
+
+// Returns a watch of the history of this writer's lock, which knows nothing yet, under the name that the caller chooses.
+fn watch_of<T>(writer: &Writer<'_, T>) -> Watch<Entry<T>>
+    ghost name: { ℕ }
+    ensures { (result.name ≡ name) × (result.entries ≡ []) }
+{
+    let _ = writer;
+    Watch::start()
 }
 
 impl<T, R> Deref for RwLockWriteGuard<'_, T, R> {
@@ -285,7 +297,7 @@ impl<T, R> DerefMut for RwLockWriteGuard<'_, T, R> {
 
 impl<T, R> Drop for RwLockWriteGuard<'_, T, R> {
     fn drop(self) {
-        self.release(Watch::nothing()).leave();
+        finish(self.release(Watch::nothing()));
     }
 }
 

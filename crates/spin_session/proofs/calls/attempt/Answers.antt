@@ -12,4 +12,5 @@ returns-then-is_granted-clause-granted g c =
 pub returns-else-is_granted-clause-refused : goal.returns-else-is_granted-clause-refused
 returns-else-is_granted-clause-refused g c =
     let a = c.args in let f = c.in_three-answer in let t = g.P.Runs.tables in
-    refused t g.P.Runs.meaning a.call a.holds (spot a.session) (spot f.result.2) f.ensures.knows _ _ f.ensures.ended a.after c.requires.tries (sym c.is_granted.ensures ∙ c.if-is_granted.false)
+    let all = refused t g.P.Runs.meaning a.call a.holds (spot a.session) (spot f.result.2) f.ensures.knows _ _ f.ensures.ended a.after c.requires.tries (sym c.is_granted.ensures ∙ c.if-is_granted.false) in
+    (all.0, f.ensures.last, all.1)

@@ -1,10 +1,9 @@
-use Rattle.std.proofs.Common.{◌≡◌, ◌==◌, Bool, true, false, Some, if◌then◌else◌, refl, ap, ◌∙◌, sym, subst, inl, inr, eq-eqb, ne_eqb}
+use Rattle.std.proofs.Common.{◌≡◌, ◌==◌, Bool, true, false, Some, if◌then◌else◌, refl, ap, ◌∙◌, sym, subst, inr, eq-eqb, ne_eqb}
 use Rattle.std.specs.Option.{IfSome}
 use Rattle.spin_core.specs.Own.{what}
 use Rattle.spin_core.specs.Spots.{Since}
 use Rattle.spin_core.specs.Traced.{Named}
 use Rattle.spin_core.specs.Values.{IsLast}
-use Rattle.spin_step.specs.Schedules.{resting}
 use Rattle.spin_session.specs.Meaning.{table_at, model_at, seat_after, seat_now}
 use Rattle.spin_session.specs.Turns.{FusesBy, Spot, course_of, next_after, either_call, either_step, spot}
 use Rattle.spin_session.proofs.Course.{quiet_at, uses_now, rests_held}
@@ -37,11 +36,12 @@ returns-then-found-ahead-clause-granted g c =
     Since (model_at t) (course_of d next) (spot it) now × (what f.result.1.view ≡ Some (seat_after d a.holds next)) in
     let so = subst pick is all in
     let ended = subst (λ next. Since (model_at t) (course_of a.won next) (spot it) now × (what f.result.1.view ≡ Some (seat_after a.won a.holds next))) c.requires.wins so in
-    let quiet = quiet_at (table_at t p.key) s a.won ((table_at t p.key).start a.won a.holds) a.holds (what p.view) (inr (refl, r.2, c.requires.may.0)) c.requires.may.1 in
-    ((name, knows, ap seat_now ended.1),
-    subst (λ o. IfSome f.result.1.value (IsLast o f.result.2.entries)) (sym f.ensures.key)
-        (c.laws.ensures.lasts p.key p.view f.result.1.view p.value f.result.1.value f.result.2 f.ensures.kept f.ensures.found (λ e. absurd (quiet e))).0,
-    ended.0)
+    let quiet = quiet_at (table_at t p.key) s a.won ((table_at t p.key).start a.won a.holds) a.holds (what p.view) (inr (refl, r.2, c.requires.may.0)) c.requires.may.1 in (
+      (name, knows, ap seat_now ended.1),
+      subst (λ o. IfSome f.result.1.value (IsLast o f.result.2.entries)) (sym f.ensures.key)
+          (c.laws.ensures.lasts p.key p.view f.result.1.view p.value f.result.1.value f.result.2 f.ensures.kept f.ensures.found (λ e. absurd (quiet e))).0,
+      ended.0,
+    )
 
 pub returns-then-found-ahead-clause-sees : goal.returns-then-found-ahead-clause-sees
 returns-then-found-ahead-clause-sees g c uses =

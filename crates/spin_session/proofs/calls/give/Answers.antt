@@ -14,7 +14,7 @@ use Rattle.spin_session.specs.Meaning.{use_at, seat_now, model_at, table_at}
 use Rattle.spin_session.specs.Operating.{Operates}
 use Rattle.spin_session.specs.Turns.{TurnTold, Spot, EndsWith}
 use Rattle.spin_session.proofs.Course.{starts_at, begins_so}
-use Rattle.spin_session.proofs.Freed.{seat, knows, releases}
+use Rattle.spin_session.proofs.Freed.{keeps_name, seat, knows, releases}
 use Rattle.spin_session.proofs.calls.give.Goals as goal
 
 pub operate-permit-requires-clause-knows : goal.operate-permit-requires-clause-knows
@@ -60,6 +60,18 @@ returns-clause-knows g c =
     let moved = f.ensures.moved in
     let ends : EndsWith t call a.holds a.after p.key = rw it.ensures.key c.requires.ends in
     knows t b call a.holds a.after from now is ends its f.result.0 f.result.1.view moved
+
+pub returns-clause-name : goal.returns-clause-name
+returns-clause-name g c named =
+    let a = c.args in let it = c.into_permit-permit in let p = it.result in let f = c.operate-permit in let t = g.P.Runs.tables in let b = g.P.Runs.meaning in let call = a.call in
+    let held = c.requires.alone (sym (c.laws.ensures.uses a.writer.key (Some a.writer.view)) ∙ it.ensures.use_of_view) in
+    let is : what p.view ≡ Some (Holding a.holds) = ap what it.ensures.same.0 ∙ ap Some held in
+    let from : Spot g.row.T.Denot g.row.P-Call.Denot g.row.P-Point.Denot = (p.key, p.view, a.seen) in
+    let now : Spot g.row.T.Denot g.row.P-Call.Denot g.row.P-Point.Denot = (f.result.1.key, f.result.1.view, f.result.2) in
+    let its = Named (g.P.Rule.holds p.key) (g.P.Rule.ways p.key) a.seen.name in
+    let moved = f.ensures.moved in
+    let ends : EndsWith t call a.holds a.after p.key = rw it.ensures.key c.requires.ends in
+    keeps_name t b call a.holds a.after from now is ends its f.result.0 f.result.1.view moved (c.laws.ensures.named p.key a.seen.name (ap (λ k. k.name) it.ensures.key ∙ named))
 
 pub returns-clause-same : goal.returns-clause-same
 returns-clause-same g c uses =

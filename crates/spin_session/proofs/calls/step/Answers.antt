@@ -70,3 +70,10 @@ returns-clause-last g c =
     let quiet = quiet_at (table_at t k.key) g.P.Runs.meaning a.call a.point a.holds (what k.view) c.requires.at c.requires.quiet in
     subst (λ o. IfSome f.result.1.value (IsLast o f.result.2.entries)) (sym f.ensures.key)
     (c.laws.ensures.lasts k.key k.view f.result.1.view k.value f.result.1.value f.result.2 f.ensures.kept f.ensures.found (λ e. absurd (quiet e))).0
+
+pub returns-clause-left : goal.returns-clause-left
+returns-clause-left g c uses =
+    let a = c.args in let k = a.session.permit in let f = c.operate-found in let t = g.P.Runs.tables in
+    let quiet = quiet_at (table_at t k.key) g.P.Runs.meaning a.call a.point a.holds (what k.view) c.requires.at c.requires.quiet in
+    subst (λ o. IfSome k.value (IsLast o f.result.2.entries)) (sym f.ensures.key)
+    ((c.laws.ensures.lasts k.key k.view f.result.1.view k.value f.result.1.value f.result.2 f.ensures.kept f.ensures.found (λ e. absurd (quiet e))).1 uses)

@@ -5,7 +5,7 @@ use Rattle.spin_core.specs.CellMemory.{Common}
 use Rattle.spin_core.proofs.Sends.{entry_over, first_field, sends_word_less}
 use Rattle.spin_core.proofs.Values.{opens_last}
 use Rattle.spin_rwlock.specs.contracts.rwlock.rule.RwRule.{the_row}
-use Rattle.spin_rwlock.proofs.Steps.{starts}
+use Rattle.spin_rwlock.proofs.RwRefines.{starts}
 use Rattle.spin_rwlock.proofs.rwlock.RwLock+T+R.new.Goals as goal
 
 pub new-cell-requires-clause-known : goal.new-cell-requires-clause-known

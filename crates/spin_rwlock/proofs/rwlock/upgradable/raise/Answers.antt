@@ -1,30 +1,22 @@
-use Rattle.std.proofs.Common.{◌≡◌, ℕ, refl, sym, subst}
-use Rattle.spin_core.specs.Passes.{IsCall}
+use Rattle.std.proofs.Common.{Some, ap}
+use Rattle.spin_session.specs.Turns.{SeesLast, Stands, spot}
+use Rattle.spin_session.proofs.Granted.{of_ok, of_err}
 use Rattle.spin_step.specs.declared.answer.Answer.TheVariants.{Granted, Refused}
+use Rattle.spin_step.specs.declared.place.Hold.TheVariants.{Upgradable, Write as Writing}
 use Rattle.spin_step_more.specs.declared.rw_calls.RwCall.TheVariants.{TryUpgrade}
-use Rattle.spin_rwlock.specs.Rw.{try_upgrade, wins, loses}
-use Rattle.spin_rwlock.specs.Sights.{sight}
-use Rattle.spin_rwlock.specs.Steps.{Becomes}
-use Rattle.spin_rwlock.specs.declared.rwlock.rule.View.TheVariants.{Writing, Upgradable}
-use Rattle.spin_rwlock.proofs.Steps.{tries_to_upgrade}
-use Rattle.spin_rwlock.proofs.Passes.{becomes, becomes_by}
+use Rattle.spin_rwlock.specs.RwPasses.{Calls}
+use Rattle.spin_rwlock.proofs.Lends.{granted_as, lent_as}
 use Rattle.spin_rwlock.proofs.rwlock.upgradable.raise.Goals as goal
 
-pub attempt-requires : goal.attempt-requires
-attempt-requires g c =
-    let exact = c.upgrade.ensures.exact in let got = c.unwrap-next.ensures in let next : ℕ = 1 in
-    let same : c.unwrap-next.result ≡ next = cc in
-    let it = c.args.account.permit in
-    record { may = (c.requires.1, rw same (tries_to_upgrade it.key it.view it.value c.requires.0.0 (rw exact at c.upgrade.ensures.plain))); expects = refl; writes = refl }
+pub returns-in-Ok-clause-granted : goal.returns-in-Ok-clause-granted
+returns-in-Ok-clause-granted g c =
+    let from = spot c.args.session in let now = c.in-Ok.session in let (guard, seen) = c.written.result in
+    let all = of_ok c.attempt.result (λ x. Stands (Some Writing) x × SeesLast x × Calls TryUpgrade Granted from (spot x)) now c.in-Ok.is c.attempt.ensures.granted in
+    granted_as TryUpgrade from (spot now) now.permit.value guard seen c.written.ensures.same c.written.ensures.value all.0 all.1 all.2
 
-pub into_reader-requires : goal.into_reader-requires
-into_reader-requires g c = let t = c.in-Err.ensures.lost in (t.view, (t.sees (λ e. absurd cc)).0)
-
-pub returns-in-Ok : goal.returns-in-Ok
-returns-in-Ok g c =
-    record { granted = becomes_by TryUpgrade Granted Writing (becomes (wins try_upgrade) c.in-Ok.ensures.won (λ e. absurd cc) c.requires.0.1); refused = tt }
-
-pub returns-in-Err : goal.returns-in-Err
-returns-in-Err g c =
-    let all = becomes_by TryUpgrade Refused Upgradable (becomes (loses try_upgrade) c.in-Err.ensures.lost (λ e. absurd cc) c.requires.0.1) in
-    record { granted = tt; refused = subst (λ s. Becomes Upgradable (IsCall TryUpgrade Refused) (sight c.args.account) s) (sym c.into_reader.ensures) all }
+pub returns-in-Err-clause-refused : goal.returns-in-Err-clause-refused
+returns-in-Err-clause-refused g c =
+    let from = spot c.args.session in let now = c.in-Err.session in let l = c.lent in let (guard, seen) = l.result in
+    let all = of_err c.attempt.result (λ x. Stands (Some Upgradable) x × SeesLast x × Calls TryUpgrade Refused from (spot x)) now c.in-Err.is c.attempt.ensures.refused in
+    lent_as Upgradable TryUpgrade Refused from (spot now) now.permit.value all.0 all.1 all.2
+    guard.session.permit.key guard.session.permit.view guard.session.permit.value seen (ap (λ p. p.key) l.ensures.same.0) (ap (λ p. p.view) l.ensures.same.0) (ap (λ p. p.value) l.ensures.same.0) l.ensures.seen.0 l.ensures.seen.1

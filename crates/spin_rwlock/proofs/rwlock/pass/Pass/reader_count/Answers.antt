@@ -1,24 +1,10 @@
-use Rattle.std.proofs.Common.{ap, sym, subst}
-use mathlib.Core.Logic.{inr}
-use Rattle.spin_core.specs.Passes.{IsCall}
-use Rattle.spin_step.specs.declared.answer.Answer.TheVariants.{Count}
-use Rattle.spin_step_more.specs.Readers.{readers_in}
-use Rattle.spin_step_more.specs.declared.rw_calls.RwCall.TheVariants.{ReaderCount}
-use Rattle.spin_rwlock.specs.Rw.{is_out}
-use Rattle.spin_rwlock.specs.Sights.{sight}
-use Rattle.spin_rwlock.specs.Steps.{Has}
-use Rattle.spin_rwlock.specs.declared.rwlock.rule.View.TheVariants.{Idle}
-use Rattle.spin_rwlock.proofs.Steps.{counts_readers}
-use Rattle.spin_rwlock.proofs.Passes.{called}
+use Rattle.std.proofs.Common.{◌≡◌, ◌≤◌, sym, subst}
+use Rattle.spin_step_more.specs.Readers.{reader_limit, readers_in}
+use Rattle.spin_rwlock.proofs.RwCalls.{few_readers, counted}
 use Rattle.spin_rwlock.proofs.rwlock.pass.Pass.reader_count.Goals as goal
 
-pub load-found-requires : goal.load-found-requires
-load-found-requires g c = let me = c.args.self in let it = me.account.permit in (inr me.knows.1.0, counts_readers it.key it.view it.value me.knows.0)
-
-pub invariant_of-result : goal.invariant_of-result
-invariant_of-result g c = let t = c.load-found.ensures.turned in record { knows = (ap is_out t.view, (t.does.made c.args.self.knows.1).0) }
-
-pub returns-clause-made : goal.returns-clause-made
-returns-clause-made g c =
-    let me = c.args.self in let f = c.load-found in
-    (subst (λ n. Has (IsCall ReaderCount (Count n)) (sight me.account) (sight f.result.1)) (sym c.readers.ensures.exact) (called ReaderCount (Count (readers_in f.result.0)) Idle me.knows.1 f.ensures.turned)).made.0
+pub returns-clause-limit : goal.returns-clause-limit
+returns-clause-limit g c =
+    let (n, goes, (bounded, (plain, room, order, is))) = c.ask.ensures.found in let arm = c.in-Count-default in
+    let same : arm.number ≡ readers_in n = counted arm.number (readers_in n) (rw arm.is-0 at goes) in
+    subst (λ k. k ≤ reader_limit) (sym same) (few_readers plain n room order is)

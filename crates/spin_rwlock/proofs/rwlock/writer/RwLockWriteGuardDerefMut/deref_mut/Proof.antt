@@ -30,9 +30,11 @@ use Rattle.spin_core.specs.contracts.cell.WritePermit.get_mut as callee
 use Rattle.spin_core.proofs.cell.WritePermit.get_mut.Met.{met}
 use Rattle.spin_rwlock.specs.contracts.rwlock.writer.RwLockWriteGuard.{the_type, the_row, struct}
 use Rattle.spin_rwlock.proofs.rwlock.writer.RwLockWriteGuard.TheLaws.{the_loose}
-use Rattle.spin_rwlock.specs.contracts.rwlock.rule.View as V
+use Rattle.spin_step.specs.contracts.place.Seat as seat
+use Rattle.spin_step.proofs.place.Seat.TheLaws as seat_laws
+use Rattle.spin_step_more.specs.contracts.rw_calls.RwPoint as point
+use Rattle.spin_step_more.proofs.rw_calls.RwPoint.TheLaws as point_laws
 use Rattle.spin_rwlock.specs.contracts.rwlock.rule.RwRule as F
-use Rattle.spin_rwlock.proofs.rwlock.rule.View.TheLaws as VL
 use Rattle.spin_rwlock.proofs.rwlock.rule.RwRule.TheLaws as FL
 use Rattle.spin_step_more.specs.contracts.rw_calls.RwCall as call
 use Rattle.spin_step_more.proofs.rw_calls.RwCall.TheLaws as call_laws
@@ -57,8 +59,11 @@ twice : (κ ν : Lft) → Incl κ ν → Incl κ ((ν ++ []) ++ (ν ++ []))
 twice κ ν h = let once = ⊑_meet κ ν [] h (⊑_static κ) in ⊑_meet κ (ν ++ []) (ν ++ []) once once
 
 -- the types of a party, of the key and of the second word
+abbrev Seat : RattleType
+Seat = seat.the_row call.the_row point.the_row
+
 abbrev Party : RattleType
-Party = numbered V.the_row
+Party = numbered Seat
 
 abbrev Key : RattleType → RattleType
 Key T = opened T
@@ -97,7 +102,7 @@ deref_mut_spec {M} 𝓤 𝓛 𝓜 𝓡 wired T S LT LS =
     let K = passed (Key R) in let U = passed (Second R) in let I = arg (layout T) no R in
     let met_rule = bound 𝓡.env I (arg_laws (layout T) no R LR refl) M 𝓤 𝓛 𝓜 𝓡 in
     let called = met 𝓤 𝓛 𝓜 𝓡 (code.calls-spin_core::cell::WritePermit::get_mut 𝓡.env wired) X W Y K U (arg_laws (layout T) yes R LR refl)
-    (passed_laws Party (numbered_laws V.the_row VL.the_row_laws) refl)
+    (passed_laws Party (numbered_laws Seat (seat_laws.the_row_laws call.the_row point.the_row call_laws.the_row_laws point_laws.the_row_laws)) refl)
     (arg_laws (ty_struct [] (tcons (layout T) tnil)) no (F.the_row R) (FL.the_row_laws R LR) refl)
     (passed_laws (Key R) (opening_laws R LR) refl) (passed_laws (Second R) (trace_over_laws call.the_row R unit call_laws.the_row_laws LR units) refl)
     (ghosts I) (dict I) (record { Self-Key-lives = met_rule.Self-Key-lives; Self-Second-lives = met_rule.Self-Second-lives }) in
