@@ -9,7 +9,10 @@ use std::sync::Wait;
 use std::thread::yield_now;
 
 /// The longest pause of a waiting call, as a number of spin hints.
-pub const MAX_HINTS: u32 = 64;
+pub const MAX_HINTS: u32 = 512;
+
+/// The longest pause of a call that backs off, and of one that waits in a queue, as a number of spin hints.
+pub const MAX_BACK_OFF: u32 = 64;
 
 /// How a waiting call passes the time. A lock names its strategy as its type parameter `R`.
 ///
@@ -94,7 +97,7 @@ pub trait RelaxStrategy {
     }
 
     /// Like [`retry`](RelaxStrategy::retry), but each [`pause`](RelaxStrategy::pause) has twice as many hints as
-    /// the last one, up to [`MAX_HINTS`]. A lock whose waiters may overtake each other is fastest when few of them
+    /// the last one, up to [`MAX_BACK_OFF`]. A lock whose waiters may overtake each other is fastest when few of them
     /// load its word.
     ///
     /// # Contract
@@ -103,7 +106,7 @@ pub trait RelaxStrategy {
         requires { F.IsAlwaysCallable attempt }
         ensures { Succeeds (F.post attempt) state result }
     {
-        try_again::<Self, S, A, F, W>(rt, state, MAX_HINTS, attempt)
+        try_again::<Self, S, A, F, W>(rt, state, MAX_BACK_OFF, attempt)
     }
 }
 

@@ -1,7 +1,7 @@
 //! How long a waiting call pauses. No contract says this.
 use crate::equal::equal;
 use crate::mutex::threads::sum_of;
-use spin_core::relax::{MAX_HINTS, RelaxStrategy, SpinThenYield};
+use spin_core::relax::{MAX_BACK_OFF, MAX_HINTS, RelaxStrategy, SpinThenYield};
 use spin_fair::fair::FairMutex;
 use spin_flag::spin::SpinMutex;
 use spin_mutex::mutex::Mutex;
@@ -50,10 +50,10 @@ impl RelaxStrategy for Counted {
     }
 
     fn pause_after<W: Wait>(rt: &W, hints: u32, given: u32) {
-        let is_sum = if hints < MAX_HINTS {
+        let is_sum = if hints < MAX_BACK_OFF {
             given == hints.wrapping_sub(1)
         } else {
-            given % MAX_HINTS == MAX_HINTS - 1
+            hints == MAX_BACK_OFF && given % MAX_BACK_OFF == MAX_BACK_OFF - 1
         };
         if is_sum {
             return;

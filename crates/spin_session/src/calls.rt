@@ -544,17 +544,17 @@ fn wait<'a, T, P: Runs<T>, R: RelaxStrategy, W: Wait>(
     ensures last { SeesLast result }
     ensures sees { (v : Option T) → SeesOn P.meaning call holds v session.entry → SeesOn P.meaning call holds v result }
 {
-    let mut last = 0;
+    let mut due = 1;
     let mut given = 0;
     let mut from = point;
     let mut number = found;
     let mut at = point_after::<T, P>(&session, call, point, holds, found);
     let mut party = session;
     for _ in rt.forever() {
-        let hints = P::hints(call, from, at, holds, number, last);
+        let hints = P::hints(call, from, at, holds, number, due);
         if hints > 0 {
             given = R::bounded_pause(rt, hints, given);
-            last = hints;
+            due = hints.saturating_mul(2);
         }
         let (next, point, found, further) = round(party, call, at, holds);
         match next {
@@ -616,8 +616,8 @@ fn opening_round<'a, T, P: Runs<T>>(
     ensures sees { SeesOn P.meaning call holds session.entry.permit.value result.3 }
 {
     let made = first(session, call, holds);
-    let (next, point, found, session) = further(made, call, holds);
-    further((next, point, found, session), call, holds)
+    let (next, point, found, session) = further(made, call, holds, 0);
+    further((next, point, found, session), call, holds, 1)
 }
 
 // Makes the steps of the call from `point` on, as `opening_round` does.
@@ -645,11 +645,11 @@ fn round<'a, T, P: Runs<T>>(
     ensures sees { (v : Option T) → SeesOn P.meaning call holds v session.entry → SeesOn P.meaning call holds v result.3 }
 {
     let (next, found, session) = step(session, call, point, holds);
-    let (next, point, found, session) = further((next, point, found, session), call, holds);
-    further((next, point, found, session), call, holds)
+    let (next, point, found, session) = further((next, point, found, session), call, holds, 0);
+    further((next, point, found, session), call, holds, 1)
 }
 
-// Makes one more step of the call, unless the call is answered or pauses.
+// Makes one more step of the call, unless the call is answered or pauses. `due` is 0 after the first step of a round.
 #[inline(always)]
 fn further<'a, T, P: Runs<T>>(
     made: (
@@ -660,6 +660,7 @@ fn further<'a, T, P: Runs<T>>(
     ),
     call: P::Call,
     holds: Option<Hold>,
+    due: u32,
 ) -> (
     Next<P::Point, Answer<()>>,
     P::Point,
@@ -683,7 +684,7 @@ fn further<'a, T, P: Runs<T>>(
     match next {
         Next::Answers(answer, after) => (Next::Answers(answer, after), from, found, session),
         Next::Continue(to) => {
-            if P::hints(call, from, to, holds, found, 0) > 0 {
+            if P::hints(call, from, to, holds, found, due) > 0 {
                 (Next::Continue(to), from, found, session)
             } else {
                 let (next, found, session) = step(session, call, to, holds);

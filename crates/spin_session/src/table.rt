@@ -9,7 +9,7 @@ ghost use Rattle.spin_session.specs.Turns.{Fuses, LeapTold, PeekTold, TurnTold};
 
 use crate::second::Word;
 use spin_core::cell::{Play, Rule};
-use spin_core::relax::MAX_HINTS;
+use spin_core::relax::MAX_BACK_OFF;
 use spin_core::tie::{self, Opening};
 use spin_core::trace::Trace;
 use spin_step::{Hold, Operation, Seat, Steps};
@@ -62,18 +62,17 @@ pub trait Runs<T>: Rule<
         ensures given { Self.Table.given ≡ None };
 
     /// Returns how many hints a waiting call gives before its next step, at the point `to`, or 0 if it makes this step at
-    /// once. Its last step, at the point `from`, found this number. Its last pause had `last` hints, or 0 if it has not
-    /// paused.
+    /// once. Its last step, at the point `from`, found this number. A call that backs off gives `due` hints: twice as many
+    /// as in its last pause, or 1 if it has not paused. After the first step of a round `due` is 0.
     ///
-    /// By default a call does not pause after a load if its next step is none. Each other pause has twice as many hints
-    /// as the last one.
+    /// By default a call does not pause after a load if its next step is none. Otherwise it backs off.
     fn hints(
         call: Self::Call,
         from: Self::Point,
         to: Self::Point,
         holds: Option<Hold>,
         found: u64,
-        last: u32,
+        due: u32,
     ) -> u32 {
         let _ = found;
         let table = Self::table();
@@ -81,7 +80,7 @@ pub trait Runs<T>: Rule<
         if looked && !is_load(table.operation(call, to, holds)) {
             0
         } else {
-            last.saturating_mul(2).max(1).min(MAX_HINTS)
+            due.max(1).min(MAX_BACK_OFF)
         }
     }
 

@@ -9,7 +9,7 @@ ghost use Rattle.spin_fair.specs.Fair.{IsFair, fair_meaning, fair_tables, use_of
 use super::STARVATION_SPINS;
 use spin_core::cell::{Rule, WritePermit};
 use spin_core::guard::{self, Uses};
-use spin_core::relax::MAX_HINTS;
+use spin_core::relax::MAX_BACK_OFF;
 use spin_core::tie::Opening;
 use spin_core::trace::{Trace, Watch};
 use spin_session::calls::{finish, give};
@@ -74,11 +74,11 @@ impl<T> Runs<T> for FairRule {
         to: FairPoint,
         holds: Option<Hold>,
         found: u64,
-        last: u32,
+        due: u32,
     ) -> u32 {
-        let _ = (call, from, holds, found, last);
+        let _ = (call, from, holds, found, due);
         match to {
-            FairPoint::Look(_) | FairPoint::Await => MAX_HINTS,
+            FairPoint::Look(_) | FairPoint::Await => MAX_BACK_OFF,
             _ => 0,
         }
     }

@@ -7,7 +7,7 @@ ghost use Rattle.spin_step.specs.declared.place.Hold.TheVariants as hold;
 ghost use Rattle.spin_rwlock.specs.Rw.{IsRw, Comes, call_of, downgrade_to, rw_meaning, rw_tables};
 
 use spin_core::cell::{Rule, WritePermit};
-use spin_core::relax::MAX_HINTS;
+use spin_core::relax::{MAX_BACK_OFF, MAX_HINTS};
 use spin_core::tie::Opening;
 use spin_core::trace::Trace;
 use spin_session::calls::SessionOf;
@@ -70,21 +70,21 @@ impl<T> Runs<T> for RwRule<T> {
         }
     }
 
-    // A reader that the word found keeps out gives one hint before it looks again. A reader whose exchange has failed
-    // twice stands back, since readers that try again at once keep each other from succeeding. A writer backs off.
+    // A reader that the word found keeps out gives one hint before it looks again. A reader that loses a second exchange
+    // in a round stands back, since readers that try again at once keep each other from succeeding. A writer backs off.
     fn hints(
         call: RwCall,
         from: RwPoint,
         to: RwPoint,
         holds: Option<Hold>,
         found: u64,
-        last: u32,
+        due: u32,
     ) -> u32 {
         let _ = (holds, found);
         match (call, from, to) {
-            (RwCall::Write, _, _) => last.saturating_mul(2).max(1).min(MAX_HINTS),
+            (RwCall::Write, _, _) => due.max(1).min(MAX_BACK_OFF),
             (RwCall::Upgrade, RwPoint::First, _) => 0,
-            (_, RwPoint::Exchange(_), RwPoint::Exchange(_)) => MAX_HINTS,
+            (_, RwPoint::Exchange(_), RwPoint::Exchange(_)) if due > 0 => MAX_HINTS,
             (_, _, RwPoint::Exchange(_)) => 0,
             _ => 1,
         }

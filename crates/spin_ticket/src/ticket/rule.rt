@@ -8,7 +8,7 @@ ghost use Rattle.spin_ticket.specs.Queue.{IsQueue, ticket_meaning, ticket_tables
 use super::HINTS_EACH;
 use spin_core::cell::{Rule, WritePermit};
 use spin_core::guard::{self, Uses};
-use spin_core::relax::MAX_HINTS;
+use spin_core::relax::MAX_BACK_OFF;
 use spin_core::tie::Opening;
 use spin_core::trace::{Trace, Watch};
 use spin_session::calls::{finish, give, peek};
@@ -69,19 +69,19 @@ impl<T> Runs<T> for TicketRule {
         to: TicketPoint,
         holds: Option<Hold>,
         found: u64,
-        last: u32,
+        due: u32,
     ) -> u32 {
-        let _ = (call, holds, last);
+        let _ = (call, holds, due);
         match (from, to) {
             (TicketPoint::Await(_), TicketPoint::Await(ticket)) => {
                 let ahead = ticket.saturating_sub(found);
                 if ahead <= 1 {
                     1
                 } else {
-                    ahead.saturating_mul(HINTS_EACH).min(MAX_HINTS as u64) as u32
+                    ahead.saturating_mul(HINTS_EACH).min(MAX_BACK_OFF as u64) as u32
                 }
             }
-            (_, TicketPoint::LoadNext) => MAX_HINTS,
+            (_, TicketPoint::LoadNext) => MAX_BACK_OFF,
             _ => 0,
         }
     }
