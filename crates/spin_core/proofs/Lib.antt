@@ -36,5 +36,4 @@ pub mod Ties
 pub mod Values
 pub mod Passes
 pub mod Spots
-pub mod Mutexes
 pub mod TieLaws
