@@ -1,5 +1,6 @@
 -- A party whose call was granted has a guard.
-use Rattle.std.proofs.Common.{◌≡◌, ◌≢◌, true, List, Option, Some, None, length, sym, ap, ◌∙◌, subst}
+use Rattle.std.proofs.Common.{◌≡◌, ℕ, ◌≢◌, true, List, Option, Some, None, length, sym, ap, ◌∙◌, subst}
+use Rattle.std.specs.Prelude.{Result, Ok, Err, IfOk, IfErr}
 use Rattle.std.specs.Option.{IfSome}
 use Rattle.spin_core.specs.Cell.{reads, off}
 use Rattle.spin_core.specs.Own.{Numbered, what}
@@ -15,8 +16,10 @@ use Rattle.spin_step.specs.declared.answer.Answer.TheVariants as answer
 use Rattle.spin_step.specs.declared.place.Hold.{Hold}
 use Rattle.spin_step.specs.declared.place.Hold.TheVariants as hold
 use Rattle.spin_step_more.specs.declared.rw_calls.RwCall.{RwCall}
+use Rattle.spin_step_more.specs.declared.rw_calls.RwPoint.{RwPoint}
 use Rattle.spin_session.specs.Meaning.{model_at, use_at, seat_now}
-use Rattle.spin_session.specs.Turns.{SeesOn, Stands, StandsAt}
+use Rattle.spin_session.specs.Turns.{SeesLast, SeesOn, Stands, StandsAt, Waits, spot}
+use Rattle.spin_session.proofs.Granted.{of_ok, of_err}
 use Rattle.spin_session.specs.declared.session.Session.{Session}
 use Rattle.spin_rwlock.specs.Guards.{RwSpot, write_spot, write_value}
 use Rattle.spin_rwlock.specs.Rw.{Comes, Done, IsLent, View, rw_meaning, rw_tables}
@@ -39,6 +42,23 @@ module _ {T P S : Type 0} (h : Hold) (comes : Comes h) (it : Session T (Numbered
 
   pub is_lent : (c : RwCall) (held : Option Hold) (v : Option T) → SeesOn rw_meaning c held v it → IsLent h it
   is_lent c held v sees = (stands, (sees uses_now).0)
+
+-- A party that makes this call by `begin` and `go_on`, in which it holds nothing until it reads so, has a guard:
+module _ {T P S : Type 0} (h : Hold) (comes : Comes h) (c : RwCall) (from : Session T (Numbered View) (Done T) P (Opening T) S) where
+  abbrev Party : Type 0
+  Party = Session T (Numbered View) (Done T) P (Opening T) S
+
+  abbrev Sees : Party → Type 0
+  Sees = SeesOn rw_meaning c None from.permit.value
+
+  module _ (made : Result Party (RwPoint × ℕ × Party)) where
+    pub lent_at_once : (now : Party) → made ≡ Ok now → IfOk made (λ x. Stands (Some h) x × SeesLast x × Calls c Granted (spot from) (spot x)) → IfOk made Sees → IsLent h now
+    lent_at_once now is ended sees = is_lent h comes now (of_ok made (λ x. Stands (Some h) x × SeesLast x × Calls c Granted (spot from) (spot x)) now is ended).0 c None from.permit.value (of_ok made Sees now is sees)
+
+    pub lent_later : (on : RwPoint × ℕ × Party) → made ≡ Err on → IfErr made (λ x. Waits rw_tables rw_meaning c x.0 None x.1 (spot from) (spot x.2)) → IfErr made (λ x. Sees x.2)
+        → (now : Party) → (Waits rw_tables rw_meaning c on.0 None on.1 (spot from) (spot on.2) → Stands (Some h) now × Calls c Granted (spot from) (spot now)) → (Sees on.2 → Sees now) → IsLent h now
+    lent_later on is waits sees now ended still =
+        is_lent h comes now (ended (of_err made (λ x. Waits rw_tables rw_meaning c x.0 None x.1 (spot from) (spot x.2)) on is waits)).0 c None from.permit.value (still (of_err made (λ x. Sees x.2) on is sees))
 
 -- For a party that has made this call, and then knows this:
 module _ {T : Type 0} (h : Hold) (c : RwCall) (a : Answer (Unit {0})) (before now : RwSpot T) (value : Option T) (stands : StandsAt (Some h) now) (last : IfSome value (IsLast now.0 now.2.entries)) (calls : Calls c a before now) where

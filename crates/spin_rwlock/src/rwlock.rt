@@ -7,13 +7,13 @@ ghost use Rattle.spin_rwlock.specs.RwPasses.{OpensWith, opening};
 use self::rule::RwSession;
 use spin_core::cell::{Cell, Rule};
 use spin_core::lock::{Lock, SharedLock, with_guard};
-use spin_core::relax::{RelaxStrategy, Spin};
+use spin_core::relax::{RelaxStrategy, Spin, Strategy};
 use spin_core::tie::Opening;
 use spin_core::trace::Trace;
-use spin_session::calls::{exchange_for, finish, in_three};
+use spin_session::calls::{begin, exchange_for, finish, go_on, in_three};
 use spin_session::session::Session;
 use spin_session::table::Ahead;
-use spin_step::Hold;
+use spin_step::{Answer, Hold};
 use spin_step_more::rw;
 use spin_step_more::rw_calls::{RwCall, RwPoint};
 use std::marker::PhantomData;
@@ -285,7 +285,17 @@ impl<T, R: RelaxStrategy> RwLock<T, R> {
     /// # Contract
     /// The guard is that of a reader. Whether and when the call returns is not promised.
     pub fn read<W: Wait>(&self, rt: &W) -> RwLockReadGuard<'_, T, R> {
-        self.pass().read(rt).0
+        // Like the two calls below, this repeats the pass's call by `begin` and `go_on`. Each call of a function that
+        // waits makes the path for a free lock two instructions longer.
+        let (call, after) = (RwCall::Read, Some(Hold::Read));
+        let session = match begin(self.session(), call, None, Answer::Granted, after) {
+            Ok(session) => session,
+            Err(on) => {
+                let by = Strategy::<R>::named();
+                go_on(on, call, None, Answer::Granted, after, by, rt)
+            }
+        };
+        SharedGuard::lent(session).0
     }
 
     /// Acquires upgradable shared access, spinning while a writer or an upgradable reader holds the lock.
@@ -307,7 +317,15 @@ impl<T, R: RelaxStrategy> RwLock<T, R> {
     /// assert_eq!(rt; *guard, 3);
     /// ```
     pub fn upgradeable_read<W: Wait>(&self, rt: &W) -> RwLockUpgradableGuard<'_, T, R> {
-        self.pass().upgradeable_read(rt).0
+        let (call, after) = (RwCall::UpgradeableRead, Some(Hold::Upgradable));
+        let session = match begin(self.session(), call, None, Answer::Granted, after) {
+            Ok(session) => session,
+            Err(on) => {
+                let by = Strategy::<R>::named();
+                go_on(on, call, None, Answer::Granted, after, by, rt)
+            }
+        };
+        SharedGuard::lent(session).0
     }
 
     /// Acquires exclusive access, spinning until no thread holds the lock.
@@ -330,7 +348,15 @@ impl<T, R: RelaxStrategy> RwLock<T, R> {
     /// assert_eq!(rt; *limit.read(&rt), 4);
     /// ```
     pub fn write<W: Wait>(&self, rt: &W) -> RwLockWriteGuard<'_, T, R> {
-        self.pass().write(rt).0
+        let (call, after) = (RwCall::Write, Some(Hold::Write));
+        let session = match begin(self.session(), call, None, Answer::Granted, after) {
+            Ok(session) => session,
+            Err(on) => {
+                let by = Strategy::<R>::named();
+                go_on(on, call, None, Answer::Granted, after, by, rt)
+            }
+        };
+        RwLockWriteGuard::written(session).0
     }
 }
 
