@@ -24,3 +24,7 @@ pub use Rattle.spin_step_more.specs.Starvers
 pub use Rattle.spin_step_more.specs.Readers
 pub use Rattle.spin_step.specs.Barriers
 pub mod Texts
+pub mod Answers
+pub mod FairCalls
+pub mod OnceCalls
+pub mod RwCalls

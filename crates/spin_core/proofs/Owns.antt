@@ -126,7 +126,7 @@ module _ {W V C L A X S : Type 0} (m : Machine W V C L A) (seat_of : X → Seat 
     -- the party with this view has its old place among all who came, or a new place behind them
     placed : (id : ℕ) (view : Option (Numbered X)) → Run log s vs → Stands id view vs
         → (front : Came X) × (o : Option (X × ℕ)) × (back : Came X) × Ran log s (front ++ o ∷ back)
-        × (kind o ≡ what view) × MadeNone m seat_of words_of log (length front) view
+        × (kind o ≡ what view) × MadeNone log (length front) view
         × ((u : X) (mark : ℕ) → views_after id view vs (u, length front, mark) ≡ present_from 0 (front ++ Some (u, mark) ∷ back))
     placed id None is at = let (came, vs_are, (w, value, s_is, leads, rested, so)) = as_ran is in let p : ℕ = length came in
         let none = nobody log 0 p came (omega arith) rested in
@@ -153,7 +153,7 @@ module _ {W V C L A X S : Type 0} (m : Machine W V C L A) (seat_of : X → Seat 
       → (id : ℕ) (s : ℕ × S) (log : Schedule) (vs : List (Numbered X)) → Run log s vs → Stands id view vs → (u : X) → tells (g.1 s) u
       → (p : ℕ) × (own : List (Move C V)) × (outs : List (Outcome A V)) × (let es = by_party p own in
       Run (log ++ es) (g.0 s) (views_after id view vs (u, p, length (log ++ es)))
-      × MadeNone m seat_of words_of log p view × run.AreOwn m own outs log es × says own outs (g.1 s) u)
+      × MadeNone log p view × run.AreOwn m own outs log es × says own outs (g.1 s) u)
   step view g tells says moves id s log vs is at u so =
       let (front, o, back, (w, value, s_is, leads, rested, fits), o_is, none, becomes) = placed log s vs id view is at in
       let (own, outs, said, all, fine, w', now, alone, are, become) = moves w value u (rw (← s_is) so) in

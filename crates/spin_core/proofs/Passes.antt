@@ -1,6 +1,7 @@
 -- What a party with a number learns by a step, and by one step after another.
-use Rattle.std.proofs.Common.{◌≡◌, ℕ, ◌+◌, false, Option, Some, None, List, [], ◌∷◌, ◌++◌, length, replicate, refl, sym, ap, ◌∙◌, arith, eq-eqb}
-use Rattle.std.proofs.Math.Seq.{drop-append_seam}
+use Rattle.std.proofs.Common.{◌≡◌, ◌≤◌, ℕ, ◌+◌, false, Option, Some, None, List, [], ◌∷◌, ◌++◌, length, replicate, refl, sym, ap, ◌∙◌, arith, eq-eqb}
+use Rattle.std.proofs.lemmas.List.{drop-append-le}
+use Rattle.std.proofs.Common.{drop}
 use Rattle.std.proofs.lemmas.List.{append_assoc, map-append, replicate-append-replicate}
 use Rattle.std.proofs.lemmas.List.Elements.{filter-append}
 use Rattle.std.proofs.Math.Nat.{add_assoc}
@@ -13,13 +14,26 @@ use Rattle.spin_step.specs.Schedules.{State, Entry, after, at_first, happens}
 use Rattle.spin_core.specs.declared.trace.Watch.{Watch}
 use Rattle.spin_step.specs.declared.place.Seat.{Seat}
 use Rattle.spin_core.specs.Run.{outcomes}
-use Rattle.spin_core.specs.Own.{Numbered, what, by_party, entries_by, Tells}
-use Rattle.spin_core.specs.Passes.{mark_of, Course, Waits, Ends, Begins, IsCall, Says, IsStep, outcomes_by, Did, Made}
+use Rattle.spin_core.specs.Own.{Numbered, MayBe, what, by_party, entries_by, Tells}
+use Rattle.spin_core.specs.Passes.{mark_of, IsNumber, Course, Waits, Ends, Begins, IsCall, Says, IsStep, outcomes_by, Did, Made}
 use Rattle.spin_core.specs.Cell.{Ways, Moved}
 use Rattle.spin_core.specs.Traced.{Watches, Named}
 use Rattle.spin_core.specs.declared.trace.Trace.{Trace}
 use Rattle.spin_step.proofs.Schedules.{after-append}
 use Rattle.spin_core.proofs.Owns.{by_of}
+
+none_before : {X : Type 0} (xs ys : List X) → xs ++ ys ≡ [] → xs ≡ []
+none_before [] ys none = refl
+none_before (x ∷ xs) ys none = absurd (cc none)
+
+none_behind : {X : Type 0} (xs ys : List X) → xs ++ ys ≡ [] → ys ≡ []
+none_behind [] ys none = none
+none_behind (x ∷ xs) ys none = absurd (cc none)
+
+-- a party with a view has one number
+pub one_number : {X : Type 0} (p q : ℕ) (view : Option (Numbered X)) → IsNumber p view → MayBe q view → q ≡ p
+one_number p q None is may = absurd is
+one_number p q (Some u) is may = may ∙ sym is
 
 -- R accepts moves of P followed by moves of Q
 abbrev pub Joins : (V C A : Type 0) → Course V C A → Course V C A → Course V C A → Type 0
@@ -63,27 +77,30 @@ module _ {W V C L A : Type 0} (m : Machine W V C L A) where
     pub made_both : (u v w : Option (Numbered X)) (a b c : Schedule) (P Q R : Course V C A) → Joins V C A P Q R
         → Made m u a v b P → Made m v b w c Q → Made m u a w c R
     made_both u v w a b c P Q R joins (p, may, is, own, outs, did, so) (q, may', is', own', outs', did', so') =
-        let same : q ≡ p = grind arith in
+        let same : q ≡ p = one_number p q v is may'.0 in
         (p, may, rw same at is', own ++ own', outs ++ outs', did_both p a b c own own' outs outs' did (rw same at did'), joins own own' outs outs' so so')
 
   module _ {X S : Type 0} (seat_of : X → Seat C L) (words_of : W → ℕ × S) where
-    -- What a step tells a party that knew all entries up to its last step: the party's moves, and that it now knows
-    -- all entries up to this step.
+    -- What a step tells a party that knew all entries up to its last step, and perhaps more: the party's moves, and that
+    -- it now knows all entries up to this step.
     pub learns : (says : Says V C A X) (named : Type 0) (view : Option (Numbered X)) (before now : Watch (Entry C V)) (n : ℕ) (v : Numbered X)
-        → mark_of view ≡ length before.entries → Watches named before now (Tells m seat_of words_of says view) n v
+        → mark_of view ≤ length before.entries → Watches named before now (Tells m seat_of words_of says view) n v
         → Made m view before.entries (Some v) now.entries (λ own outs. says own outs n v.0) × (mark_of (Some v) ≡ length now.entries)
     learns says named view before now n v knew (same, (log, es, known, is, (own, outs, es_is, mark, none, mine, said))) =
         let p : ℕ = v.1 in let old : Schedule = before.entries in let (between, here) = known in
         let steps : Schedule = by_party p own in let whole = append_assoc old between steps in
-        -- the party has made no entry since it knew `old`
-        let apart : entries_by p between ≡ [] = rw (← drop-append_seam old between, ← knew, here) none.1 in
+        -- the party has made no entry after its last step, neither in `old` nor since it knew `old`
+        let mine_before : List (Entry C V) = entries_by p (drop (mark_of view) old) in
+        let since : entries_by p (drop (mark_of view) (old ++ between)) ≡ [] = rw (here) none.1 in
+        let none_in : mine_before ++ entries_by p between ≡ [] = rw (← filter-append, ← drop-append-le (mark_of view) old between knew) since in
+        let apart : entries_by p between ≡ [] = none_behind mine_before (entries_by p between) none_in in
         let came : (k : ℕ) → outcomes_by m p (after m (at_first m (mine.1 + k)) old) (between ++ steps) ≡ outs = λ k.
         let start : State W V C L = at_first m (mine.1 + k) in
         came_both p start old between steps [] outs (by-others p between apart (after m start old))
         (rw (here, by-own p (after m start log) own, ← es_is) (mine.4 k)) in
         let its : entries_by p (between ++ steps) ≡ steps = rw (filter-append, apart, by_of p p own, eq-eqb p p refl) in
         let did : Did m p old now.entries own outs = (between ++ steps, mine.1, cc (whole), its, rw is mine.3, came) in
-        ((p, none.0, refl, own, outs, did, said), mark ∙ ap length (sym is))
+        ((p, (none.0, none_before mine_before (entries_by p between) none_in), refl, own, outs, did, said), mark ∙ ap length (sym is))
 
 -- the rule says that the trace has this name
 pub may_know : {E S V R : Type 0} (holds : ℕ → Trace E S → List V → Type 0) (ways : Ways R V (Trace E S)) (name : ℕ) → ((n : ℕ) (t : Trace E S) (vs : List V) → holds n t vs → t.name ≡ name) → (known : ℕ) → name ≡ known → Named holds ways known
@@ -99,7 +116,7 @@ pub record Learnt {W V C L A X : Type 0} (m : Machine W V C L A) (view view' : O
 
 module _ {W V C L A X S : Type 0} (m : Machine W V C L A) (seat_of : X → Seat C L) (words_of : W → ℕ × S) where
   pub learnt : (says : Says V C A X) (to : ℕ → X) (course : ℕ → Course V C A) → ((own : List (Move C V)) (outs : List (Outcome A V)) (n : ℕ) (v : X) → says own outs n v → (v ≡ to n) × course n own outs)
-      → (named : Type 0) → named → (view view' : Option (Numbered X)) (before now : Watch (Entry C V)) (found : ℕ) → mark_of view ≡ length before.entries
+      → (named : Type 0) → named → (view view' : Option (Numbered X)) (before now : Watch (Entry C V)) (found : ℕ) → mark_of view ≤ length before.entries
       → Moved (Watches named before now (Tells m seat_of words_of says view) found) view' → Learnt m view view' before now (to found) (course found)
   learnt says to course means named is_named view None before now found knew moved = absurd moved
   learnt says to course means named is_named view (Some v) before now found knew moved =

@@ -1,5 +1,5 @@
 -- A lock over the cell whose word is that of a plain lock. Begin with `Lock`.
-use Rattle.std.proofs.Common.{◌≡◌, ℕ, ◌≤◌, List, [], Option, Some, None, refl, ap}
+use Rattle.std.proofs.Common.{◌≡◌, ℕ, ◌≤◌, List, [], Some, None, refl, ap}
 use Rattle.spin_step.specs.Plain.{Plain, fresh, ticket_limit}
 use Rattle.spin_step.specs.Parties.{no_entries}
 use Rattle.spin_core.specs.Cell.{Use, Way, Ways, no_fact, Limits, Going, Meets, Rests, readers_of, writers_of, off}

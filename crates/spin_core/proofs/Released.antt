@@ -11,7 +11,6 @@ use contract.Running.{Running}
 use contract.BorrowLft.{◌⊑◌, ⊑_refl}
 use contract.Lifetimes.{lft_at}
 use contract.Monad.{fact}
-use denote.Builtin.{unit}
 use denote.Exit.{no}
 use denote.Param.{param}
 use denote.RattleType.{RattleType}
@@ -21,6 +20,7 @@ use denote.Triple.Spec.{Spec, Meets, exits}
 use denote.Triple.Table.{run_framed}
 use Rattle.spin_core.specs.declared.cell.Rule as Rule
 use Rattle.spin_core.specs.contracts.cell.WritePermit as Permit
+use Rattle.spin_core.specs.contracts.cell.Left as Left
 use Rattle.spin_core.specs.declared.guard.Release as Release
 use Rattle.spin_core.specs.declared.guard.Uses as Uses
 use Rattle.spin_core.specs.contracts.guard.Release.release as trait
@@ -32,7 +32,7 @@ module _ (Y V K S T : RattleType) (rule : Rule.Ghosts Y.Denot T.Denot V.Denot K.
     lifetimes = 2;
     outlives = record { long = 1; long_ok = tt; short = named 0; short_ok = tt } ∷ [];
     params = plain (λ κs. Permit.the_row (named_lft 2 0 tt κs) (param 0 T) V Y K (param 4 S) rule) ∷ [];
-    result = plain (λ κs. unit);
+    result = plain (λ κs. Left.the_row);
   }
 
   module _ {M : Type 1} {𝓤 : Ura M} (𝓛 : Logic 𝓤) where

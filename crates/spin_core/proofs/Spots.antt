@@ -1,8 +1,8 @@
 -- What a step tells a party that knows the lock's history, and what follows from all steps of a call.
-use Rattle.std.proofs.Common.{◌≡◌, ℕ, Bool, true, false, Some, None, List, [], ◌∷◌, length, refl, ◌∙◌}
+use Rattle.std.proofs.Common.{◌≡◌, ◌≤◌, ℕ, Bool, true, false, Some, None, List, [], ◌∷◌, length, refl, ◌∙◌}
 use Rattle.spin_core.specs.Cell.{Moved}
 use Rattle.spin_core.specs.Own.{Tells, what}
-use Rattle.spin_core.specs.Passes.{Course, Says, IsStep, IsCall, WritesSome, Begins, Waits, Ends, step_by, mark_of}
+use Rattle.spin_core.specs.Passes.{Course, Says, IsStep, IsCall, Begins, Waits, Ends, step_by, mark_of}
 use Rattle.spin_core.specs.Spots.{Spot, Since, Stepped, IsIn, HasCalled}
 use Rattle.spin_core.specs.Traced.{Watches}
 use Rattle.spin_core.proofs.Passes as passes
@@ -16,7 +16,7 @@ use Rattle.spin_step.specs.Machines.{Machine}
 use Rattle.spin_step.specs.Schedules.{Entry}
 
 module _ {K W V C L A X S : Type 0} (model : K → Machine W V C L A) (seat_of : X → Seat C L) (words_of : W → ℕ × S) (p q : Spot K X (Entry C V))
-    (same : q.0 ≡ p.0) (knew : mark_of p.1 ≡ length p.2.entries) where
+    (same : q.0 ≡ p.0) (knew : mark_of p.1 ≤ length p.2.entries) where
   -- what a step did, by what its play says of it
   pub took : {named : Type 0} → named → (found : ℕ) (says : Says V C A X) (to : ℕ → X) (course : ℕ → Course V C A)
       → ((own : List (Move C V)) (outs : List (Outcome A V)) (n : ℕ) (v : X) → says own outs n v → (v ≡ to n) × course n own outs)
@@ -48,10 +48,6 @@ module _ {K W V C L A X : Type 0} (model : K → Machine W V C L A) (c : C) (p q
 
   pub comes_in : Since model (IsStep false c GoingOn) p q → IsIn model c p q
   comes_in = weaker model p q (IsStep false c GoingOn) (Begins c Waits) (λ own outs s. (Step ∷ [], GoingOn ∷ [], s.0, s.1, (1, refl, refl)))
-
-  -- a release of a value that satisfies Q is a release of some value
-  pub wrote_any : (Q : V → Type 0) (a : A) → Since model (WritesSome Q (IsCall c a)) p q → Since model (WritesSome (λ y. Unit {0}) (IsCall c a)) p q
-  wrote_any Q a = weaker model p q (WritesSome Q (IsCall c a)) (WritesSome (λ y. Unit {0}) (IsCall c a)) (λ own outs (y, so, by). (y, tt, by))
 
   module _ (r : Spot K X (Entry C V)) (first : IsIn model c p q) where
     pub stays_in : Since model (IsStep true c GoingOn) q r → IsIn model c p r

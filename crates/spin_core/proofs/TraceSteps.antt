@@ -1,6 +1,7 @@
 -- The ghost steps of a log. Assumes `Logic`.
-use Rattle.std.proofs.Common.{◌≡◌, ◌⊎◌, ℕ, List, [], ◌∷◌, ◌++◌, map, refl, sym, ◌∙◌}
-use mathlib.Core.Logic.{inl, inr}
+use Rattle.std.proofs.Common.{◌≡◌, ◌⊎◌, ℕ, List, [], ◌∷◌, ◌++◌, map, refl, sym, subst, ◌∙◌}
+use mathlib.Core.Logic.{inl, inr, dite}
+use native.Mathlib.Decide.{ℕ_discrete}
 use mathlib.Core.List.{IsPrefix, append-nil}
 use Rattle.std.proofs.lemmas.List.{map-append}
 use seplogic.Ra.Ura.{Ura}
@@ -21,9 +22,9 @@ use denote.Steps.{nothing}
 use denote.Opens.{Cuts-Halves}
 use denote.Struct.Lending.{Lends}
 use Rattle.spin_core.proofs.TracePrefixes.{one_in_other, prefix_uncoded}
-use Rattle.spin_core.specs.Logs.{logs, log_owns, log_part, log_shares, known_owns}
+use Rattle.spin_core.specs.Logs.{logs, log_owns, log_part, log_shares, known_owns, KnowsBoth}
 use Rattle.spin_core.proofs.Signs.{signs}
-use Rattle.spin_core.proofs.Lemmas.{script, lemma, update, cite}
+use Rattle.spin_core.proofs.Lemmas.{script, lemma, update, cite, having}
 
 module _ {T : Type 0} (c : T → Gv) where
   pub log_keyless : (γ : ℕ) (l : List T) → Keyless (log_owns c γ l)
@@ -102,6 +103,13 @@ module _ {M : Type 1} {𝓤 : Ura M} (𝓛 : Logic 𝓤) where
     known_twice [] = script ∵ nothing ! $ done !
     known_twice (x ∷ k) = lemma (at_least_dup logs 𝓛 γ (map cv.code (x ∷ k)))
 
+    -- what is known under one name is known under the same name, and the empty list under any
+    pub renamed : (δ : ℕ) (k : List T) → ‵ (Known k) ⊩ some (λ (m : List T). given (γ ≡ δ → m ≡ k) (‵ (known_owns cv.code δ m)))
+    unfolding known_owns
+    renamed δ k = let F = λ (z : ℕ) (m : List T). given (γ ≡ z → m ≡ k) (‵ (known_owns cv.code z m)) in
+        dite (ℕ_discrete γ δ) (λ e. subst (λ z. ‵ (Known k) ⊩ some (F z)) e (script ∵ having ! (F γ) k $ check ! (λ same. refl) $ done !))
+        (λ ne. script ∵ drop ! $ having ! (F δ) [] $ check ! (λ same. absurd (ne same)) $ nothing ! $ done !)
+
     pub compares : (k l : List T) → ‵ (Known k) ⊛ ‵ (Known l) ⊩ given (IsPrefix k l ⊎ IsPrefix l k) (‵ ftrue)
     unfolding known_owns
     compares [] l = script ∵ drop ! $ drop ! $ by ! (fact_i 𝓤 _ (emp 𝓤) (inl (l, refl)))
@@ -109,3 +117,12 @@ module _ {M : Type 1} {𝓤 : Ura M} (𝓛 : Logic 𝓤) where
     compares (x ∷ k') (y ∷ l') = let k : List T = x ∷ k' in let l : List T = y ∷ l' in let a = map cv.code k in let b = map cv.code l in
         script ∵ use2 𝓛 (some (λ (m : List Gv). given (Least logs.le a b m) (‵ (at_least logs γ m)))) (at_least_join logs 𝓛 γ a b) $
         pick ! (λ m. learn ! (λ s. drop ! $ by ! (fact_i 𝓤 _ (emp 𝓤) (one_in_other cv k l m s.0 s.1))))
+
+    -- two watches of one trace together know the longer of their lists
+    pub joins : (k l : List T) → ‵ (Known k) ⊛ ‵ (Known l) ⊩ some (λ (m : List T). given (KnowsBoth k l m) (‵ (Known m)))
+    joins k l = let F = λ (m : List T). given (KnowsBoth k l m) (‵ (Known m)) in
+        script ∵ cite _ (known_twice k) $ move ! (2 ∷ []) $ cite _ (known_twice l) $ move ! (2 ∷ 0 ∷ []) $ cite _ (compares k l) $
+        learn ! (λ so. drop ! $ elim so [
+          | inl p ↦ keep ! (0 ∷ []) $ having ! F l $ check ! (p, ([], append-nil l), inr refl) $ done !
+          | inr p ↦ keep ! (1 ∷ []) $ having ! F k $ check ! (([], append-nil k), p, inl refl) $ done !
+        ])

@@ -5,32 +5,40 @@ use Rattle.spin_core.specs.Writer.{with_value}
 use Rattle.spin_core.specs.declared.guard.Guard.{Guard}
 use Rattle.spin_core.specs.declared.guard.Held.{Held}
 use Rattle.spin_core.specs.declared.guard.Uses.{Ghosts}
+use Rattle.spin_core.specs.declared.trace.Watch.{Watch}
 
-module _ {T V P R K S : Type 0} where
-  abbrev pub guard_value : Guard T V P R K S → T
+module _ {T V E P R K S : Type 0} where
+  abbrev pub guard_value : Guard T V E P R K S → T
   guard_value it = it.writer.value
 
-  abbrev pub guard_with : Guard T V P R K S → T → Guard T V P R K S
-  guard_with it x = record { writer = with_value it.writer x; strategy = it.strategy }
+  abbrev pub guard_with : Guard T V E P R K S → T → Guard T V E P R K S
+  guard_with it x = record { writer = with_value it.writer x; seen = it.seen; strategy = it.strategy }
 
   -- the view of the guard's party
-  abbrev pub guard_view : Guard T V P R K S → V
+  abbrev pub guard_view : Guard T V E P R K S → V
   guard_view it = it.writer.view
 
-  abbrev pub guard_key : Guard T V P R K S → K
+  abbrev pub guard_key : Guard T V E P R K S → K
   guard_key it = it.writer.key
 
+  -- what the guard's party knows of the lock's history
+  abbrev pub guard_seen : Guard T V E P R K S → Watch E
+  guard_seen it = it.seen
+
   -- the guard's party holds the lock: it uses the value as a writer
-  abbrev pub IsHolder : (V → Use) → Guard T V P R K S → Type 0
+  abbrev pub IsHolder : (V → Use) → Guard T V E P R K S → Type 0
   IsHolder use_of_view it = use_of_view it.writer.view ≡ writes
 
   -- the value that the hold keeps
-  abbrev pub held_value : {uses : Ghosts P V} → Held T V P R K S uses → Option T
+  abbrev pub held_value : {uses : Ghosts P V} → Held T V E P R K S uses → Option T
   held_value it = it.permit.value
 
   -- the view of the hold's party
-  abbrev pub held_view : {uses : Ghosts P V} → Held T V P R K S uses → Option V
+  abbrev pub held_view : {uses : Ghosts P V} → Held T V E P R K S uses → Option V
   held_view it = it.permit.view
 
-  abbrev pub held_key : {uses : Ghosts P V} → Held T V P R K S uses → K
+  abbrev pub held_key : {uses : Ghosts P V} → Held T V E P R K S uses → K
   held_key it = it.permit.key
+
+  abbrev pub held_seen : {uses : Ghosts P V} → Held T V E P R K S uses → Watch E
+  held_seen it = it.seen

@@ -1,6 +1,7 @@
 -- What a trace (`log_owns`) and a watch (`known_owns`) own. The algebra has the codes of the entries, so it names no
 -- type parameter.
-use Rattle.std.specs.Prelude.{ℕ, List, [], ◌∷◌, map}
+use Rattle.std.specs.Prelude.{◌≡◌, ◌⊎◌, ℕ, List, [], ◌∷◌, map}
+use mathlib.Core.List.{IsPrefix}
 use base.Fraction.{full_share}
 use base.Stored.{Gv}
 use base.Growing.{Order, prefixes, latest, at_least}
@@ -27,3 +28,7 @@ log_owns c γ l = log_part c γ l full_share
 unfoldable pub known_owns : {T : Type 0} → (T → Gv) → ℕ → List T → Fml
 known_owns c γ [] = ftrue
 known_owns c γ (x ∷ l) = at_least logs γ (map c (x ∷ l))
+
+-- m is the longer of two lists, and has both as prefixes
+abbrev pub KnowsBoth : {T : Type 0} → List T → List T → List T → Type 0
+KnowsBoth k l m = IsPrefix k m × IsPrefix l m × ((m ≡ k) ⊎ (m ≡ l))

@@ -51,16 +51,16 @@ Rested schedule k [] = (q : ℕ) → k ≤ q → entries_by q schedule ≡ []
 Rested schedule k (o ∷ us) =
     IfSome o (λ u. (u.1 ≤ length schedule) × (entries_by k (drop u.1 schedule) ≡ [])) × Rested schedule (suc k) us
 
+-- the party has made no entry after its last step; a new party has made none at all
+abbrev pub MadeNone : {C V X : Type 0} → List (Entry C V) → ℕ → Option (Numbered X) → Type 0
+MadeNone log p view = MayBe p view × (entries_by p (drop (mark_of view) log) ≡ [])
+
 module _ {W V C L A X S : Type 0} (m : Machine W V C L A) (seat_of : X → Seat C L) (words_of : W → ℕ × S) where
   -- The schedule leads to these words, and to the views of all parties that have not left. None of its entries is
   -- skipped, and each is a move of a call (`AreOfCalls`). No party has made an entry from its mark on (`Rested`).
   abbrev pub IsRun : List (Entry C V) → ℕ × S → List (Numbered X) → Type 0
   IsRun schedule s vs =
       (came : List (Option (X × ℕ))) × (w : W) × (value : Option V) × (vs ≡ present_from 0 came) × (s ≡ words_of w) × LeadsTo m seat_of words_of schedule w value (map kind came) × IsPlayed m (length (map kind came)) schedule × Rested schedule 0 came × AreOfCalls m schedule
-
-  -- the party has made no entry after its last step; a new party has made none at all
-  abbrev pub MadeNone : List (Entry C V) → ℕ → Option (Numbered X) → Type 0
-  MadeNone log p view = MayBe p view × (entries_by p (drop (mark_of view) log) ≡ [])
 
   -- What a step tells: the party's number and its new mark; that the party made no entry between its last step and
   -- this one; its moves in this step, with their outcomes; and what `says` states of these moves.

@@ -9,7 +9,7 @@ use Rattle.spin_step.specs.declared.schedule.Outcome.TheVariants.{Begun, GoingOn
 use Rattle.spin_step.specs.Machines.{Machine}
 use Rattle.spin_step.specs.Schedules.{State, Entry, after, at_first, happens}
 use Rattle.spin_core.specs.Run.{IsPlayed}
-use Rattle.spin_core.specs.Own.{Numbered, MayBe, by_party, entries_by}
+use Rattle.spin_core.specs.Own.{Numbered, MadeNone, by_party, entries_by}
 pub use Rattle.spin_core.specs.Own.{mark_of}
 
 -- the party has this number
@@ -75,10 +75,6 @@ module _ {V C A : Type 0} where
   abbrev pub step_by : {X : Type 0} → Bool → C → (ℕ → Outcome A V) → (ℕ → X) → Says V C A X
   step_by goes_on c end to own outs n v = (v ≡ to n) × IsStep goes_on c (end n) own outs
 
-  -- what a play says of a release: the party writes a value that satisfies Q, makes this call, and gets this view
-  abbrev pub leaves_by : {X : Type 0} → (V → Type 0) → C → A → X → Says V C A X
-  leaves_by Q c a to own outs n v = (v ≡ to) × WritesSome Q (IsStep false c (Answered a None)) own outs
-
 module _ {W V C L A : Type 0} (m : Machine W V C L A) where
   -- the outcomes of the entries that one party made in this schedule
   abbrev pub outcomes_by : ℕ → State W V C L → List (Entry C V) → List (Outcome A V)
@@ -92,7 +88,7 @@ module _ {W V C L A : Type 0} (m : Machine W V C L A) where
       (more : List (Entry C V)) × (least : ℕ) × (new ≡ old ++ more) × (entries_by p more ≡ by_party p own) × IsPlayed m least new
       × ((k : ℕ) → outcomes_by p (after m (at_first m (least + k)) old) more ≡ outs)
 
-  -- A party had the view `view` and knew the entries `old`. Now it has the view `view'` and knows `new`. In between it has made exactly the
-  -- moves of this course.
+  -- A party had the view `view` and knew the entries `old`, none of which it made after its last step. Now it has the
+  -- view `view'` and knows `new`. In between it has made exactly the moves of this course.
   abbrev pub Made : {X : Type 0} → Option (Numbered X) → List (Entry C V) → Option (Numbered X) → List (Entry C V) → Course V C A → Type 0
-  Made view old view' new P = (p : ℕ) × MayBe p view × IsNumber p view' × (own : List (Move C V)) × (outs : List (Outcome A V)) × Did p old new own outs × P own outs
+  Made view old view' new P = (p : ℕ) × MadeNone old p view × IsNumber p view' × (own : List (Move C V)) × (outs : List (Outcome A V)) × Did p old new own outs × P own outs

@@ -82,6 +82,12 @@ impl<'a, T, V, P: Rule<T, V>> Model for Permit<'a, T, V, P> {
     ghost also_shares = { λ h _ κ. permit_shares P.row T.row V.row.coded.code P.Second.row (P.holds h.key) (P.ways h.key) 'a h.cell h.view h.value κ };
 }
 
+/// Shows that a party at rest has ended its permit. Only [`Permit::leave`] makes one.
+#[derive(Drop)]
+pub struct Left {
+    made: (),
+}
+
 /// The right to write the value, which only one party has at a time.
 /// [`into_permit`](WritePermit::into_permit) turns it back into a permit, and [`leak`](WritePermit::leak)
 /// makes it last for ever.
@@ -234,10 +240,11 @@ impl<'a, T, V, P: Rule<T, V>> Permit<'a, T, V, P> {
 
     /// Ends the permit. The party has to be at rest: it does not use the value, and the rule also holds
     /// without the party.
-    pub fn leave(self)
+    pub fn leave(self) -> Left
         requires { Rests (P.holds self.key) (P.ways self.key).1 self.view }
     {
         let Permit { cell: _, marker: _ } = self;
+        Left { made: () }
     }
 
     /// Ends the permit of a party that is at rest, like [`leave`](Permit::leave), or of one that uses the

@@ -3,7 +3,8 @@
 ghost use Rattle.std.specs.Prelude.{◌≡◌, Option, Some};
 ghost use Rattle.spin_core.specs.Cell.{Use, writes, use_of};
 
-use crate::cell::{Permit, Rule, WritePermit};
+use crate::cell::{Left, Permit, Rule, WritePermit};
+use crate::trace::Watch;
 use std::marker::PhantomData;
 use std::ops::{Deref, DerefMut};
 
@@ -26,9 +27,9 @@ pub trait Release<T, V>: Rule<T, V> + Uses<V> {
     /// Releases the lock of a party that writes.
     ///
     /// # Contract
-    /// There is no clause. A permit cannot be dropped, so the body has to end the writer's permit, for example by
-    /// `leave` or by `leak`.
-    fn release(writer: WritePermit<'_, T, V, Self>);
+    /// There is no clause. The body has to return a [`Left`], which `leave` alone makes. So the writer's party is at
+    /// rest afterwards.
+    fn release(writer: WritePermit<'_, T, V, Self>) -> Left;
 
     // `use_at` agrees with the rule. This is stated apart, since a ghost field cannot use names of the rule.
     ghost same: { (key : Self.Key) (view : Option V) → Self.use_at view ≡ use_of (Self.ways key).1 view };
@@ -42,8 +43,9 @@ pub trait Release<T, V>: Rule<T, V> + Uses<V> {
 /// # Contract
 /// `guard_value` is the lock's value. A read through the guard returns what was last written through it.
 #[must_use = "dropping the guard at once releases the lock: bind it, or write `drop(..)`"]
-pub struct Guard<'a, T, V, P: Release<T, V>, R> {
+pub struct Guard<'a, T, V, E, P: Release<T, V>, R> {
     writer: WritePermit<'a, T, V, P>,
+    seen: Watch<E>,
     strategy: PhantomData<R>,
 }
 
@@ -55,24 +57,26 @@ pub struct Guard<'a, T, V, P: Release<T, V>, R> {
 /// # Contract
 /// The party of the hold still writes the value (`holding`). `held_value` is the value that the guard had.
 #[must_use = "dropping a hold does not release the lock: pass it to `force_unlock`"]
-pub struct Held<'a, T, V, P: Release<T, V>, R> {
+pub struct Held<'a, T, V, E, P: Release<T, V>, R> {
     permit: Permit<'a, T, V, P>,
+    seen: Watch<E>,
     strategy: PhantomData<R>,
     ghost holding: { P.use_at permit.view ≡ writes },
 }
 
-impl<'a, T, V, P: Release<T, V>, R> Guard<'a, T, V, P, R> {
-    ghost use Rattle.spin_core.specs.Guard.{guard_value, guard_view, guard_key, held_value, held_view, held_key};
+impl<'a, T, V, E, P: Release<T, V>, R> Guard<'a, T, V, E, P, R> {
+    ghost use Rattle.spin_core.specs.Guard.{guard_value, guard_view, guard_key, guard_seen, held_value, held_view, held_key, held_seen};
 
     /// Creates the guard of a party that acquired the lock.
     ///
     /// # Contract
-    /// The guard has the permit `writer`. The call returns.
-    pub fn new(writer: WritePermit<'a, T, V, P>) -> Self
-        ensures { result.writer ≡ writer.entry }
+    /// The guard has the permit `writer`, and knows what `seen` knows. The call returns.
+    pub fn new(writer: WritePermit<'a, T, V, P>, seen: Watch<E>) -> Self
+        ensures { (result.writer ≡ writer.entry) × (guard_seen result ≡ seen) }
     {
         Guard {
             writer,
+            seen,
             strategy: PhantomData,
         }
     }
@@ -86,40 +90,45 @@ impl<'a, T, V, P: Release<T, V>, R> Guard<'a, T, V, P, R> {
     pub fn leak(this: Self) -> &'a mut T
         ensures { result.now ≡ guard_value this.entry }
     {
-        Guard::into_writer(this).leak()
+        let (writer, _) = Guard::into_parts(this);
+        writer.leak()
     }
 
     /// Consumes the guard and keeps the lock held.
     ///
     /// # Contract
-    /// `held_value` of the hold is the value of the guard. The hold has the guard's party (`party`). The call returns.
-    pub fn hold(this: Self) -> Held<'a, T, V, P, R>
+    /// `held_value` of the hold is the value of the guard. The hold has the guard's party, and knows what the guard
+    /// knows (`party`). The call returns.
+    pub fn hold(this: Self) -> Held<'a, T, V, E, P, R>
         ensures value { held_value result ≡ Some (guard_value this.entry) }
-        ensures party { (held_view result ≡ Some (guard_view this.entry)) × (held_key result ≡ guard_key this.entry) }
+        ensures party { (held_view result ≡ Some (guard_view this.entry)) × (held_key result ≡ guard_key this.entry) × (held_seen result ≡ guard_seen this.entry) }
     {
+        let (writer, seen) = Guard::into_parts(this);
         Held {
-            permit: Guard::into_writer(this).into_permit(),
+            permit: writer.into_permit(),
+            seen,
             strategy: PhantomData,
         }
     }
 
-    /// Returns the permit of the guard's party.
+    /// Returns the permit of the guard's party, and what the party knows.
     ///
     /// # Contract
     /// The permit is the guard's. The call returns.
-    pub fn into_writer(this: Self) -> WritePermit<'a, T, V, P>
-        ensures { result ≡ this.entry.writer }
+    pub fn into_parts(this: Self) -> (WritePermit<'a, T, V, P>, Watch<E>)
+        ensures { (result.0 ≡ this.entry.writer) × (result.1 ≡ guard_seen this.entry) }
     {
         let Guard {
             writer,
+            seen,
             strategy: _,
         } = this;
-        writer
+        (writer, seen)
     }
 }
 
-impl<'a, T, V, P: Release<T, V>, R> Held<'a, T, V, P, R> {
-    ghost use Rattle.spin_core.specs.Guard.{guard_value, guard_view, guard_key, held_value, held_view, held_key};
+impl<'a, T, V, E, P: Release<T, V>, R> Held<'a, T, V, E, P, R> {
+    ghost use Rattle.spin_core.specs.Guard.{guard_value, guard_view, guard_key, guard_seen, held_value, held_view, held_key, held_seen};
 
     /// Turns the hold into a guard again.
     ///
@@ -127,11 +136,12 @@ impl<'a, T, V, P: Release<T, V>, R> Held<'a, T, V, P, R> {
     ///
     /// # Contract
     /// The guard has the hold's value and its party (`value`, `party`). The call returns.
-    pub fn into_guard(self) -> Guard<'a, T, V, P, R>
+    pub fn into_guard(self) -> Guard<'a, T, V, E, P, R>
         ensures value { Some (guard_value result) ≡ held_value self.entry }
-        ensures party { (Some (guard_view result) ≡ held_view self.entry) × (guard_key result ≡ held_key self.entry) }
+        ensures party { (Some (guard_view result) ≡ held_view self.entry) × (guard_key result ≡ held_key self.entry) × (guard_seen result ≡ held_seen self.entry) }
     {
-        Guard::new(self.into_permit().into_writer())
+        let (permit, seen) = self.into_parts();
+        Guard::new(permit.into_writer(), seen)
     }
 
     /// Releases the lock that this `Held` holds.
@@ -139,22 +149,24 @@ impl<'a, T, V, P: Release<T, V>, R> Held<'a, T, V, P, R> {
     /// # Contract
     /// Only that the call returns.
     pub fn release(self) {
-        P::release(self.into_permit().into_writer());
+        let (permit, _) = self.into_parts();
+        let _left = P::release(permit.into_writer());
     }
 
-    fn into_permit(self) -> Permit<'a, T, V, P>
-        ensures writes { use_of (P.ways result.key).1 result.view ≡ writes }
-        ensures same { result ≡ self.entry.permit }
+    fn into_parts(self) -> (Permit<'a, T, V, P>, Watch<E>)
+        ensures writes { use_of (P.ways result.0.key).1 result.0.view ≡ writes }
+        ensures same { (result.0 ≡ self.entry.permit) × (result.1 ≡ held_seen self.entry) }
     {
         let Self {
             permit,
+            seen,
             strategy: _,
         } = self;
-        permit
+        (permit, seen)
     }
 }
 
-impl<T, V, P: Release<T, V>, R> Deref for Guard<'_, T, V, P, R> {
+impl<T, V, E, P: Release<T, V>, R> Deref for Guard<'_, T, V, E, P, R> {
     ghost use Rattle.spin_core.specs.Guard.{guard_value};
 
     type Target = T;
@@ -168,7 +180,7 @@ impl<T, V, P: Release<T, V>, R> Deref for Guard<'_, T, V, P, R> {
     }
 }
 
-impl<T, V, P: Release<T, V>, R> DerefMut for Guard<'_, T, V, P, R> {
+impl<T, V, E, P: Release<T, V>, R> DerefMut for Guard<'_, T, V, E, P, R> {
     ghost use Rattle.std.specs.Prelude.{[]};
     ghost use mir.Syntax.{named};
     ghost use types.Logic.{sem};
@@ -179,33 +191,35 @@ impl<T, V, P: Release<T, V>, R> DerefMut for Guard<'_, T, V, P, R> {
     ghost deref_mut_gives = { λ g x. x ≡ guard_value g };
 
     fn deref_mut(&mut self) -> &mut T
-        ensures* writes_back { sem 𝓛 (follows (the_row (record { mir = named 1; lft = [] }) T.row V.row P.row R.row P.Key.row P.Second.row P.Rule) T.row self.entry.ghost_name result.ghost_name (guard_with self.old)) }
+        ensures* writes_back { sem 𝓛 (follows (the_row (record { mir = named 1; lft = [] }) T.row V.row E.row P.row R.row P.Key.row P.Second.row P.Rule) T.row self.entry.ghost_name result.ghost_name (guard_with self.old)) }
         ensures value { result.now ≡ guard_value self.old }
     {
         self.writer.get_mut()
     }
 }
 
-impl<T, V, P: Release<T, V>, R> Drop for Guard<'_, T, V, P, R> {
+impl<T, V, E, P: Release<T, V>, R> Drop for Guard<'_, T, V, E, P, R> {
     fn drop(self) {
-        P::release(Guard::into_writer(self));
+        let (writer, _) = Guard::into_parts(self);
+        let _left = P::release(writer);
     }
 }
 
-impl<T, V, P: Release<T, V>, R> Drop for Held<'_, T, V, P, R> {
+impl<T, V, E, P: Release<T, V>, R> Drop for Held<'_, T, V, E, P, R> {
     fn drop(self) {
-        self.into_permit().leak();
+        let (permit, _) = self.into_parts();
+        permit.leak();
     }
 }
 
 // SAFETY: the new thread has the value to itself, like the old one.
-unsafe impl<T: Send, V, P: Release<T, V> + Sync, R> Send for Guard<'_, T, V, P, R> {}
+unsafe impl<T: Send, V, E, P: Release<T, V> + Sync, R> Send for Guard<'_, T, V, E, P, R> {}
 
 // SAFETY: a shared guard lends a `&T` and no more.
-unsafe impl<T: Sync, V, P: Release<T, V>, R> Sync for Guard<'_, T, V, P, R> {}
+unsafe impl<T: Sync, V, E, P: Release<T, V>, R> Sync for Guard<'_, T, V, E, P, R> {}
 
 // SAFETY: the new thread may release the lock, and so pass the value to its next user. The bounds are those of a guard.
-unsafe impl<T: Send, V, P: Release<T, V> + Sync, R> Send for Held<'_, T, V, P, R> {}
+unsafe impl<T: Send, V, E, P: Release<T, V> + Sync, R> Send for Held<'_, T, V, E, P, R> {}
 
 // SAFETY: a shared hold lends nothing.
-unsafe impl<T: Send, V, P: Release<T, V> + Sync, R> Sync for Held<'_, T, V, P, R> {}
+unsafe impl<T: Send, V, E, P: Release<T, V> + Sync, R> Sync for Held<'_, T, V, E, P, R> {}

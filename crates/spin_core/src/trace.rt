@@ -3,7 +3,7 @@ ghost use Rattle.std.specs.Prelude.{◌≡◌, ◌⊎◌, ℕ, List, []};
 ghost use Rattle.std.specs.Coded.{coded_list};
 ghost use mathlib.Core.List.{IsPrefix};
 ghost use denote.Sharing.{said};
-ghost use Rattle.spin_core.specs.Logs.{log_owns, log_shares, known_owns};
+ghost use Rattle.spin_core.specs.Logs.{log_owns, log_shares, known_owns, KnowsBoth};
 
 use crate::cell::let_go;
 use std::marker::{Model, PhantomData};
@@ -87,6 +87,30 @@ impl<E> Watch<E> {
     /// Returns a watch that knows the same.
     pub fn copy(&self) -> Watch<E>
         ensures { (result.name ≡ self.now.name) × (result.entries ≡ self.now.entries) }
+    {
+        Watch {
+            marker: PhantomData,
+        }
+    }
+
+    /// Returns a watch under the name that the caller chooses. It knows what this watch knows if this is its name too,
+    /// and otherwise nothing. It does nothing at run time.
+    pub fn under(&self) -> Watch<E>
+        ghost name: { ℕ }
+        ensures { (result.name ≡ name) × (self.now.name ≡ name → result.entries ≡ self.now.entries) }
+    {
+        Watch {
+            marker: PhantomData,
+        }
+    }
+
+    /// Returns a watch that knows what each of two watches of one trace knows. It does nothing at run time.
+    ///
+    /// # Contract
+    /// The result knows the longer of the two lists, of which the other is a prefix (`KnowsBoth`).
+    pub fn later(&self, other: &Watch<E>) -> Watch<E>
+        requires { self.now.name ≡ other.now.name }
+        ensures { (result.name ≡ self.now.name) × KnowsBoth self.now.entries other.now.entries result.entries }
     {
         Watch {
             marker: PhantomData,

@@ -1,15 +1,14 @@
 -- The steps of a value that at most two parties read keep its rule.
-use Rattle.std.proofs.Common.{◌≡◌, ℕ, ◌+◌, ◌-◌, ◌%◌, ◌^◌, ◌<◌, ◌==◌, List, [], ◌∷◌, ◌++◌, Bool, if◌then◌else◌, Option, Some, None, refl, sym, subst, eq-eqb, ne_eqb, arith}
+use Rattle.std.proofs.Common.{◌≡◌, ℕ, ◌+◌, ◌-◌, ◌%◌, ◌^◌, ◌<◌, ◌==◌, List, [], ◌∷◌, ◌++◌, Bool, if◌then◌else◌, Some, None, refl, sym, subst, eq-eqb, ne_eqb, arith}
 use mathlib.Core.Logic.{dite}
 use native.Mathlib.Decide.{ℕ_discrete}
 use prog.Atomic.{either}
 use Rattle.std.proofs.lemmas.List.{length-append}
 use Rattle.std.specs.Prelude.{length}
-use Rattle.spin_core.specs.Cell.{Ways, reading, writing, Meets, after, Rests, Moved}
-use Rattle.spin_core.specs.Traced.{grown, Traces, Watches}
+use Rattle.spin_core.specs.Cell.{Ways, reading, writing, Meets, after}
+use Rattle.spin_core.specs.Traced.{grown, Traces}
 use Rattle.spin_core.specs.declared.trace.Trace.{Trace}
-use Rattle.spin_core.specs.declared.trace.Watch.{Watch}
-use Rattle.spin_core.proofs.CellCounts.{none, moves, without}
+use Rattle.spin_core.proofs.CellCounts.{none, moves}
 use Rattle.spin_core_tests.specs.Pair.{use_of_view, pair_ways, IsPair, Joins, Leaves}
 use Rattle.spin_core_tests.specs.declared.pair.View.{View}
 use Rattle.spin_core_tests.specs.declared.pair.View.TheVariants.{Away, Reading}
@@ -43,11 +42,3 @@ reads_on others new few e id n t vs has at small =
 pub stops : Traces {S = Unit {0}} IsPair ways (Some Reading) None (λ n. (n + (2 ^ 64 - 1)) % 2 ^ 64) (Leaves 1 0 (Some Reading))
 stops id n t vs has at small = let r = moves (λ v. reading (use_of_view v)) id (Some Reading) vs Away at in let l = longer t [] in
     (Away, [], meets ((n + (2 ^ 64 - 1)) % 2 ^ 64) (grown t []) (after id (Some Reading) vs Away) (omega (arith, has.0.0, has.0.1), omega (arith, has.0.0, has.0.1), omega (arith, has.0.0, has.0.1, has.0.2)), (refl, refl))
-
-away_rests : Rests {S = Log} (IsPair {S = Unit {0}}) use_of_view (Some Away)
-away_rests = (refl, λ n t before behind is. let c = without (λ v. reading (use_of_view v)) before behind Away in (omega (arith, is.0), is.1, is.2))
-
-module _ (named : Type 0) (before now : Watch (Unit {0})) where
-  pub left_rests : (view : Option View) → Moved (Watches named before now (Leaves 1 0 (Some Reading)) 0) view → Rests {S = Log} (IsPair {S = Unit {0}}) use_of_view view
-  left_rests None moved = absurd moved
-  left_rests (Some v) moved = subst (λ (w : View). Rests {S = Log} (IsPair {S = Unit {0}}) use_of_view (Some w)) (sym moved.1.4.0) away_rests

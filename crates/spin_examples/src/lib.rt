@@ -1,9 +1,13 @@
-//! The examples that the pages print: callers of the locks, and of `spin_history` where a log is kept.
+//! The examples that the pages print: callers of the locks, of the seated locks, and of `spin_history` where a log is
+//! kept.
 //!
 //! Begin with [`from_rust`].
 #![tactic(auto)]
 
+pub mod adding;
+pub mod after;
 pub mod any_lock;
+pub mod batch;
 pub mod from_rust;
 pub mod guide;
 pub mod order;
@@ -14,8 +18,9 @@ pub mod passes_lazy;
 pub mod passes_once;
 pub mod passes_rw;
 pub mod passes_ticket;
+pub mod publishing;
 pub mod registers;
 pub mod totals;
+pub mod two_locks;
 pub mod versions;
-pub mod written;
 pub mod written_rw;

@@ -1,49 +1,39 @@
 //! Three threads call one `SpinMutex`, each by a pass of its own. The contracts say what the passes know.
 ghost use Rattle.std.specs.Prelude.{◌≡◌, ◌⊎◌};
 ghost use mathlib.Core.List.{IsPrefix};
-ghost use Rattle.spin.specs.Passes.{history, lock_of, Looked, HeldOnce};
+ghost use Rattle.spin.specs.Passes.{◌⨾◌, history, lock_of, Calls, WroteSome, Lock, IsLocked, Release, Granted, Is};
 
 use spin::Spin;
-use spin::mutex::spin::Pass;
-use spin::mutex::{SpinMutex, SpinMutexGuard};
+use spin::mutex::{self, SpinMutex, SpinMutexGuard};
 use std::sync::Wait;
 use std::thread::{Threads, join};
 
+type Pass<'a> = mutex::spin::Pass<'a, u64, Spin>;
+
 /// Adds 1, unless the value is the largest number. The pass acquires the lock and releases it, once.
-fn count<'a, W: Wait>(rt: &W, pass: Pass<'a, u64, Spin>) -> Pass<'a, u64, Spin>
-    ensures made { HeldOnce pass.entry result }
+fn count<'a, W: Wait>(rt: &W, pass: Pass<'a>) -> Pass<'a>
+    ensures made { (Calls Lock Granted ⨾ WroteSome Release) pass.entry result }
     ensures lock { lock_of result ≡ lock_of pass.entry }
 {
-    let (mut guard, seen) = pass.lock(rt);
+    let mut guard = pass.lock(rt);
     *guard = guard.saturating_add(1);
-    SpinMutex::unlock(guard, seen)
+    SpinMutex::unlock(guard)
 }
 
 /// Turns the guard into a hold and back. Then doubles the value, or writes the largest number if twice the value does
 /// not fit. The new calls of the pass are one `lock` and its release.
-pub fn double_by_a_hold<'a, W: Wait>(rt: &W, pass: Pass<'a, u64, Spin>) -> Pass<'a, u64, Spin>
+pub fn double_by_a_hold<'a, W: Wait>(rt: &W, pass: Pass<'a>) -> Pass<'a>
     ensures lock { lock_of result ≡ lock_of pass.entry }
 {
-    let (guard, seen) = pass.lock(rt);
-    let held = SpinMutexGuard::hold(guard);
-    let mut guard = held.into_guard();
+    let mut guard = SpinMutexGuard::hold(pass.lock(rt)).into_guard();
     *guard = guard.saturating_mul(2);
-    SpinMutex::unlock(guard, seen)
-}
-
-/// Looks once whether the lock is held.
-fn look(pass: Pass<'_, u64, Spin>) -> (bool, Pass<'_, u64, Spin>)
-    ensures made { Looked result.0 pass.entry result.1 }
-    ensures lock { lock_of result.1 ≡ lock_of pass.entry }
-{
-    let (set, pass) = pass.is_locked();
-    (set, pass)
+    SpinMutex::unlock(guard)
 }
 
 /// Tries once to acquire the lock. If the try succeeds, releases the lock at once.
-pub fn try_once(lock: &SpinMutex<u64>) -> Pass<'_, u64, Spin> {
+pub fn try_once(lock: &SpinMutex<u64>) -> Pass<'_> {
     match lock.pass().try_lock() {
-        Ok((guard, seen)) => SpinMutex::unlock(guard, seen),
+        Ok(guard) => SpinMutex::unlock(guard),
         Err(pass) => pass,
     }
 }
@@ -56,40 +46,37 @@ pub fn try_once(lock: &SpinMutex<u64>) -> Pass<'_, u64, Spin> {
 /// a prefix of the history that the other knows. The same is true of the second and the third (`one_history`).
 pub fn count_beside_look<'a, W: Threads + Wait + Sync>(
     rt: &W,
-    one: Pass<'a, u64, Spin>,
-    two: Pass<'a, u64, Spin>,
-    three: Pass<'a, u64, Spin>,
-) -> (
-    Pass<'a, u64, Spin>,
-    (Pass<'a, u64, Spin>, (bool, Pass<'a, u64, Spin>)),
-)
+    one: Pass<'a>,
+    two: Pass<'a>,
+    three: Pass<'a>,
+) -> (Pass<'a>, (Pass<'a>, (bool, Pass<'a>)))
     requires { (lock_of one ≡ lock_of two) × (lock_of two ≡ lock_of three) }
-    ensures first { HeldOnce one.entry result.0 }
-    ensures second { HeldOnce two.entry result.1.0 }
-    ensures looked { Looked result.1.1.0 three.entry result.1.1.1 }
+    ensures first { (Calls Lock Granted ⨾ WroteSome Release) one.entry result.0 }
+    ensures second { (Calls Lock Granted ⨾ WroteSome Release) two.entry result.1.0 }
+    ensures looked { Calls IsLocked (Is result.1.1.0) three.entry result.1.1.1 }
     ensures one_history { (IsPrefix (history result.0) (history result.1.0) ⊎ IsPrefix (history result.1.0) (history result.0)) × (IsPrefix (history result.1.0) (history result.1.1.1) ⊎ IsPrefix (history result.1.1.1) (history result.1.0)) }
 {
     let all = join(
         rt,
-        || -> Pass<'_, u64, Spin>
-            ensures made { HeldOnce one.entry result }
+        || -> Pass<'_>
+            ensures made { (Calls Lock Granted ⨾ WroteSome Release) one.entry result }
             ensures lock { lock_of result ≡ lock_of one.entry }
         { count(rt, one) },
-        || -> (Pass<'_, u64, Spin>, (bool, Pass<'_, u64, Spin>))
-            ensures second { HeldOnce two.entry result.0 }
-            ensures looked { Looked result.1.0 three.entry result.1.1 }
+        || -> (Pass<'_>, (bool, Pass<'_>))
+            ensures second { (Calls Lock Granted ⨾ WroteSome Release) two.entry result.0 }
+            ensures looked { Calls IsLocked (Is result.1.0) three.entry result.1.1 }
             ensures lock { (lock_of result.0 ≡ lock_of two.entry) × (lock_of result.1.1 ≡ lock_of three.entry) }
         {
             join(
                 rt,
-                || -> Pass<'_, u64, Spin>
-                    ensures made { HeldOnce two.entry result }
+                || -> Pass<'_>
+                    ensures made { (Calls Lock Granted ⨾ WroteSome Release) two.entry result }
                     ensures lock { lock_of result ≡ lock_of two.entry }
                 { count(rt, two) },
-                || -> (bool, Pass<'_, u64, Spin>)
-                    ensures made { Looked result.0 three.entry result.1 }
+                || -> (bool, Pass<'_>)
+                    ensures made { Calls IsLocked (Is result.0) three.entry result.1 }
                     ensures lock { lock_of result.1 ≡ lock_of three.entry }
-                { look(three) },
+                { three.is_locked() },
             )
         },
     );

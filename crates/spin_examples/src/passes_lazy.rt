@@ -1,12 +1,16 @@
 //! Three threads call one `LazyLock`, each by a pass of its own. The contracts say what the passes know.
 ghost use Rattle.std.specs.Prelude.{◌≡◌, ◌⊎◌};
 ghost use mathlib.Core.List.{IsPrefix};
-ghost use Rattle.spin.specs.LazyPasses.{history, lock_of, name_of, Forced};
+ghost use Rattle.spin.specs.LazyPasses.{history, lock_of, name_of, Calls};
+ghost use Rattle.spin.specs.OnceCalls.{CallOnce};
+ghost use Rattle.spin.specs.Answers.{Value};
 
 use spin::Spin;
-use spin::lazylock::{LazyLock, Makes, Pass};
+use spin::lazylock::{self, LazyLock, Makes};
 use std::sync::Wait;
 use std::thread::{Threads, join};
+
+type Pass<'a> = lazylock::Pass<'a, u64, Seven, Spin, ()>;
 
 /// An initialiser that makes a 7.
 #[derive(Drop)]
@@ -19,11 +23,8 @@ impl Makes<u64, ()> for Seven {
 }
 
 /// Asks for the value once.
-fn force<'a, W: Wait>(
-    rt: &W,
-    pass: Pass<'a, u64, Seven, Spin, ()>,
-) -> (u64, Pass<'a, u64, Seven, Spin, ()>)
-    ensures made { Forced pass.entry result.1 }
+fn force<'a, W: Wait>(rt: &W, pass: Pass<'a>) -> (u64, Pass<'a>)
+    ensures made { Calls (CallOnce tt) (Value tt) pass.entry result.1 }
     ensures lock { lock_of result.1 ≡ lock_of pass.entry }
 {
     let (value, pass) = pass.force(rt);
@@ -37,34 +38,25 @@ fn force<'a, W: Wait>(
 pub fn force_by_three<'a, W: Threads + Wait + Sync>(
     rt: &W,
     lazy: &'a LazyLock<u64, Seven>,
-) -> (
-    (u64, Pass<'a, u64, Seven, Spin, ()>),
-    (
-        (u64, Pass<'a, u64, Seven, Spin, ()>),
-        (u64, Pass<'a, u64, Seven, Spin, ()>),
-    ),
-)
+) -> ((u64, Pass<'a>), ((u64, Pass<'a>), (u64, Pass<'a>)))
     ensures first_second { IsPrefix (history result.0.1) (history result.1.0.1) ⊎ IsPrefix (history result.1.0.1) (history result.0.1) }
     ensures first_third { IsPrefix (history result.0.1) (history result.1.1.1) ⊎ IsPrefix (history result.1.1.1) (history result.0.1) }
     ensures second_third { IsPrefix (history result.1.0.1) (history result.1.1.1) ⊎ IsPrefix (history result.1.1.1) (history result.1.0.1) }
 {
     let all = join(
         rt,
-        || -> (u64, Pass<'_, u64, Seven, Spin, ()>)
+        || -> (u64, Pass<'_>)
             ensures { lock_of result.1 ≡ name_of lazy.entry.now }
         { force(rt, LazyLock::pass(lazy)) },
-        || -> (
-            (u64, Pass<'_, u64, Seven, Spin, ()>),
-            (u64, Pass<'_, u64, Seven, Spin, ()>),
-        )
+        || -> ((u64, Pass<'_>), (u64, Pass<'_>))
             ensures { (lock_of result.0.1 ≡ name_of lazy.entry.now) × (lock_of result.1.1 ≡ name_of lazy.entry.now) }
         {
             join(
                 rt,
-                || -> (u64, Pass<'_, u64, Seven, Spin, ()>)
+                || -> (u64, Pass<'_>)
                     ensures { lock_of result.1 ≡ name_of lazy.entry.now }
                 { force(rt, LazyLock::pass(lazy)) },
-                || -> (u64, Pass<'_, u64, Seven, Spin, ()>)
+                || -> (u64, Pass<'_>)
                     ensures { lock_of result.1 ≡ name_of lazy.entry.now }
                 { force(rt, LazyLock::pass(lazy)) },
             )

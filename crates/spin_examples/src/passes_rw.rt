@@ -1,61 +1,45 @@
 //! Three threads call one read-write lock, each by a pass of its own. The contracts say what the passes know.
 ghost use Rattle.std.specs.Prelude.{◌≡◌, ◌⊎◌};
 ghost use mathlib.Core.List.{IsPrefix};
-ghost use Rattle.spin.specs.RwPasses.{history, lock_of, name_of, ReadOnce, WroteOnce, RaisedOnce, CountedReaders, CountedWriters};
+ghost use Rattle.spin.specs.RwPasses.{◌⨾◌, history, lock_of, name_of, Calls, WroteSome};
+ghost use Rattle.spin.specs.RwCalls.{Read, UpgradeableRead, Upgrade, Write, Release};
+ghost use Rattle.spin.specs.Answers.{Granted, Done};
 
 use spin::Spin;
-use spin::rwlock::{Pass, RwLock};
+use spin::rwlock::{self, RwLock};
 use std::sync::Wait;
 use std::thread::{Threads, join};
 
+type Pass<'a> = rwlock::Pass<'a, u64, Spin>;
+
 /// Adds 1 as the writer, unless the value is the largest number.
-fn add<'a, W: Wait>(rt: &W, pass: Pass<'a, u64, Spin>) -> Pass<'a, u64, Spin>
-    ensures made { WroteOnce pass.entry result }
+fn add<'a, W: Wait>(rt: &W, pass: Pass<'a>) -> Pass<'a>
+    ensures made { (Calls Write Granted ⨾ WroteSome Release) pass.entry result }
     ensures lock { lock_of result ≡ lock_of pass.entry }
 {
-    let (mut guard, seen) = pass.write(rt);
+    let mut guard = pass.write(rt);
     *guard = guard.saturating_add(1);
-    RwLock::unlock(guard, seen)
+    RwLock::unlock(guard)
 }
 
 /// Reads the value once.
-fn read<'a, W: Wait>(rt: &W, pass: Pass<'a, u64, Spin>) -> (u64, Pass<'a, u64, Spin>)
-    ensures made { ReadOnce pass.entry result.1 }
+fn read<'a, W: Wait>(rt: &W, pass: Pass<'a>) -> (u64, Pass<'a>)
+    ensures made { (Calls Read Granted ⨾ Calls Release Done) pass.entry result.1 }
     ensures lock { lock_of result.1 ≡ lock_of pass.entry }
 {
-    let (guard, seen) = pass.read(rt);
+    let guard = pass.read(rt);
     let value = *guard;
-    let pass = RwLock::unlock_shared(guard, seen);
-    (value, pass)
-}
-
-/// Counts the readers once.
-fn count(pass: Pass<'_, u64, Spin>) -> (usize, Pass<'_, u64, Spin>)
-    ensures made { CountedReaders result.0 pass.entry result.1 }
-    ensures lock { lock_of result.1 ≡ lock_of pass.entry }
-{
-    let (readers, pass) = pass.reader_count();
-    (readers, pass)
-}
-
-/// Counts the writers once.
-pub fn count_writers(pass: Pass<'_, u64, Spin>) -> (usize, Pass<'_, u64, Spin>)
-    ensures made { CountedWriters result.0 pass.entry result.1 }
-    ensures lock { lock_of result.1 ≡ lock_of pass.entry }
-{
-    let (writers, pass) = pass.writer_count();
-    (writers, pass)
+    (value, RwLock::unlock_shared(guard))
 }
 
 /// Acquires the lock as an upgradable reader, becomes the writer, and doubles the value, up to the largest number.
-pub fn double<'a, W: Wait>(rt: &W, pass: Pass<'a, u64, Spin>) -> Pass<'a, u64, Spin>
-    ensures made { RaisedOnce pass.entry result }
+pub fn double<'a, W: Wait>(rt: &W, pass: Pass<'a>) -> Pass<'a>
+    ensures made { (Calls UpgradeableRead Granted ⨾ Calls Upgrade Granted ⨾ WroteSome Release) pass.entry result }
     ensures lock { lock_of result ≡ lock_of pass.entry }
 {
-    let (guard, seen) = pass.upgradeable_read(rt);
-    let (mut guard, seen) = guard.upgrade_seen(rt, seen);
+    let mut guard = pass.upgradeable_read(rt).upgrade(rt);
     *guard = guard.saturating_mul(2);
-    RwLock::unlock(guard, seen)
+    RwLock::unlock(guard)
 }
 
 /// Writes in one thread, reads in another, and counts the readers in a third.
@@ -65,30 +49,27 @@ pub fn double<'a, W: Wait>(rt: &W, pass: Pass<'a, u64, Spin>) -> Pass<'a, u64, S
 pub fn write_beside_readers<'a, W: Threads + Wait + Sync>(
     rt: &W,
     lock: &'a RwLock<u64>,
-) -> (
-    Pass<'a, u64, Spin>,
-    ((u64, Pass<'a, u64, Spin>), (usize, Pass<'a, u64, Spin>)),
-)
+) -> (Pass<'a>, ((u64, Pass<'a>), (usize, Pass<'a>)))
     ensures written_read { IsPrefix (history result.0) (history result.1.0.1) ⊎ IsPrefix (history result.1.0.1) (history result.0) }
     ensures written_counted { IsPrefix (history result.0) (history result.1.1.1) ⊎ IsPrefix (history result.1.1.1) (history result.0) }
     ensures read_counted { IsPrefix (history result.1.0.1) (history result.1.1.1) ⊎ IsPrefix (history result.1.1.1) (history result.1.0.1) }
 {
     let all = join(
         rt,
-        || -> Pass<'_, u64, Spin>
+        || -> Pass<'_>
             ensures { lock_of result ≡ name_of lock.entry.now }
         { add(rt, lock.pass()) },
-        || -> ((u64, Pass<'_, u64, Spin>), (usize, Pass<'_, u64, Spin>))
+        || -> ((u64, Pass<'_>), (usize, Pass<'_>))
             ensures { (lock_of result.0.1 ≡ name_of lock.entry.now) × (lock_of result.1.1 ≡ name_of lock.entry.now) }
         {
             join(
                 rt,
-                || -> (u64, Pass<'_, u64, Spin>)
+                || -> (u64, Pass<'_>)
                     ensures { lock_of result.1 ≡ name_of lock.entry.now }
                 { read(rt, lock.pass()) },
-                || -> (usize, Pass<'_, u64, Spin>)
+                || -> (usize, Pass<'_>)
                     ensures { lock_of result.1 ≡ name_of lock.entry.now }
-                { count(lock.pass()) },
+                { lock.pass().reader_count() },
             )
         },
     );
@@ -100,7 +81,7 @@ pub fn write_beside_readers<'a, W: Threads + Wait + Sync>(
 
 /// Adds 1, unless the value is the largest number. Then reads the value, which another thread may have changed since.
 /// Both calls take a closure that gets the value under the lock.
-pub fn add_and_read<'a, W: Wait>(rt: &W, pass: Pass<'a, u64, Spin>) -> (u64, Pass<'a, u64, Spin>)
+pub fn add_and_read<'a, W: Wait>(rt: &W, pass: Pass<'a>) -> (u64, Pass<'a>)
     ensures lock { lock_of result.1 ≡ lock_of pass.entry }
 {
     let (_, pass) = pass.with(rt, |value| *value = value.saturating_add(1));
@@ -110,26 +91,19 @@ pub fn add_and_read<'a, W: Wait>(rt: &W, pass: Pass<'a, u64, Spin>) -> (u64, Pas
 
 /// Tries once to acquire the lock in each way. As an upgradable reader it also tries once to upgrade. Each time it has
 /// acquired the lock, it releases the lock again.
-pub fn try_each<'a, W: Wait>(rt: &W, pass: Pass<'a, u64, Spin>) -> Pass<'a, u64, Spin> {
+pub fn try_each<'a, W: Wait>(rt: &W, pass: Pass<'a>) -> Pass<'a> {
     let pass = match pass.try_read(rt) {
-        Ok((guard, seen)) => RwLock::unlock_shared(guard, seen),
+        Ok(guard) => RwLock::unlock_shared(guard),
         Err(pass) => pass,
     };
     let pass = match pass.try_write() {
-        Ok((guard, seen)) => {
-            let (guard, seen) = guard.downgrade_to_upgradeable_seen(seen);
-            let (guard, seen) = guard.downgrade_seen(seen);
-            RwLock::unlock_shared(guard, seen)
-        }
+        Ok(guard) => { RwLock::unlock_shared(guard.downgrade_to_upgradeable().downgrade()) }
         Err(pass) => pass,
     };
     match pass.try_upgradeable_read(rt) {
-        Ok((guard, seen)) => match guard.try_upgrade_seen(seen) {
-            Ok((guard, seen)) => {
-                let (guard, seen) = guard.downgrade_seen(seen);
-                RwLock::unlock_shared(guard, seen)
-            }
-            Err((guard, seen)) => RwLock::unlock_shared(guard, seen),
+        Ok(guard) => match guard.try_upgrade() {
+            Ok(guard) => RwLock::unlock_shared(guard.downgrade()),
+            Err(guard) => RwLock::unlock_shared(guard),
         },
         Err(pass) => pass,
     }

@@ -1,36 +1,30 @@
 //! Three threads call one `TicketMutex`, each by a pass of its own. The contracts say what the passes know.
 ghost use Rattle.std.specs.Prelude.{◌≡◌, ◌⊎◌};
 ghost use mathlib.Core.List.{IsPrefix};
-ghost use Rattle.spin.specs.TicketPasses.{history, lock_of, HeldOnce, Looked};
+ghost use Rattle.spin.specs.TicketPasses.{◌⨾◌, history, lock_of, Calls, WroteSome, Lock, Release};
+ghost use Rattle.spin.specs.Answers.{Granted};
 
 use spin::Spin;
-use spin::mutex::TicketMutex;
-use spin::mutex::ticket::Pass;
+use spin::mutex::{TicketMutex, ticket};
 use std::sync::Wait;
 use std::thread::{Threads, join};
 
+type Pass<'a> = ticket::Pass<'a, u64, Spin>;
+
 /// Adds 1, unless the value is the largest number. The pass acquires the lock and releases it, once.
-fn count<'a, W: Wait>(rt: &W, pass: Pass<'a, u64, Spin>) -> Pass<'a, u64, Spin>
-    ensures made { HeldOnce pass.entry result }
+fn count<'a, W: Wait>(rt: &W, pass: Pass<'a>) -> Pass<'a>
+    ensures made { (Calls Lock Granted ⨾ WroteSome Release) pass.entry result }
     ensures lock { lock_of result ≡ lock_of pass.entry }
 {
-    let (mut guard, seen) = pass.lock(rt);
+    let mut guard = pass.lock(rt);
     *guard = guard.saturating_add(1);
-    TicketMutex::unlock(guard, seen)
-}
-
-/// Looks once whether the lock is held.
-pub fn look(pass: Pass<'_, u64, Spin>) -> (bool, Pass<'_, u64, Spin>)
-    ensures made { Looked result.0 pass.entry result.1 }
-{
-    let (held, pass) = pass.is_locked();
-    (held, pass)
+    TicketMutex::unlock(guard)
 }
 
 /// Tries once to acquire the lock. If the try succeeds, releases the lock at once.
-pub fn try_once(pass: Pass<'_, u64, Spin>) -> Pass<'_, u64, Spin> {
+pub fn try_once(pass: Pass<'_>) -> Pass<'_> {
     match pass.try_lock() {
-        Ok((guard, seen)) => TicketMutex::unlock(guard, seen),
+        Ok(guard) => TicketMutex::unlock(guard),
         Err(pass) => pass,
     }
 }
@@ -43,38 +37,35 @@ pub fn try_once(pass: Pass<'_, u64, Spin>) -> Pass<'_, u64, Spin> {
 /// second and the third (`one_history`).
 pub fn count_by_three<'a, W: Threads + Wait + Sync>(
     rt: &W,
-    one: Pass<'a, u64, Spin>,
-    two: Pass<'a, u64, Spin>,
-    three: Pass<'a, u64, Spin>,
-) -> (
-    Pass<'a, u64, Spin>,
-    (Pass<'a, u64, Spin>, Pass<'a, u64, Spin>),
-)
+    one: Pass<'a>,
+    two: Pass<'a>,
+    three: Pass<'a>,
+) -> (Pass<'a>, (Pass<'a>, Pass<'a>))
     requires { (lock_of one ≡ lock_of two) × (lock_of two ≡ lock_of three) }
-    ensures first { HeldOnce one.entry result.0 }
-    ensures second { HeldOnce two.entry result.1.0 }
-    ensures third { HeldOnce three.entry result.1.1 }
+    ensures first { (Calls Lock Granted ⨾ WroteSome Release) one.entry result.0 }
+    ensures second { (Calls Lock Granted ⨾ WroteSome Release) two.entry result.1.0 }
+    ensures third { (Calls Lock Granted ⨾ WroteSome Release) three.entry result.1.1 }
     ensures one_history { (IsPrefix (history result.0) (history result.1.0) ⊎ IsPrefix (history result.1.0) (history result.0)) × (IsPrefix (history result.1.0) (history result.1.1) ⊎ IsPrefix (history result.1.1) (history result.1.0)) }
 {
     let all = join(
         rt,
-        || -> Pass<'_, u64, Spin>
-            ensures made { HeldOnce one.entry result }
+        || -> Pass<'_>
+            ensures made { (Calls Lock Granted ⨾ WroteSome Release) one.entry result }
             ensures lock { lock_of result ≡ lock_of one.entry }
         { count(rt, one) },
-        || -> (Pass<'_, u64, Spin>, Pass<'_, u64, Spin>)
-            ensures second { HeldOnce two.entry result.0 }
-            ensures third { HeldOnce three.entry result.1 }
+        || -> (Pass<'_>, Pass<'_>)
+            ensures second { (Calls Lock Granted ⨾ WroteSome Release) two.entry result.0 }
+            ensures third { (Calls Lock Granted ⨾ WroteSome Release) three.entry result.1 }
             ensures lock { (lock_of result.0 ≡ lock_of two.entry) × (lock_of result.1 ≡ lock_of three.entry) }
         {
             join(
                 rt,
-                || -> Pass<'_, u64, Spin>
-                    ensures made { HeldOnce two.entry result }
+                || -> Pass<'_>
+                    ensures made { (Calls Lock Granted ⨾ WroteSome Release) two.entry result }
                     ensures lock { lock_of result ≡ lock_of two.entry }
                 { count(rt, two) },
-                || -> Pass<'_, u64, Spin>
-                    ensures made { HeldOnce three.entry result }
+                || -> Pass<'_>
+                    ensures made { (Calls Lock Granted ⨾ WroteSome Release) three.entry result }
                     ensures lock { lock_of result ≡ lock_of three.entry }
                 { count(rt, three) },
             )

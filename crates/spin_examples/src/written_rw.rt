@@ -5,28 +5,30 @@ ghost use Rattle.spin.specs.RwPasses.{history, lock_of, name_of, opening, openin
 ghost use Rattle.spin.specs.Values.{IsLast, latest};
 
 use spin::Spin;
-use spin::rwlock::{Pass, RwLock};
+use spin::rwlock::{self, RwLock};
 use std::sync::Wait;
 use std::thread::{Threads, join};
 
+type Pass<'a> = rwlock::Pass<'a, u64, Spin>;
+
 /// Writes the value. Afterwards it is the last one in the history that the pass knows.
-fn write<'a, W: Wait>(rt: &W, pass: Pass<'a, u64, Spin>, value: u64) -> Pass<'a, u64, Spin>
+fn write<'a, W: Wait>(rt: &W, pass: Pass<'a>, value: u64) -> Pass<'a>
     ensures left { IsLast (opening_of pass.entry) (history result) value }
     ensures lock { lock_of result ≡ lock_of pass.entry }
 {
-    let (mut guard, seen) = pass.write(rt);
+    let mut guard = pass.write(rt);
     *guard = value;
-    RwLock::unlock(guard, seen)
+    RwLock::unlock(guard)
 }
 
 /// Reads the value. It is the last one in the history that the pass knows. Other readers may read at the same time.
-fn read<'a, W: Wait>(rt: &W, pass: Pass<'a, u64, Spin>) -> (u64, Pass<'a, u64, Spin>)
+fn read<'a, W: Wait>(rt: &W, pass: Pass<'a>) -> (u64, Pass<'a>)
     ensures found { IsLast (opening_of pass.entry) (history result.1) result.0 }
     ensures lock { lock_of result.1 ≡ lock_of pass.entry }
 {
-    let (guard, seen) = pass.read(rt);
+    let guard = pass.read(rt);
     let value = *guard;
-    (value, RwLock::unlock_shared(guard, seen))
+    (value, RwLock::unlock_shared(guard))
 }
 
 /// Writes a value in one thread, and reads in two others.
@@ -40,10 +42,7 @@ pub fn write_beside_readers<'a, W: Threads + Wait + Sync>(
     rt: &W,
     lock: &'a RwLock<u64>,
     value: u64,
-) -> (
-    Pass<'a, u64, Spin>,
-    ((u64, Pass<'a, u64, Spin>), (u64, Pass<'a, u64, Spin>)),
-)
+) -> (Pass<'a>, ((u64, Pass<'a>), (u64, Pass<'a>)))
     requires { (opening lock.now).told ≡ true }
     ensures written_read { IsPrefix (history result.0) (history result.1.0.1) ⊎ IsPrefix (history result.1.0.1) (history result.0) }
     ensures both_read { IsPrefix (history result.1.0.1) (history result.1.1.1) ⊎ IsPrefix (history result.1.1.1) (history result.1.0.1) }
@@ -53,22 +52,22 @@ pub fn write_beside_readers<'a, W: Threads + Wait + Sync>(
 {
     let all = join(
         rt,
-        || -> Pass<'_, u64, Spin>
+        || -> Pass<'_>
             ensures lock { lock_of result ≡ name_of lock.entry.now }
             ensures left { IsLast (opening lock.entry.now) (history result) value }
         { write(rt, lock.pass(), value) },
-        || -> ((u64, Pass<'_, u64, Spin>), (u64, Pass<'_, u64, Spin>))
+        || -> ((u64, Pass<'_>), (u64, Pass<'_>))
             ensures lock { (lock_of result.0.1 ≡ name_of lock.entry.now) × (lock_of result.1.1 ≡ name_of lock.entry.now) }
             ensures first { IsLast (opening lock.entry.now) (history result.0.1) result.0.0 }
             ensures second { IsLast (opening lock.entry.now) (history result.1.1) result.1.0 }
         {
             join(
                 rt,
-                || -> (u64, Pass<'_, u64, Spin>)
+                || -> (u64, Pass<'_>)
                     ensures lock { lock_of result.1 ≡ name_of lock.entry.now }
                     ensures found { IsLast (opening lock.entry.now) (history result.1) result.0 }
                 { read(rt, lock.pass()) },
-                || -> (u64, Pass<'_, u64, Spin>)
+                || -> (u64, Pass<'_>)
                     ensures lock { lock_of result.1 ≡ name_of lock.entry.now }
                     ensures found { IsLast (opening lock.entry.now) (history result.1) result.0 }
                 { read(rt, lock.pass()) },

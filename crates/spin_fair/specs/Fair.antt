@@ -1,14 +1,17 @@
 -- What the word and the seats of a fair mutex are in the plain lock, and what holds of its cell between any two steps.
-use Rattle.std.specs.Prelude.{◌≡◌, ◌⊎◌, ℕ, false, Option, Some, None, List, map}
+use Rattle.std.specs.Prelude.{◌≡◌, ◌⊎◌, ℕ, false, Option, Some, None, List, map, slice_get}
 use Rattle.spin_step.specs.Plain.{writing, fair_word}
 use Rattle.spin_step.specs.Acts.{Table}
 use Rattle.spin_step.specs.Machines.{Machine}
-use Rattle.spin_step.specs.Schedules.{Entry}
+use Rattle.spin_step.specs.Schedules.{Entry, State, happens}
 use Rattle.spin_step.specs.declared.answer.Answer.{Answer}
 use Rattle.spin_step.specs.declared.answer.Answer.TheVariants as answer
 use Rattle.spin_step.specs.declared.place.Hold.{Hold}
 use Rattle.spin_step.specs.declared.place.Hold.TheVariants as hold
 use Rattle.spin_step.specs.declared.place.Seat.{Seat}
+use Rattle.spin_step.specs.declared.place.Seat.TheVariants.{Calling, Holding}
+use Rattle.spin_step.specs.declared.schedule.Move.{Move}
+use Rattle.spin_step.specs.declared.schedule.Outcome.TheVariants.{Answered}
 use Rattle.spin_step_more.specs.FairCalls.{fair_table, fair_machine}
 use Rattle.spin_step_more.specs.Starvers.{most_starvers}
 use Rattle.spin_step_more.specs.declared.fair.LockRejectReason.{LockRejectReason}
@@ -88,6 +91,10 @@ module _ {T : Type 0} where
   abbrev pub model : T → Machine ℕ T FairCall FairPoint (Answer T)
   model value = fair_machine value most_starvers patience
 
+  -- by this move the party is granted the lock
+  abbrev pub Enters : T → State ℕ T FairCall FairPoint → ℕ → Move FairCall T → Type 0
+  Enters value s p move = let it = happens (model value) s p move in (it.outcome ≡ Answered answer.Granted None) × (slice_get it.next.seats p ≡ Some (Holding hold.Write))
+
   -- what holds of the first word, the trace and the parties of a lock with this opening
   abbrev pub IsFair : Opening T → ℕ → Trace (Done T) (Unit {0}) → List (Numbered View) → Type 0
   IsFair = RunsTable fair_tables fair_meaning
@@ -95,6 +102,10 @@ module _ {T : Type 0} where
 -- the seats of the parties
 abbrev pub views_of : List (Numbered View) → List View
 views_of parties = map (λ v. v.0) parties
+
+-- the party is in a call, at the step that ends its registration
+abbrev pub EndsRegistration : Option View → Type 0
+EndsRegistration seat = (c : FairCall) × (h : Option Hold) × (seat ≡ Some (Calling c Unregister h))
 
 -- the party with this number holds the lock, and is not registered as a starver
 abbrev pub HoldsAt : List View → ℕ → Type 0

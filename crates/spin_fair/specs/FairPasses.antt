@@ -1,18 +1,16 @@
--- What a pass of a `FairMutex` knows, and what its calls do. A pass that starves holds a registration.
-use Rattle.std.specs.Prelude.{ℕ, Bool}
+-- What a pass of a `FairMutex` knows, and what its calls do. A `Starvation` is a pass that holds a registration.
+use Rattle.std.specs.Prelude.{ℕ}
 use Rattle.spin_core.specs.Own.{Numbered}
 use Rattle.spin_core.specs.declared.guard.Guard.{Guard}
 use Rattle.spin_core.specs.declared.tie.Opening.{Opening}
-use Rattle.spin_core.specs.declared.trace.Watch.{Watch}
 use Rattle.spin_step.specs.declared.answer.Answer.{Answer}
-use Rattle.spin_step.specs.declared.answer.Answer.TheVariants.{Is}
 use Rattle.spin_step_more.specs.declared.fair_calls.FairCall.{FairCall}
-use Rattle.spin_step_more.specs.declared.fair_calls.FairCall.TheVariants.{Lock, IsLocked, StarverLock, Release}
+use Rattle.spin_step_more.specs.declared.fair_calls.FairCall.TheVariants.{Release}
 use Rattle.spin_step_more.specs.declared.fair_calls.FairPoint.{FairPoint}
 use Rattle.spin_session.specs.Passes as session
 use Rattle.spin_session.specs.Turns as turns
 use Rattle.spin_session.specs.Turns.{Spot}
-pub use Rattle.spin_session.specs.Passes.{history, lock_of, opening_of, party, OpensWith, Holds}
+pub use Rattle.spin_session.specs.Passes.{◌⨾◌, After, history, lock_of, new_in, opening_of, party, OpensWith, Holds}
 use Rattle.spin_fair.specs.Fair.{Done, View, fair_meaning, fair_tables}
 use Rattle.spin_fair.specs.declared.fair.FairMutex.{FairMutex}
 
@@ -33,27 +31,19 @@ module _ {T : Type 0} where
   abbrev pub Calls : FairCall → Answer (Unit {0}) → FairSpot T → FairSpot T → Type 0
   Calls = turns.Calls fair_tables
 
-  -- from `before` to `now` the pass has made one call, `is_locked`, with this answer
-  abbrev pub Looked : Bool → FairSpot T → FairSpot T → Type 0
-  Looked set = Calls IsLocked (Is set)
+  -- From `before` to `now` the pass has written a value, and has then made this call. If the lock tells its values, the value is x.
+  abbrev pub Wrote : FairCall → T → FairSpot T → FairSpot T → Type 0
+  Wrote = session.Wrote fair_tables
 
-  -- From `before` to `now` the pass has acquired the lock once by `lock`, and has released it. It left some value.
-  abbrev pub HeldOnce : FairSpot T → FairSpot T → Type 0
-  HeldOnce = session.Held fair_tables Lock Release
-
-  -- the same by the `lock` of a pass that starves
-  abbrev pub ServedOnce : FairSpot T → FairSpot T → Type 0
-  ServedOnce = session.Held fair_tables StarverLock Release
+  -- from `before` to `now` the pass has written some value, and has then made this call
+  abbrev pub WroteSome : FairCall → FairSpot T → FairSpot T → Type 0
+  WroteSome = session.WroteSome fair_tables
 
   module _ {P R S : Type 0} where
-    -- By this call the pass has acquired the guard, whose value is the one written last.
-    abbrev pub Grants : FairCall → FairSpot T → Guard T (Numbered View) P R (Opening T) S → Watch (Done T) → Type 0
+    -- By this call the party at the spot has acquired the guard, whose value is the one written last.
+    abbrev pub Grants : FairCall → FairSpot T → Guard T (Numbered View) (Done T) P R (Opening T) S → Type 0
     Grants = session.Grants fair_tables fair_meaning
 
-    -- some party has acquired the guard by this call
-    abbrev pub CameBy : FairCall → Guard T (Numbered View) P R (Opening T) S → Type 0
-    CameBy call guard = (before : FairSpot T) × (seen : Watch (Done T)) × Grants call before guard seen
-
-    -- The pass has written the guard's value, so this is the one written last, and has then released the lock.
-    abbrev pub Unlocks : Guard T (Numbered View) P R (Opening T) S → Watch (Done T) → FairSpot T → Type 0
+    -- The party has written the guard's value, so this is the one written last, and has then released the lock.
+    abbrev pub Unlocks : Guard T (Numbered View) (Done T) P R (Opening T) S → FairSpot T → Type 0
     Unlocks = session.Unlocks fair_tables Release

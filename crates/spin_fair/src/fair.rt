@@ -1,10 +1,8 @@
 //! A spinning mutex in which starvers go before newcomers. Begin at [`FairMutex::lock`] and [`FairMutex::starve`].
 ghost use Rattle.std.specs.Prelude.{IfSome, IfOk};
-ghost use Rattle.spin_core.specs.Guard.{IsHolder};
-ghost use Rattle.spin_session.specs.Turns.{IsNew, spot};
-ghost use Rattle.spin_step_more.specs.declared.fair_calls.FairCall.TheVariants.{TryLock, TryLockStarver};
-ghost use Rattle.spin_fair.specs.Fair.{use_of_party};
-ghost use Rattle.spin_fair.specs.FairPasses.{CameBy, OpensWith, opening};
+ghost use Rattle.spin_step.specs.declared.answer.Answer.TheVariants.{Granted};
+ghost use Rattle.spin_step_more.specs.declared.fair_calls.FairCall.TheVariants.{Lock, TryLock, TryLockStarver, Starve};
+ghost use Rattle.spin_fair.specs.FairPasses.{Calls, Grants, OpensWith, new_in, opening};
 
 use spin_core::cell::Cell;
 use spin_core::guard::{self, Guard};
@@ -12,22 +10,18 @@ use spin_core::lock::{Lock, with_guard};
 use spin_core::relax::{RelaxStrategy, Spin, Strategy};
 use spin_core::tie::Opening;
 use spin_core::trace::Trace;
-use spin_session::calls::{SessionOf, begin, go_on, guarded};
-use spin_session::session::Session;
-use spin_step::{Answer, Hold};
+use spin_session::calls::{acquire, enter};
 use spin_step_more::{FairCall, fair};
 use std::sync::Wait;
 
 mod pass;
 mod rule;
 mod starvation;
-mod starving;
 mod texts;
 
 pub use self::pass::Pass;
 pub use self::rule::{Entry, FairRule, Party};
 pub use self::starvation::Starvation;
-pub use self::starving::StarvingPass;
 pub use spin_core::laws::{a_guard_reads_the_last_value_written, two_guards_read_one_value};
 pub use spin_step_more::fair::LockRejectReason;
 
@@ -43,8 +37,7 @@ pub const STARVATION_SPINS: usize = 1024;
 ///
 /// While a guard or a hold of the lock lives, no other call acquires it. A newcomer that holds the lock acquired it
 /// while no starver was registered (`no_newcomer_holds_that_came_behind_a_starver`). A guard gives a value of `T`, with
-/// all that the invariant of `T` says. Without a [`pass`](Self::pass) nothing else is promised of what other threads
-/// wrote.
+/// all that the invariant of `T` says, and knows which call of the lock's history granted it (see [`Pass`]).
 ///
 /// # Examples
 /// ```
@@ -65,7 +58,7 @@ pub struct FairMutex<T, R = Spin> {
 ///
 /// # Contract
 /// `guard_value` is the value behind the guard. What is written through the guard is read through it.
-pub type FairMutexGuard<'a, T, R = Spin> = Guard<'a, T, Party, FairRule, R>;
+pub type FairMutexGuard<'a, T, R = Spin> = Guard<'a, T, Party, Entry<T>, FairRule, R>;
 
 /// A hold on a [`FairMutex`]: it keeps the lock without a guard, and gives no access to the value.
 ///
@@ -73,7 +66,7 @@ pub type FairMutexGuard<'a, T, R = Spin> = Guard<'a, T, Party, FairRule, R>;
 ///
 /// # Contract
 /// `held_value` is the value that the guard had.
-pub type Held<'a, T, R = Spin> = guard::Held<'a, T, Party, FairRule, R>;
+pub type Held<'a, T, R = Spin> = guard::Held<'a, T, Party, Entry<T>, FairRule, R>;
 
 impl<T, R> FairMutex<T, R> {
     /// Creates an unlocked mutex that holds `value` and has no starvers.
@@ -102,16 +95,6 @@ impl<T, R> FairMutex<T, R> {
     pub fn into_inner(self) -> T {
         self.cell.into_inner()
     }
-
-    // Returns a party that has made no call.
-    pub(crate) fn session(&self) -> SessionOf<'_, T, FairRule>
-        ensures { IsNew (opening self.now) (spot result) }
-    {
-        Session {
-            permit: self.cell.enter(),
-            seen: self.cell.watch(),
-        }
-    }
 }
 
 impl<T, R: RelaxStrategy> FairMutex<T, R> {
@@ -123,22 +106,12 @@ impl<T, R: RelaxStrategy> FairMutex<T, R> {
     /// lock.
     ///
     /// # Contract
-    /// The guard belongs to a holder of the lock (`IsHolder`). Whether and when the call returns is not promised.
+    /// The guard is granted by one `Lock`, even if the call starves, and its value is the one written last in the
+    /// lock's history (`Grants`). Whether and when the call returns is not promised.
     pub fn lock<W: Wait>(&self, rt: &W) -> FairMutexGuard<'_, T, R>
-        ensures { IsHolder use_of_party result }
+        ensures { Grants Lock (new_in (opening self.now)) result }
     {
-        // Not by `Pass::lock`: that would make the path for a free lock longer.
-        let call = FairCall::Lock;
-        let write = Some(Hold::Write);
-        let session = match begin(self.session(), call, None, Answer::Granted, write) {
-            Ok(session) => session,
-            Err(on) => {
-                let by = Strategy::<R>::named();
-                go_on(on, call, None, Answer::Granted, write, by, rt)
-            }
-        };
-        let (guard, _) = guarded(session);
-        guard
+        acquire(enter(&self.cell), FairCall::Lock, None, rt)
     }
 }
 
@@ -148,15 +121,14 @@ impl<T, R> FairMutex<T, R> {
     /// It makes one compare-exchange.
     ///
     /// # Contract
-    /// The guard in `Some` belongs to a holder of the lock (`holder`). The holder came by a `TryLock`, so it found no
-    /// starver registered (`newcomer`). `None` promises nothing. The call returns.
+    /// The guard in `Some` is granted by one `TryLock` (`Grants`): its party has made no other call in the lock's
+    /// history, so it found no starver registered. `None` promises nothing. The call returns.
     #[must_use = "dropping the guard at once releases the lock: bind the answer, or write `drop(..)`"]
     pub fn try_lock<'a>(&'a self) -> Option<FairMutexGuard<'a, T, R>>
-        ensures holder { IfSome result (IsHolder use_of_party) }
-        ensures newcomer { IfSome result (CameBy TryLock) }
+        ensures { IfSome result (Grants TryLock (new_in (opening self.now))) }
     {
         match self.pass().try_lock() {
-            Ok((guard, _)) => Some(guard),
+            Ok(guard) => Some(guard),
             Err(_) => None,
         }
     }
@@ -164,7 +136,8 @@ impl<T, R> FairMutex<T, R> {
     /// Like [`try_lock`](Self::try_lock), but returns the reason for a failure.
     ///
     /// # Contract
-    /// `Ok` promises what `Some` of `try_lock` promises, with `TryLockStarver`. `Err` promises nothing. The call returns.
+    /// `Ok` promises what `Some` of `try_lock` promises, with `TryLockStarver`. `Err` promises nothing. The call
+    /// returns.
     ///
     /// # Examples
     /// ```
@@ -179,11 +152,10 @@ impl<T, R> FairMutex<T, R> {
     /// assert!(rt; lock.try_lock_starver().is_ok());
     /// ```
     pub fn try_lock_starver<'a>(&'a self) -> Result<FairMutexGuard<'a, T, R>, LockRejectReason>
-        ensures holder { IfOk result (IsHolder use_of_party) }
-        ensures newcomer { IfOk result (CameBy TryLockStarver) }
+        ensures { IfOk result (Grants TryLockStarver (new_in (opening self.now))) }
     {
         match self.pass().try_lock_starver() {
-            Ok((guard, _)) => Ok(guard),
+            Ok(guard) => Ok(guard),
             Err((reason, _)) => Err(reason),
         }
     }
@@ -195,8 +167,8 @@ impl<T, R> FairMutex<T, R> {
     /// expects that word. More follow only while other threads change the word.
     ///
     /// # Contract
-    /// The `Starvation` in `Some` is a registered starver, as every `Starvation` is. `None` promises nothing. Whether and
-    /// when the call returns is not promised.
+    /// The `Starvation` in `Some` is registered by one `Starve` (`Calls`). `None` promises nothing. Whether and when
+    /// the call returns is not promised.
     ///
     /// # Examples
     /// ```
@@ -209,9 +181,13 @@ impl<T, R> FairMutex<T, R> {
     /// assert_eq!(rt; *guard, 4);
     /// ```
     #[must_use = "if the place is dropped at once, the thread starves no longer: bind the answer"]
-    pub fn starve<W: Wait>(&self, rt: &W) -> Option<Starvation<'_, T, R>> {
-        let pass = self.pass().starve(rt).ok()?;
-        Some(Starvation { pass })
+    pub fn starve<W: Wait>(&self, rt: &W) -> Option<Starvation<'_, T, R>>
+        ensures { IfSome result (Calls Starve Granted (new_in (opening self.now))) }
+    {
+        match self.pass().starve(rt) {
+            Ok(starver) => Some(starver),
+            Err(_) => None,
+        }
     }
 
     /// Returns `true` if its one load finds the lock held, else `false`.

@@ -1,21 +1,16 @@
 //! What follows from the rule of a `FairMutex`. Each law is the contract of a function that does nothing; begin at
 //! [`every_run_of_a_fair_mutex_is_a_schedule`].
-ghost use Rattle.std.specs.Prelude.{◌≡◌, ◌⊎◌, ◌≤◌, ◌+◌, ◌-◌, ◌%◌, ◌^◌, ℕ, List, length, Option, Some, true, bit_or, unwrap_or};
+ghost use Rattle.std.specs.Prelude.{◌≡◌, ◌⊎◌, ◌≤◌, ◌+◌, ◌-◌, ◌%◌, ◌^◌, ℕ, List, length, true, bit_or, slice_get, unwrap_or};
 ghost use Rattle.spin_core.specs.Own.{Numbered, IsRun};
 ghost use Rattle.spin_core.specs.declared.tie.Opening.{Opening};
 ghost use Rattle.spin_core.specs.declared.trace.Trace.{Trace};
-ghost use Rattle.spin_step.specs.Acts.{next_of};
+ghost use Rattle.spin_step.specs.Schedules.{State};
 ghost use Rattle.spin_step.specs.Plain.{Plain, fair_word, holder_weight, starver_weight};
-ghost use Rattle.spin_step.specs.declared.answer.Answer.TheVariants.{Granted};
-ghost use Rattle.spin_step.specs.declared.place.Hold.{Hold as TheHold};
-ghost use Rattle.spin_step.specs.declared.place.Hold.TheVariants.{Write};
-ghost use Rattle.spin_step.specs.declared.stepped.Next.TheVariants.{Answers};
-ghost use Rattle.spin_step_more.specs.FairCalls.{fair_table};
+ghost use Rattle.spin_step.specs.declared.schedule.Move.{Move as TheMove};
 ghost use Rattle.spin_step_more.specs.declared.fair_calls.FairCall.{FairCall as TheCall};
 ghost use Rattle.spin_step_more.specs.declared.fair_calls.FairPoint.{FairPoint as ThePoint};
-ghost use Rattle.spin_step_more.specs.declared.fair_calls.FairPoint.TheVariants.{Unregister};
 ghost use Rattle.spin_step_more.specs.Starvers.{most_starvers, is_set, unlocked, unstarved, lock_starved};
-ghost use Rattle.spin_fair.specs.Fair.{Done, HoldsAt, IsFair, StarvesAt, View, model, patience, views_of, words_of};
+ghost use Rattle.spin_fair.specs.Fair.{Done, EndsRegistration, Enters, HoldsAt, IsFair, StarvesAt, View, model, views_of, words_of};
 
 /// Each run of a [`FairMutex`](crate::fair::FairMutex) on threads is a schedule of its model.
 ///
@@ -32,12 +27,16 @@ pub fn every_run_of_a_fair_mutex_is_a_schedule<T>()
 /// States that a newcomer acquires a `FairMutex` only while nobody holds it and no starver is registered.
 ///
 /// # Contract
-/// A step of the model that grants the lock found the word 0, which encodes a lock without holders and starvers, or it
-/// ends its party's registration. So a newcomer found the word 0. By
-/// [`every_run_of_a_fair_mutex_is_a_schedule`] all moves of threads are such steps.
+/// If a move of the model grants the lock to its party (`Enters`), it found the word 0, or it ends the party's
+/// registration. By [`every_run_of_a_fair_mutex_is_a_schedule`] all moves of threads are moves of the model. The word 0
+/// encodes a lock without holders and starvers (`free`). While the word is 0, no party holds the lock or is registered
+/// (`nobody`).
 pub fn no_newcomer_holds_that_came_behind_a_starver<T>()
-    ensures granted { (value : T) (call : TheCall) (point : ThePoint) (holds : Option TheHold) (word : ℕ) → next_of (fair_table value most_starvers patience) call point holds word ≡ Answers Granted (Some Write) → (word ≡ 0) ⊎ (point ≡ Unregister) }
+    ensures granted { (value : T) (s : State ℕ T TheCall ThePoint) (p : ℕ) (move : TheMove TheCall T)
+        → Enters value s p move → (s.words ≡ 0) ⊎ EndsRegistration (slice_get s.seats p) }
     ensures free { (s : Plain) → fair_word s ≡ 0 → (length s.holders ≡ 0) × (length s.starvers ≡ 0) }
+    ensures nobody { (opening : Opening T) (trace : Trace (Done T) (Unit {0})) (parties : List (Numbered View)) (p : ℕ)
+        → IsFair opening 0 trace parties → (HoldsAt (views_of parties) p → ⊥) × (StarvesAt (views_of parties) p → ⊥) }
 {}
 
 /// States that the blind operations on the word of a `FairMutex` do what its step functions say.

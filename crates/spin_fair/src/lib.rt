@@ -3,7 +3,6 @@
 //! Begin at [`fair::FairMutex`], and there at `lock` and `starve`. [`laws`] says what follows from its rule.
 #![tactic(auto)]
 
-pub mod attempts;
 pub mod fair;
 pub mod laws;
 

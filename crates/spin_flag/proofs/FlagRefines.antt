@@ -6,9 +6,8 @@ use Rattle.spin_step.proofs.Flags.{flag_lock-grants, flag_unlock-gives}
 use Rattle.spin_step.proofs.Holders.{is_holder-from_entries}
 use Rattle.spin_step.specs.Orders.{IsInOrder}
 use Rattle.spin_step.specs.FlagCalls.{flag_table}
-use Rattle.spin_step.specs.declared.answer.Answer.TheVariants.{Granted}
 use Rattle.spin_step.specs.declared.flag_calls.FlagCall.{FlagCall}
-use Rattle.spin_step.specs.declared.flag_calls.FlagCall.TheVariants.{Lock, TryLock, Release}
+use Rattle.spin_step.specs.declared.flag_calls.FlagCall.TheVariants.{Lock, Release}
 use Rattle.spin_step.specs.declared.flag_calls.FlagPoint.{FlagPoint}
 use Rattle.spin_step.specs.declared.place.Hold.{Hold}
 use Rattle.spin_step.specs.declared.place.Hold.TheVariants.{Write}
@@ -23,8 +22,7 @@ use Rattle.spin_core.proofs.Owners.{OfHolders, one_holder}
 use Rattle.spin_core.proofs.Views.{release-own}
 use Rattle.spin_session.specs.Meaning.{part_of, use_at, Sound, ComesFrom, Refines, ways_of}
 use Rattle.spin_session.proofs.Refining as session
-use Rattle.spin_session.specs.Turns.{IsAnsweredBy, IsTry}
-use Rattle.spin_flag.specs.Flag.{flag_meaning, flag_tables, Done, IsFlag, View}
+use Rattle.spin_flag.specs.Flag.{flag_meaning, Done, IsFlag, View}
 
 kind : (v : Seat FlagCall FlagPoint) → OfHolders (part_of flag_meaning) v
 kind (Holding Write) = (refl, λ p. refl)
@@ -62,10 +60,3 @@ never_reads v e = grind (arith, e)
 -- only a party that holds the lock writes
 pub holding_of : (v : View) → use_at flag_meaning v ≡ writes → v ≡ Holding Write
 holding_of v e = grind (arith, e)
-
--- how the calls that acquire the lock are answered
-pub lock_answers : {T : Type 0} (key : Opening T) → IsAnsweredBy flag_tables flag_meaning Lock None Granted (Some Write) key
-lock_answers key l n b k may is = grind (arith, is)
-
-pub try_answers : {T : Type 0} (key : Opening T) → IsTry flag_tables flag_meaning TryLock None (Some Write) key
-try_answers key l n b k may is = grind (arith, is)

@@ -1,18 +1,17 @@
 -- What a pass of a `SpinMutex` knows, and what its calls do.
-use Rattle.std.specs.Prelude.{ℕ, Bool}
+use Rattle.std.specs.Prelude.{ℕ}
 use Rattle.spin_core.specs.Own.{Numbered}
 use Rattle.spin_core.specs.declared.guard.Guard.{Guard}
 use Rattle.spin_core.specs.declared.tie.Opening.{Opening}
-use Rattle.spin_core.specs.declared.trace.Watch.{Watch}
 use Rattle.spin_step.specs.declared.answer.Answer.{Answer}
-use Rattle.spin_step.specs.declared.answer.Answer.TheVariants.{Is}
-use Rattle.spin_step.specs.declared.flag_calls.FlagCall.{FlagCall}
-use Rattle.spin_step.specs.declared.flag_calls.FlagCall.TheVariants.{Lock, IsLocked, Release}
+pub use Rattle.spin_step.specs.declared.answer.Answer.TheVariants.{Granted, Refused, Is}
+pub use Rattle.spin_step.specs.declared.flag_calls.FlagCall.{FlagCall}
+pub use Rattle.spin_step.specs.declared.flag_calls.FlagCall.TheVariants.{Lock, TryLock, IsLocked, Release}
 use Rattle.spin_step.specs.declared.flag_calls.FlagPoint.{FlagPoint}
 use Rattle.spin_session.specs.Passes as session
 use Rattle.spin_session.specs.Turns as turns
 use Rattle.spin_session.specs.Turns.{Spot}
-pub use Rattle.spin_session.specs.Passes.{history, lock_of, opening_of, party, OpensWith, Holds}
+pub use Rattle.spin_session.specs.Passes.{◌⨾◌, After, history, lock_of, new_in, opening_of, party, OpensWith, Holds}
 use Rattle.spin_flag.specs.Flag.{Done, View, flag_meaning, flag_tables}
 use Rattle.spin_flag.specs.declared.spin.SpinMutex.{SpinMutex}
 
@@ -33,19 +32,19 @@ module _ {T : Type 0} where
   abbrev pub Calls : FlagCall → Answer (Unit {0}) → FlagSpot T → FlagSpot T → Type 0
   Calls = turns.Calls flag_tables
 
-  -- from `before` to `now` the pass has made one call, `is_locked`, with this answer
-  abbrev pub Looked : Bool → FlagSpot T → FlagSpot T → Type 0
-  Looked set = Calls IsLocked (Is set)
+  -- From `before` to `now` the pass has written a value, and has then made this call. If the lock tells its values, the value is x.
+  abbrev pub Wrote : FlagCall → T → FlagSpot T → FlagSpot T → Type 0
+  Wrote = session.Wrote flag_tables
 
-  -- From `before` to `now` the pass has acquired the lock once by `lock`, and has released it. It left some value.
-  abbrev pub HeldOnce : FlagSpot T → FlagSpot T → Type 0
-  HeldOnce = session.Held flag_tables Lock Release
+  -- from `before` to `now` the pass has written some value, and has then made this call
+  abbrev pub WroteSome : FlagCall → FlagSpot T → FlagSpot T → Type 0
+  WroteSome = session.WroteSome flag_tables
 
   module _ {P R S : Type 0} where
-    -- By this call the pass has acquired the guard, whose value is the one written last.
-    abbrev pub Grants : FlagCall → FlagSpot T → Guard T (Numbered View) P R (Opening T) S → Watch (Done T) → Type 0
+    -- By this call the party at the spot has acquired the guard, whose value is the one written last.
+    abbrev pub Grants : FlagCall → FlagSpot T → Guard T (Numbered View) (Done T) P R (Opening T) S → Type 0
     Grants = session.Grants flag_tables flag_meaning
 
-    -- The pass has written the guard's value, so this is the one written last, and has then released the lock.
-    abbrev pub Unlocks : Guard T (Numbered View) P R (Opening T) S → Watch (Done T) → FlagSpot T → Type 0
+    -- The party has written the guard's value, so this is the one written last, and has then released the lock.
+    abbrev pub Unlocks : Guard T (Numbered View) (Done T) P R (Opening T) S → FlagSpot T → Type 0
     Unlocks = session.Unlocks flag_tables Release

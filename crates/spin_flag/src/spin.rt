@@ -1,11 +1,9 @@
 //! A spinning mutex of one flag: the thread that finds the flag clear sets it. Begin at [`SpinMutex::lock`].
 ghost use Rattle.std.specs.Prelude.{Option, IfSome};
 ghost use Rattle.std.specs.Fmt.{DisplaysOnOk};
-ghost use Rattle.spin_core.specs.Guard.{IsHolder};
 ghost use Rattle.spin_core.specs.Texts.{lock_text};
-ghost use Rattle.spin_session.specs.Turns.{IsNew, spot};
-ghost use Rattle.spin_flag.specs.Flag.{use_of_party};
-ghost use Rattle.spin_flag.specs.Passes.{OpensWith, opening};
+ghost use Rattle.spin_step.specs.declared.flag_calls.FlagCall.TheVariants.{Lock, TryLock};
+ghost use Rattle.spin_flag.specs.Passes.{Grants, OpensWith, new_in, opening};
 
 use spin_core::cell::Cell;
 use spin_core::guard::{self, Guard};
@@ -14,9 +12,8 @@ use spin_core::relax::{RelaxStrategy, Spin, Strategy};
 use spin_core::texts::write_lock;
 use spin_core::tie::Opening;
 use spin_core::trace::Trace;
-use spin_session::calls::{SessionOf, begin, go_on, guarded};
-use spin_session::session::Session;
-use spin_step::{Answer, FlagCall, Hold};
+use spin_session::calls::{acquire, enter};
+use spin_step::FlagCall;
 use std::fmt;
 use std::fmt::{Debug, Formatter};
 use std::sync::Wait;
@@ -35,7 +32,8 @@ pub use spin_core::laws::{a_guard_reads_the_last_value_written, two_guards_read_
 ///
 /// # Contract
 /// While a guard or a hold of the lock lives, no other call acquires it. A guard gives a value of `T`, with all that
-/// the invariant of `T` says. Without a [`pass`](Self::pass) nothing else is promised of what other threads wrote.
+/// the invariant of `T` says. When the guard is acquired, this is the value written last in the lock's history. Without
+/// a [`pass`](Self::pass) other answers promise nothing.
 ///
 /// # Examples
 /// ```
@@ -72,7 +70,7 @@ pub struct SpinMutex<T, R = Spin> {
 /// push_up(&mut lock.lock(&rt), 5);
 /// assert_eq!(rt; lock.into_inner(), 6);
 /// ```
-pub type SpinMutexGuard<'a, T, R = Spin> = Guard<'a, T, Party, FlagRule, R>;
+pub type SpinMutexGuard<'a, T, R = Spin> = Guard<'a, T, Party, Entry<T>, FlagRule, R>;
 
 /// A hold on a [`SpinMutex`]: it keeps the lock without a guard, and gives no access to the value.
 ///
@@ -91,7 +89,7 @@ pub type SpinMutexGuard<'a, T, R = Spin> = Guard<'a, T, Party, FlagRule, R>;
 /// SpinMutex::force_unlock(held);
 /// assert!(rt; !lock.is_locked());
 /// ```
-pub type Held<'a, T, R = Spin> = guard::Held<'a, T, Party, FlagRule, R>;
+pub type Held<'a, T, R = Spin> = guard::Held<'a, T, Party, Entry<T>, FlagRule, R>;
 
 impl<T, R> SpinMutex<T, R> {
     /// Creates an unlocked mutex that holds `value`.
@@ -108,16 +106,6 @@ impl<T, R> SpinMutex<T, R> {
         SpinMutex {
             cell,
             strategy: Strategy::named(),
-        }
-    }
-
-    // Returns a party that has made no call.
-    fn session(&self) -> SessionOf<'_, T, FlagRule>
-        ensures { IsNew (opening self.now) (spot result) }
-    {
-        Session {
-            permit: self.cell.enter(),
-            seen: self.cell.watch(),
         }
     }
 
@@ -141,24 +129,12 @@ impl<T, R: RelaxStrategy> SpinMutex<T, R> {
     /// own thread holds the lock.
     ///
     /// # Contract
-    /// The guard belongs to a holder of the lock (`IsHolder`). Whether and when the call returns is not promised.
-    #[tactic(auto, using(crate::proofs::FlagRefines::lock_answers))]
+    /// The guard is granted by one `Lock`, and its value is the one written last in the lock's history (`Grants`). Whether
+    /// and when the call returns is not promised.
     pub fn lock<W: Wait>(&self, rt: &W) -> SpinMutexGuard<'_, T, R>
-        ensures { IsHolder use_of_party result }
+        ensures { Grants Lock (new_in (opening self.now)) result }
     {
-        // This repeats `Pass::lock` by `begin` and `go_on`. Each call of a function that waits makes the path for a
-        // free lock two instructions longer.
-        let call = FlagCall::Lock;
-        let write = Some(Hold::Write);
-        let session = match begin(self.session(), call, None, Answer::Granted, write) {
-            Ok(session) => session,
-            Err(on) => {
-                let by = Strategy::<R>::named();
-                go_on(on, call, None, Answer::Granted, write, by, rt)
-            }
-        };
-        let (guard, _) = guarded(session);
-        guard
+        acquire(enter(&self.cell), FlagCall::Lock, None, rt)
     }
 }
 
@@ -168,7 +144,7 @@ impl<T, R> SpinMutex<T, R> {
     /// It makes one compare-exchange.
     ///
     /// # Contract
-    /// The guard in `Some` belongs to a holder of the lock (`IsHolder`). `None` promises nothing. The call returns.
+    /// The guard in `Some` is granted by one `TryLock` (`Grants`). `None` promises nothing. The call returns.
     ///
     /// # Examples
     /// ```
@@ -181,10 +157,10 @@ impl<T, R> SpinMutex<T, R> {
     /// ```
     #[must_use = "dropping the guard at once releases the lock: bind the answer, or write `drop(..)`"]
     pub fn try_lock<'a>(&'a self) -> Option<SpinMutexGuard<'a, T, R>>
-        ensures { IfSome result (IsHolder use_of_party) }
+        ensures { IfSome result (Grants TryLock (new_in (opening self.now))) }
     {
         match self.pass().try_lock() {
-            Ok((guard, _)) => Some(guard),
+            Ok(guard) => Some(guard),
             Err(_) => None,
         }
     }
@@ -196,7 +172,7 @@ impl<T, R> SpinMutex<T, R> {
     /// Like that of `try_lock`.
     #[must_use = "dropping the guard at once releases the lock: bind the answer, or write `drop(..)`"]
     pub fn try_lock_weak<'a>(&'a self) -> Option<SpinMutexGuard<'a, T, R>>
-        ensures { IfSome result (IsHolder use_of_party) }
+        ensures { IfSome result (Grants TryLock (new_in (opening self.now))) }
     {
         self.try_lock()
     }

@@ -1,7 +1,6 @@
 //! `Mutex`, which uses only the contract of an inner lock. Begin at [`Mutex::lock`].
-ghost use Rattle.std.specs.Prelude.{◌≡◌, Some, None, [], IfSome, true};
-ghost use Rattle.spin_ticket.specs.TicketPasses.{history, party, lock_of, name_of, opening, opening_of, OpensWith};
-ghost use Rattle.spin_mutex.specs.MutexGuard.{value_of, holds, held_value};
+ghost use Rattle.std.specs.Prelude.{◌≡◌, Some, IfSome};
+ghost use Rattle.spin_mutex.specs.MutexGuard.{Grants, Lock, OpensWith, TryLock, held_value, new_in, opening, value_of};
 
 use spin_core::lock::{Lock, with_guard};
 use spin_core::relax::{RelaxStrategy, Spin};
@@ -21,8 +20,8 @@ mod texts;
 ///
 /// # Contract
 /// While a guard or a hold of the lock lives, no other call acquires the lock. A guard gives a value of `T`,
-/// which satisfies the invariant of `T`. Without a [`pass`](Self::pass) nothing else is promised of what other threads
-/// wrote.
+/// which satisfies the invariant of `T`. When the guard is acquired this is the value written last in the mutex's
+/// history. Without a [`pass`](Self::pass) other answers promise nothing.
 ///
 /// # Examples
 /// ```
@@ -98,16 +97,11 @@ impl<T, R> Mutex<T, R> {
     /// # Contract
     /// The lock's history begins with this value (`opens`). The call returns.
     pub const fn new(value: T) -> Self
-        ensures opens { OpensWith value (opening result.inner) }
+        ensures opens { OpensWith value (opening result) }
     {
-        Self::over(TicketMutex::new(value))
-    }
-
-    // Wraps an existing ticket lock.
-    pub(crate) const fn over(inner: TicketMutex<T, R>) -> Self
-        ensures { result.inner ≡ inner }
-    {
-        Mutex { inner }
+        Mutex {
+            inner: TicketMutex::new(value),
+        }
     }
 
     /// Consumes the mutex and returns the value.
@@ -118,8 +112,7 @@ impl<T, R> Mutex<T, R> {
     /// # Contract
     /// Only that the call returns.
     pub fn into_inner(self) -> T {
-        let Self { inner } = self;
-        inner.into_inner()
+        self.inner.into_inner()
     }
 
     /// Returns a mutable reference to the value.
@@ -147,7 +140,7 @@ impl<T, R> Mutex<T, R> {
     /// contract does not say which lock the mutex contains, so it allows `None` for a free mutex too.
     ///
     /// # Contract
-    /// A guard belongs to a holder of the lock (`holds`). After `None` nothing is promised. The call returns.
+    /// The guard in `Some` is granted by one `TryLock` (`Grants`). `None` promises nothing. The call returns.
     ///
     /// # Examples
     /// ```
@@ -161,7 +154,7 @@ impl<T, R> Mutex<T, R> {
     /// ```
     #[must_use = "dropping the guard at once releases the lock: bind the answer, or write `drop(..)`"]
     pub fn try_lock(&self) -> Option<MutexGuard<'_, T, R>>
-        ensures { IfSome result (λ guard. holds guard) }
+        ensures { IfSome result (Grants TryLock (new_in (opening self.now))) }
     {
         let inner = self.inner.try_lock()?;
         Some(MutexGuard {
@@ -196,10 +189,9 @@ impl<T, R> Mutex<T, R> {
     /// The calls of the pass are those of the ticket lock inside, so the guard is a [`TicketMutexGuard`].
     ///
     /// # Contract
-    /// The pass is of this mutex (`lock`), and knows nothing of the mutex's history yet (`new`).
+    /// The pass is of this mutex, and knows nothing of its history yet (`new`).
     pub fn pass(&self) -> ticket::Pass<'_, T, R>
-        ensures new { (history result ≡ []) × (party result ≡ None) }
-        ensures lock { (lock_of result ≡ name_of self.now.inner) × (opening_of result ≡ opening self.now.inner) }
+        ensures new { result ≡ new_in (opening self.now) }
     {
         self.inner.pass()
     }
@@ -211,8 +203,7 @@ impl<T, R> Mutex<T, R> {
     /// # Contract
     /// Only that the call returns.
     pub fn force_unlock(held: Held<'_, T, R>) {
-        let Held { inner } = held;
-        TicketMutex::force_unlock(inner);
+        TicketMutex::force_unlock(held.inner);
     }
 }
 
@@ -223,7 +214,8 @@ impl<T, R: RelaxStrategy> Mutex<T, R> {
     /// the lock, or if it finds all 2^64 - 1 tickets of the ticket lock inside used up.
     ///
     /// # Contract
-    /// The guard belongs to a holder of the lock (`holds`). Whether and when the call returns is not promised.
+    /// The guard is granted by one `Lock`, and its value is the one written last in the mutex's history (`Grants`).
+    /// Whether and when the call returns is not promised.
     ///
     /// # Examples
     /// ```
@@ -236,7 +228,7 @@ impl<T, R: RelaxStrategy> Mutex<T, R> {
     /// assert_eq!(rt; total.into_inner(), 2);
     /// ```
     pub fn lock<W: Wait>(&self, rt: &W) -> MutexGuard<'_, T, R>
-        ensures { holds result }
+        ensures { Grants Lock (new_in (opening self.now)) result }
     {
         MutexGuard {
             inner: self.inner.lock(rt),
@@ -265,8 +257,7 @@ impl<'a, T, R> MutexGuard<'a, T, R> {
     pub fn leak(this: Self) -> &'a mut T
         ensures { result.now ≡ value_of this.entry }
     {
-        let Self { inner, life: _ } = this;
-        TicketMutexGuard::leak(inner)
+        TicketMutexGuard::leak(this.inner)
     }
 
     /// Consumes the guard and keeps the lock held, until [`Mutex::force_unlock`].
@@ -287,9 +278,8 @@ impl<'a, T, R> MutexGuard<'a, T, R> {
     pub fn hold(this: Self) -> Held<'a, T, R>
         ensures { held_value result ≡ Some (value_of this.entry) }
     {
-        let Self { inner, life: _ } = this;
         Held {
-            inner: TicketMutexGuard::hold(inner),
+            inner: TicketMutexGuard::hold(this.inner),
         }
     }
 }

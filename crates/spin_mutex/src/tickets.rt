@@ -36,5 +36,7 @@ pub fn next<T, R>(mutex: &Mutex<T, R>) -> u64 {
 /// assert!(rt; mutex.try_lock().is_none());
 /// ```
 pub fn starting_at<T, R>(value: T, first: u64) -> Mutex<T, R> {
-    Mutex::over(tickets::starting_at(value, first))
+    Mutex {
+        inner: tickets::starting_at(value, first),
+    }
 }

@@ -33,7 +33,7 @@ use Rattle.spin_once.specs.declared.once_core.rule.Stage.TheVariants.{Seed, Done
 use Rattle.spin_once.proofs.Steps as steps
 use Rattle.spin_once.proofs.Steps.{ComesTo, May, Fits}
 use Rattle.spin_once.proofs.Moves.{Moves, after_word, finding, turn_moves, fail_moves, words_at, free_at, fits_at, reads_at, ends_at}
-use Rattle.spin_once.proofs.Valued.{valued, writes_none, plainly, bare_moves, Leaving}
+use Rattle.spin_once.proofs.Valued.{valued, writes_none, none_written, plainly, bare_moves, Leaving}
 
 -- while a closure runs the word is 1, and the history has no value
 none_yet : {T : Type 0} (n : ℕ) (vs : List T) → AtMostOne n vs → n ≡ 1 → vs ≡ []
@@ -116,7 +116,7 @@ module _ {T S : Type 0} (makes : S → T → Type 0) (key : Key T S) where
         let used = quiet_use c l was at quiet in let silent : use_of use_of_view was ≢ writes = λ e. elim used [ inl none ↦ absurd (let d : off ≡ writes = sym none ∙ e in cc) | inr reading ↦ absurd (let d : reads ≡ writes = sym reading.0 ∙ e in cc) ] in
         valued makes key view shown (after_word c l) (finding found says) says plainly (λ own outs n u said. said.0)
         (λ own outs n u said. lifts (has_begun was) c (outcome_of (next_at c l n)) own outs said.0.1)
-        (writes_none makes key view shown (after_word c l) (finding found says) (λ e. silent (tie.same_use use_of_view view ∙ e)) (stays l quiet))
+        (writes_none makes key view shown (after_word c l) (finding found says) (λ e. silent (tie.same_use use_of_view view ∙ e)) (stays l quiet)) (λ idle. none_written)
         (traces view shown (after_word c l) _ (finding found says) moving
         (steps.steps makes key was shown (λ n. view_of c (next_at c l n)) (after_word c l) (quiet_fits c l quiet (use_of use_of_view was) used) (λ n r e. absurd (silent e))))
       where
@@ -141,12 +141,15 @@ module _ {T S : Type 0} (makes : S → T → Type 0) (key : Key T S) where
   unfolding Told
   ends c may view is first value is_made =
       let done : Option Content = Some (maybe_stable (Done value)) in let exact : Says = finding (λ n. n ≡ 1) (turn true c Run) in let to : ℕ → View = λ n. view_of c (next_at c Run n) in
-      rw is
-      (valued makes key view done (λ _. 2) exact (λ own outs n v. turn true c Run own outs 0 v) (λ own. Write value ∷ []) any_word (λ own outs n u said. sym said.0.1.0) puts
+      subst (λ was. Stores view done (λ _. 2) (turn_by (Some first) was)) (sym is)
+      (valued makes key view done (λ _. 2) exact (λ own outs n v. turn true c Run own outs 0 v) (λ own. Write value ∷ []) any_word (λ own outs n u said. sym said.0.1.0) puts (λ idle. absurd (no_runner idle))
       (traces view done (λ _. 2) (ComesTo to (λ n. n ≡ 1)) exact
       (rw is (turn_moves given c (λ _. 2) (λ n. n ≡ 1) Run (λ n one. words_at c Run n ∙ (ends_at c may n).1) (λ n one. free_at c Run n) (Some (in_call c Run)) (inl refl)))
       (rw is (steps.steps makes key (Some (in_call c Run)) done to (λ _. 2) (λ n one. rw (reads_then n) refl) (λ n r e. rw (reads_then n) is_made)))))
     where
+      no_runner : is_running (what view) ≡ false → ⊥
+      no_runner idle = grind (arith, idle, is, may)
+
       reads_then : (n : ℕ) → view_of c (next_at c Run n) ≡ reader
       reads_then n = ap (view_of c) (ends_at c may n).0
 
@@ -165,7 +168,7 @@ module _ {T S : Type 0} (makes : S → T → Type 0) (key : Key T S) where
   gives_up view is =
       let shown : Option Content = Some (maybe_stable (Seed key.seed.value)) in
       valued makes key view shown (λ _. 0) (finding (λ n. n ≡ 1) fails_by) fails_by plainly
-      (λ own outs n u said. said.0) (λ own outs n u said. ap (λ l. bare_moves (plainly {T = T} l)) said.0.1.0 ∙ sym said.0.1.0) leaves
+      (λ own outs n u said. said.0) (λ own outs n u said. ap (λ l. bare_moves (plainly {T = T} l)) said.0.1.0 ∙ sym said.0.1.0) leaves (λ idle. none_written)
       (traces view shown (λ _. 0) (ComesTo (λ n. Idle) (λ n. n ≡ 1)) (finding (λ n. n ≡ 1) fails_by) (rw is (fail_moves given (λ _. 0) (λ n. refl)))
       (rw is (steps.steps makes key (Some (in_call (TryCallOnceOk tt) Run)) shown (λ n. Idle) (λ _. 0) (λ n one. refl) (λ n r e. refl))))
     where

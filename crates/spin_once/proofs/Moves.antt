@@ -8,7 +8,7 @@ use Rattle.spin_core.specs.Cell.{off, reads, writes}
 use Rattle.spin_session.specs.Turns.{outcome_of, has_begun}
 use Rattle.spin_step.specs.declared.answer.Answer.{Answer}
 use Rattle.spin_step.specs.declared.answer.Answer.TheVariants.{Value, Failed}
-use Rattle.spin_step.specs.declared.once_calls.OnceCall.TheVariants.{TryCallOnceOk, Wait, Poll, Get}
+use Rattle.spin_step.specs.declared.once_calls.OnceCall.TheVariants.{TryCallOnceOk, Get}
 use Rattle.spin_step.specs.declared.once_calls.OncePoint.{OncePoint}
 use Rattle.spin_step.specs.declared.once_calls.OncePoint.TheVariants.{Look, TryBegin, Run}
 use Rattle.spin_step.specs.declared.place.Seat.TheVariants.{Idle, Calling}
@@ -152,19 +152,9 @@ reads_at c = grind arith
 pub ends_at : (c : Call) → HasClosure c → (n : ℕ) → (next_at c Run n ≡ Answers (Value tt) None) × (after_word c Run n ≡ 2)
 ends_at c may n = grind (arith, may)
 
--- the first step of a call with a closure finds the value, or goes on
-pub come_at : (c : Call) → HasClosure c → (n : ℕ) → (next_at c Look n ≡ Answers (Value tt) None) ⊎ (next_at c Look n ≡ Continue TryBegin)
-come_at c may n = grind (arith, may)
-
 -- the step with which the call stops
 pub closure_stops : (c : Call) → HasClosure c → (l : OncePoint) (n : ℕ) → stops (next_at c l n) ≡ true → (next_at c l n ≡ Answers (Value tt) None) ⊎ (next_at c l n ≡ Continue Run)
 closure_stops c may l n stopped = grind (arith, may, stopped)
-
-pub wait_stops : (l : OncePoint) (n : ℕ) → stops (next_at Wait l n) ≡ true → next_at Wait l n ≡ Answers (Value tt) None
-wait_stops l n stopped = grind (arith, stopped)
-
-pub poll_stops : (l : OncePoint) (n : ℕ) → stops (next_at Poll l n) ≡ true → IsTold (next_at Poll l n)
-poll_stops l n stopped = grind (arith, stopped)
 
 pub get_stops : (n : ℕ) → IsTold (next_at Get Look n)
 get_stops n = grind arith

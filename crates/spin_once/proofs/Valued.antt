@@ -1,10 +1,11 @@
 -- What a step that makes moves of the model appends to the history with the values. In this history the last step of a
 -- call whose closure gave a value is a write of that value. Each step keeps what is known of the value.
-use Rattle.std.proofs.Common.{◌≡◌, ◌≢◌, ℕ, suc, ◌≤◌, Bool, true, false, Option, Some, None, is_some, List, [], ◌∷◌, ◌++◌, map, length, refl, sym, ap, ◌∙◌, subst, arith}
-use Rattle.std.proofs.lemmas.List.{append_assoc, append-nil, map-append}
+use Rattle.std.proofs.Common.{◌≡◌, ◌≢◌, ℕ, suc, ◌≤◌, Bool, true, false, Option, Some, None, is_some, List, [], ◌∷◌, ◌++◌, map, length, length-append, drop, refl, sym, ap, ◌∙◌, subst, arith}
+use Rattle.std.proofs.lemmas.List.{append_assoc, append-nil, map-append, drop-append-le}
 use mathlib.Core.List.{IsPrefix}
+use mathlib.Core.Logic.{◌⊎◌, inl, inr}
 use Rattle.spin_core.specs.Cell.{Use, off, reads, writes, use_of, Way, no_fact, Carries, Carrying, Meets, Moved, Shows, SameValue, Learns, readers_of, after as views_after}
-use Rattle.spin_core.specs.Own.{Numbered, Runs, IsRun, Tells, by_party}
+use Rattle.spin_core.specs.Own.{Numbered, what, mark_of, Runs, IsRun, Tells, by_party, entries_by}
 use Rattle.spin_core.specs.Passes.{Ending}
 use Rattle.spin_core.specs.Traced.{Traces, Watches, Learnt, grown}
 use Rattle.spin_core.specs.Stable.{maybe_stable}
@@ -16,9 +17,10 @@ use Rattle.spin_core.proofs.CellWays.{going_map}
 use Rattle.spin_step.specs.declared.once_calls.OnceCall.{OnceCall}
 use Rattle.spin_step.specs.declared.schedule.Move.{Move}
 use Rattle.spin_step.specs.declared.schedule.Move.TheVariants.{Begin, Step, Weak}
+use Rattle.spin_once.specs.Accounts.{WroteNone}
 use Rattle.spin_once.specs.Model.{model}
-use Rattle.spin_once.specs.Once.{OneMove, View, Says, Word, use_of_view, use_of_party, once_ways, seat_of, words_of, IsOnce, Told}
-use Rattle.spin_once.specs.OnceValues.{Valued, Made, bare_move, bare, bare_trace, bare_watch, value_of, values_of, values, lies_in, given_of, made, AtMostOne, IsMade, IsValue, uses, Sees}
+use Rattle.spin_once.specs.Once.{OneMove, View, Says, Word, use_of_view, use_of_party, once_ways, seat_of, words_of, IsOnce, Told, is_running}
+use Rattle.spin_once.specs.OnceValues.{Valued, Made, bare_move, bare, bare_trace, bare_watch, value_of, values_of, values, written_by, lies_in, given_of, made, AtMostOne, IsMade, IsValue, uses, Sees}
 use Rattle.spin_once.specs.declared.once_core.rule.Key.{Key}
 use Rattle.spin_once.specs.declared.once_core.rule.Stage.{Stage}
 use Rattle.spin_once.specs.declared.once_core.rule.Stage.TheVariants.{Done}
@@ -49,6 +51,20 @@ module _ {T : Type 0} where
   values_by p [] = refl
   values_by p (move ∷ own) = ap (λ l. value_of move ++ l) (values_by p own)
 
+  -- a party that makes none of the model's entries `xs ++ bare ys` writes nothing by `ys`
+  behind : (p : ℕ) (xs : List Made) (ys : List (Valued T)) → entries_by p (xs ++ bare ys) ≡ [] → written_by p ys ≡ []
+  behind p [] [] none = refl
+  behind p [] (y ∷ ys) none = grind (arith, none, behind p [] ys)
+  behind p (x ∷ xs) ys none = grind (arith, none, behind p xs ys)
+
+  by_none : (p : ℕ) (es : List (Valued T)) → values es ≡ [] → written_by p es ≡ []
+  by_none p [] none = refl
+  by_none p (e ∷ es) none = grind (arith, none, by_none p es)
+
+  pub both_none : (p : ℕ) (xs ys : List (Valued T)) → written_by p xs ≡ [] → written_by p ys ≡ [] → written_by p (xs ++ ys) ≡ []
+  both_none p [] ys first next = next
+  both_none p (x ∷ xs) ys first next = grind (arith, first, next, both_none p xs ys)
+
   -- the moves of the history for moves of the model that write nothing
   abbrev plain_move : OneMove → ValueMove T
   plain_move (Begin c) = Begin c
@@ -58,7 +74,7 @@ module _ {T : Type 0} where
   abbrev pub plainly : List OneMove → List (ValueMove T)
   plainly own = map plain_move own
 
-  none_written : (own : List OneMove) → values_of (plainly own) ≡ []
+  pub none_written : (own : List OneMove) → values_of (plainly own) ≡ []
   none_written [] = refl
   none_written (move ∷ own) = grind (arith, none_written own)
 
@@ -80,6 +96,22 @@ pub agree : {T S : Type 0} (opening : Opening (Stage T S)) (old new : List (Valu
 agree opening old new x y told more is is' =
     let longer : y ∷ [] ≡ x ∷ values more.0 =
     sym (is' told) ∙ ap (made opening.value) (sym more.1) ∙ made-append opening.value old more.0 ∙ ap (λ l. l ++ values more.0) (is told) in sym (cc (longer))
+
+-- of two histories of one lock the shorter begins the other
+pub agrees : {T S : Type 0} (opening : Opening (Stage T S)) (mine theirs : List (Valued T)) (x y : T)
+    → opening.told ≡ true → IsPrefix mine theirs ⊎ IsPrefix theirs mine → IsValue opening mine x → IsValue opening theirs y → x ≡ y
+agrees opening mine theirs x y told (inl more) is is' = agree opening mine theirs x y told more is is'
+agrees opening mine theirs x y told (inr more) is is' = sym (agree opening theirs mine y x told more is' is)
+
+pub longer : {X : Type 0} (xs ys : List X) → IsPrefix xs ys → (n : ℕ) → n ≤ length xs → n ≤ length ys
+longer xs ys more n short = rw (← more.1, length-append) (omega (arith, short))
+
+-- a value that was the only one is still the only one, as long as there is no second one
+pub stays : {T S : Type 0} (opening : Opening (Stage T S)) (old new : List (Valued T)) → IsPrefix old new → length (made opening.value new) ≤ 1
+    → (v : T) → IsValue opening old v → IsValue opening new v
+stays opening old new more few v is told =
+    let longer : made opening.value new ≡ v ∷ values more.0 = ap (made opening.value) (sym more.1) ∙ made-append opening.value old more.0 ∙ ap (λ l. l ++ values more.0) (is told) in
+    longer ∙ only v (values more.0) (subst (λ l. length l ≤ 1) longer few)
 
 -- what is known of the content carries over from a party that did not write
 pub carries_on : {X : Type 0} (φ ψ : X → Type 0) (u u' : Use) (shown : Option X) → u ≢ writes
@@ -115,11 +147,11 @@ module _ {T S : Type 0} (makes : S → T → Type 0) (key : Key T S) where
         → AtMostOne (f n) (vs ++ values_of (put own)) × Carries (Is vs) (Is (vs ++ values_of (put own))) (use_of use_of_party view) (use_of_view u) shown)
 
     pub valued : ((own : List OneMove) (outs : List (Ending (Unit {0}))) (n : ℕ) (u : View) → exact own outs n u → says own outs n u)
-        → Each (λ own n u. bare_moves (put own) ≡ own) → Leaving
+        → Each (λ own n u. bare_moves (put own) ≡ own) → Leaving → (is_running (what view) ≡ false → (own : List OneMove) → values_of (put own) ≡ [])
         → Traces Bare (way, use_of_party, no_fact) view shown f (Tells (model (given_of first)) seat_of words_of exact view)
         → Traces (IsOnce key.opening) (once_ways makes key) view shown f (Told key.opening says view)
     unfolding IsOnce Told
-    valued less lifts leaves traces id n t vs meets at small =
+    valued less lifts leaves hushes traces id n t vs meets at small =
         let (w, es, going, (own, outs, is, mark, none, mine, said)) = traces id n (bare_trace t) vs (meets.0.0, meets.1) at small in
         let es' : List (Valued T) = by_party w.1 (put own) in let had : List T = made first t.entries in let m = model (given_of first) in
         let same : bare es' ≡ es = bare_by w.1 (put own) ∙ ap (by_party w.1) (lifts own outs n w.0 said) ∙ sym is in
@@ -136,7 +168,7 @@ module _ {T S : Type 0} (makes : S → T → Type 0) (key : Key T S) where
           w,
           es',
           going_map way (use_of use_of_party view) (use_of_party w) shown (readers_of use_of_party vs) keeps going,
-          (subst (λ l. Tells m seat_of words_of says view (bare t.entries) l n w) (sym same) (own, outs, is, mark, none, mine, less own outs n w.0 said), few.1),
+          (subst (λ l. Tells m seat_of words_of says view (bare t.entries) l n w) (sym same) (own, outs, is, mark, none, mine, less own outs n w.0 said), few.1, λ quiet. values_by w.1 (put own) ∙ hushes quiet own),
         )
 
   -- the condition holds for moves that write nothing, of a party that does not write
@@ -155,25 +187,32 @@ module _ {T S : Type 0} (makes : S → T → Type 0) (key : Key T S) where
     pub bared : (view' : Option (Numbered View)) → Moved (Watches named before now (Told key.opening says view) n) view' → Bared view'
     unfolding Told
     bared None moved = absurd moved
-    bared (Some v) (same, (log, es, known, is, (tells, few))) =
+    bared (Some v) (same, (log, es, known, is, (tells, few, hush))) =
         (same, (bare log, bare es, (bare known.0, sym (bare_append before.entries known.0) ∙ ap bare known.1), ap bare is ∙ bare_append log es, tells))
 
-    abbrev Grows : Type 0
-    Grows = (more : List (Valued T)) × (now.entries ≡ before.entries ++ more) × (length (made first now.entries) ≤ 1)
-
-    grows : (view' : Option (Numbered View)) → Moved (Watches named before now (Told key.opening says view) n) view' → Grows
+    pub grows : (view' : Option (Numbered View)) → Moved (Watches named before now (Told key.opening says view) n) view'
+        → IsPrefix before.entries now.entries × (length (made first now.entries) ≤ 1)
     unfolding Told
     grows None moved = absurd moved
-    grows (Some v) (same, (log, es, known, is, (tells, few))) =
-        (known.0 ++ es, is ∙ ap (λ l. l ++ es) (sym known.1) ∙ append_assoc before.entries known.0 es, subst (λ l. length (made first l) ≤ 1) (sym is) few)
+    grows (Some v) (same, (log, es, known, is, (tells, few, hush))) =
+        ((known.0 ++ es, sym (is ∙ ap (λ l. l ++ es) (sym known.1) ∙ append_assoc before.entries known.0 es)), subst (λ l. length (made first l) ≤ 1) (sym is) few)
 
-    -- a value that was the only one before the step is still the only one
-    pub stays : (view' : Option (Numbered View)) → Moved (Watches named before now (Told key.opening says view) n) view'
-        → (v : T) → IsValue key.opening before.entries v → IsValue key.opening now.entries v
-    stays view' moved v so is_told =
-        let g = grows view' moved in
-        let one : made first now.entries ≡ v ∷ values g.0 = ap (made first) g.1 ∙ made-append first before.entries g.0 ∙ ap (λ l. l ++ values g.0) (so is_told) in
-        one ∙ only v (values g.0) (subst (λ l. length l ≤ 1) one g.2)
+    -- only a party that runs its closure writes a value
+    pub writes_none_by : (view' : Option (Numbered View)) → mark_of view ≤ length before.entries → is_running (what view) ≡ false
+        → Moved (Watches named before now (Told key.opening says view) n) view' → WroteNone (key, view, before) (key, view', now)
+    unfolding Told WroteNone
+    writes_none_by None knew quiet moved = absurd moved
+    writes_none_by (Some v) knew quiet (same, (log, es, (between, here), is, ((own, outs, es_is, mark, none, mine, said), few, hush))) =
+        let old : List Made = bare before.entries in let long = subst (λ k. mark_of view ≤ k) (sym (as_long before.entries)) knew in
+        let whole : bare log ≡ old ++ bare between = ap bare (sym here) ∙ bare_append before.entries between in
+        let apart : entries_by v.1 (drop (mark_of view) old ++ bare between) ≡ [] = rw (← drop-append-le (mark_of view) old (bare between) long, ← whole) none.1 in (
+          v.1,
+          none.0,
+          refl,
+          between ++ es,
+          is ∙ ap (λ l. l ++ es) (sym here) ∙ append_assoc before.entries between es,
+          both_none v.1 between es (behind v.1 (drop (mark_of view) old) between apart) (by_none v.1 es (hush quiet)),
+        )
 
   -- What a party that uses the content sees after a step. If it had the same use before, it sees what it saw before. If not, it sees what
   -- it finds.

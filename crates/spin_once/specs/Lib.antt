@@ -6,5 +6,6 @@ pub mod Accounts
 pub mod Texts
 pub mod Lazy
 pub mod Made
+pub mod Passes
 pub mod OncePasses
 pub mod LazyPasses

@@ -3,7 +3,7 @@
 use Rattle.std.specs.Prelude.{is_some, ◌≡◌, ◌<◌, ◌≤◌, ◌⊎◌, ℕ, zero, suc, Bool, true, false, Option, Some, None, List, [], ◌∷◌, ◌++◌, length, replicate}
 use Rattle.core.specs.declared.snapshot.Snapshot.{Snapshot}
 use Rattle.spin_core.specs.Cell.{Use, off, reads, writes, fixes, knows, Ways, readers_of, writers_of}
-use Rattle.spin_core.specs.Own.{Numbered, Runs, Tells}
+use Rattle.spin_core.specs.Own.{Numbered, what, Runs, Tells}
 use Rattle.spin_core.specs.Passes as passes
 use Rattle.spin_core.specs.Passes.{Course, Ending, Begins, step_by}
 use Rattle.spin_core.specs.declared.cell.stable.MaybeStable.{MaybeStable}
@@ -26,7 +26,7 @@ use Rattle.spin_step.specs.declared.stepped.Next.{Next}
 use Rattle.spin_step.specs.declared.stepped.Next.TheVariants.{Continue, Answers}
 use Rattle.spin_step.specs.OnceCalls.{OnceMachine, once_machine, brings_of}
 use Rattle.spin_once.specs.Model.{Point, at, model}
-use Rattle.spin_once.specs.OnceValues.{Valued, bare, bare_trace, given_of, made, AtMostOne, IsMade}
+use Rattle.spin_once.specs.OnceValues.{Valued, bare, bare_trace, given_of, made, values, AtMostOne, IsMade}
 use Rattle.spin_once.specs.declared.once_core.rule.Key.{Key}
 use Rattle.spin_once.specs.declared.once_core.rule.Stage.{Stage}
 use Rattle.spin_once.specs.declared.once_core.rule.Stage.TheVariants.{Seed, Done}
@@ -104,14 +104,20 @@ words_of w = (w, tt)
 abbrev pub Says : Type 1
 Says = passes.Says (Unit {0}) Call (Answer (Unit {0})) View
 
+-- the party runs a closure, which may give a value
+abbrev pub is_running : Option View → Bool
+is_running (Some (Calling c Run None)) = is_some (brings_of c)
+is_running _ = false
+
 module _ {T S : Type 0} where
   -- what holds of the first word, the trace and the parties of a cell with this opening
   unfoldable pub IsOnce : Opening (Stage T S) → ℕ → Trace (Valued T) (Unit {0}) → List (Numbered View) → Type 0
   IsOnce opening n t vs = Runs (model (given_of opening.value)) seat_of words_of Word opening.name n (bare_trace t) vs × AtMostOne n (made opening.value t.entries)
 
-  -- what a step tells of its moves; it also tells that the history still has at most one value
+  -- What a step tells of its moves. It also tells that the history still has at most one value, and that only a party that runs its closure
+  -- writes one.
   unfoldable pub Told : Opening (Stage T S) → Says → Option (Numbered View) → List (Valued T) → List (Valued T) → ℕ → Numbered View → Type 0
-  Told opening says view log es n v = Tells (model (given_of opening.value)) seat_of words_of says view (bare log) (bare es) n v × (length (made opening.value (log ++ es)) ≤ 1)
+  Told opening says view log es n v = Tells (model (given_of opening.value)) seat_of words_of says view (bare log) (bare es) n v × (length (made opening.value (log ++ es)) ≤ 1) × (is_running (what view) ≡ false → values es ≡ [])
 
 -- The steps of a call. The model's table says which step comes next.
 
@@ -165,11 +171,6 @@ IsStepOf c next = (l : OncePoint) × (n : ℕ) × (next ≡ next_at c l n)
 -- the call is answered with the value, or because there is none
 abbrev pub IsTold : Onward → Type 0
 IsTold next = (next ≡ Answers (Value tt) None) ⊎ (next ≡ Answers NoValue None)
-
--- the party runs a closure, which may give a value
-abbrev pub is_running : Option View → Bool
-is_running (Some (Calling c Run None)) = is_some (brings_of c)
-is_running _ = false
 
 -- The calls of a party
 

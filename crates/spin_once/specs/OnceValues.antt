@@ -2,6 +2,7 @@
 -- history. In the model the same call ends with a step.
 use Rattle.std.specs.Prelude.{◌≡◌, ◌≢◌, ◌≤◌, ℕ, Bool, true, false, Option, Some, None, is_some, List, [], ◌∷◌, ◌++◌, map, length}
 use Rattle.spin_core.specs.Cell.{Use, off}
+use Rattle.spin_core.specs.Own.{entries_by}
 use Rattle.spin_core.specs.Stable.{maybe_stable}
 use Rattle.spin_core.specs.Values.{untold}
 use Rattle.spin_core.specs.declared.cell.stable.MaybeStable.{MaybeStable}
@@ -60,6 +61,10 @@ module _ {T : Type 0} where
   values [] = []
   values (e ∷ es) = value_of e.1 ++ values es
 
+  -- the values that the party with this number writes by these entries
+  abbrev pub written_by : ℕ → List (Valued T) → List T
+  written_by p es = values (entries_by p es)
+
   -- Which values a history may have if the word is `n`. There is none unless the word is 2 (complete), and there is never a second one.
   abbrev pub AtMostOne : ℕ → List T → Type 0
   AtMostOne n vs = (n ≢ 2 → vs ≡ []) × (length vs ≤ 1)
@@ -83,6 +88,10 @@ module _ {T S : Type 0} where
   -- the values of a cell: the one with which it opened, if any, and those that this history writes
   abbrev pub made : Stage T S → List (Valued T) → List T
   made first es = lies_in first ++ values es
+
+  -- the lock opens with these values, at most one, and its history tells the value that it has
+  abbrev pub OpensWith : List T → Key T S → Type 0
+  OpensWith vs key = (lies_in key.opening.value ≡ vs) × (key.opening.told ≡ true)
 
   -- A value that lies in the cell is the only one of these values. Nothing is said once the owner has borrowed the value (`told` is false).
   abbrev pub IsMade : Bool → List T → Stage T S → Type 0

@@ -1,16 +1,13 @@
 //! A value that its own initialiser makes when a thread first asks for it. Begin with [`LazyLock::new`] and
 //! [`LazyLock::force`]. [`LazyLock::promising`] tells callers more of the value than its type does.
-ghost use Rattle.std.specs.Prelude.{◌≡◌, Some, true, []};
+ghost use Rattle.std.specs.Prelude.{◌≡◌, Some, []};
 ghost use Rattle.spin_core.specs.Own.{what};
-ghost use Rattle.spin_core.specs.Passes.{IsCall};
-ghost use Rattle.spin_step.specs.declared.answer.Answer.TheVariants.{Value};
 ghost use Rattle.spin_step.specs.declared.once_calls.OnceCall.TheVariants.{CallOnce};
-ghost use Rattle.spin_once.specs.Accounts.{Place, here, seed_of, Since, Entered};
+ghost use Rattle.spin_once.specs.Accounts.{Place, here, seed_of, Entered, Finds};
 ghost use Rattle.spin_once.specs.Lazy.{initialiser, promise};
-ghost use Rattle.spin_once.specs.LazyPasses.{opening};
+ghost use Rattle.spin_once.specs.LazyPasses.{Gives, OpensWith, new_in, opening};
 ghost use Rattle.spin_step.specs.declared.once_calls.OncePoint.TheVariants.{TryBegin};
 ghost use Rattle.spin_once.specs.Once.{in_call};
-ghost use Rattle.spin_once.specs.OnceValues.{lies_in};
 ghost use Rattle.spin_once.specs.declared.lazylock.Initialiser.{Initialiser as AnInitialiser};
 
 use crate::exclusive::Exclusive;
@@ -80,9 +77,11 @@ impl<T, F: FnOnce() -> T, M: Promise<T> + Drop> Makes<T, M> for F {
     }
 }
 
-/// An initialiser that has not run, and what is promised of its value.
+/// What a [`LazyLock`] makes its value from: an initialiser that has not run, and what is promised of its value.
+///
+/// Only a law names it, as [`two_answers_of_a_once_agree`].
 #[derive(Drop)]
-pub(crate) struct Initialiser<F, M> {
+pub struct Initialiser<F, M> {
     f: Exclusive<F>,
     promise: M,
 }
@@ -121,7 +120,7 @@ impl<T, F: FnOnce() -> T, R> LazyLock<T, F, R> {
     /// The `initialiser` of the `LazyLock` is `f`. The `LazyLock` opens without a value (`opens`).
     pub fn new(f: F) -> Self
         ensures made { initialiser result ≡ f }
-        ensures opens { (lies_in (opening result).value ≡ []) × ((opening result).told ≡ true) }
+        ensures opens { OpensWith [] (opening result) }
     {
         Self::promising((), f)
     }
@@ -154,7 +153,7 @@ impl<T, F, R, M: Promise<T>> LazyLock<T, F, R, M> {
     pub fn promising(promised: M, f: F) -> Self
         ensures made { initialiser result ≡ f }
         ensures kept { promise result ≡ promised }
-        ensures opens { (lies_in (opening result).value ≡ []) × ((opening result).told ≡ true) }
+        ensures opens { OpensWith [] (opening result) }
     {
         LazyLock {
             core: OnceCore::new(Initialiser {
@@ -174,16 +173,15 @@ impl<T, F: Makes<T, M>, R: RelaxStrategy, M: Promise<T>> LazyLock<T, F, R, M> {
     ///
     /// # Contract
     /// The initialiser has to be able to make the value (`can`). For a closure that means: its precondition holds, and
-    /// each of its answers keeps the promise. The value keeps the promise. Whether and when the call returns is not
-    /// promised.
+    /// each of its answers keeps the promise. The value keeps the promise (`keeps`), and is the only one in a history of
+    /// the `LazyLock` in which this call is one `CallOnce` (`Gives`). Whether and when the call returns is not promised.
     pub fn force<'a, W: Wait>(this: &'a Self, rt: &W) -> &'a T
         requires { F.can (initialiser this.now) (promise this.now) }
-        ensures { M.keeps (promise this.now) result.now }
+        ensures keeps { M.keeps (promise this.now) result.now }
+        ensures found { Gives (CallOnce tt) (M.keeps (promise this.now)) (new_in (opening this.now)) result.now }
     {
-        match this.core.account().come(OnceCall::CallOnce(())) {
-            Ok(found) => found.value(),
-            Err(account) => Self::make(rt, account).value(),
-        }
+        let (value, _pass) = Self::pass(this).force(rt);
+        value
     }
 
     // Makes the value, or waits for it. It is not inlined, since that would lengthen the path of each caller that finds
@@ -196,7 +194,7 @@ impl<T, F: Makes<T, M>, R: RelaxStrategy, M: Promise<T>> LazyLock<T, F, R, M> {
     ) -> Found<'a, T, Initialiser<F, M>>
         requires wants { what account.party.view ≡ Some (in_call (CallOnce tt) TryBegin) }
         requires can { F.can (seed_of account).f.inner (seed_of account).promise }
-        ensures { (p : Place T (AnInitialiser F M)) → Entered (CallOnce tt) p (here account.entry) → Since p (IsCall (CallOnce tt) (Value tt)) (here result.account) }
+        ensures { (p : Place T (AnInitialiser F M)) → Entered (CallOnce tt) p (here account.entry) → Finds (CallOnce tt) (M.keeps (seed_of account.entry).promise) p result.account }
     {
         match account.claim::<R, W>(OnceCall::CallOnce(()), rt) {
             Ok(found) => found,

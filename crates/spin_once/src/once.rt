@@ -1,12 +1,10 @@
 //! A value that one closure makes. Begin with [`Once::new`] and [`Once::call_once`].
-ghost use Rattle.std.specs.Prelude.{◌≡◌, true, [], ◌∷◌, IfErr, Err};
-ghost use Rattle.spin_once.specs.OncePasses.{opening};
-ghost use Rattle.spin_once.specs.OnceValues.{lies_in};
+ghost use Rattle.std.specs.Prelude.{◌≡◌, [], ◌∷◌, IfSome, IfOk, IfErr, Ok, Err};
+ghost use Rattle.spin_step.specs.declared.once_calls.OnceCall.TheVariants.{CallOnce, TryCallOnceOk, Get, Poll as PollCall, Wait as WaitCall};
+ghost use Rattle.spin_once.specs.OncePasses.{Gives, Never, OpensWith, new_in, opening};
 
-use self::make::{find_or_try, make};
 use crate::once_core::{OnceCore, Seed};
 use spin_core::relax::{RelaxStrategy, Spin};
-use spin_step::OnceCall;
 use std::marker::PhantomData;
 use std::sync::Wait;
 
@@ -52,7 +50,7 @@ impl<T, R> Once<T, R> {
     /// # Contract
     /// The `Once` opens without a value, and its history will have the value that a closure gives (`opens`).
     pub fn new() -> Self
-        ensures opens { (lies_in (opening result).value ≡ []) × ((opening result).told ≡ true) }
+        ensures opens { OpensWith [] (opening result) }
     {
         Once {
             core: OnceCore::new(()),
@@ -65,7 +63,7 @@ impl<T, R> Once<T, R> {
     /// # Contract
     /// The `Once` opens with this value, so none is made (`opens`).
     pub fn initialized(value: T) -> Self
-        ensures opens { (lies_in (opening result).value ≡ value ∷ []) × ((opening result).told ≡ true) }
+        ensures opens { OpensWith (value ∷ []) (opening result) }
     {
         Once {
             core: OnceCore::initialized(value, &()),
@@ -76,8 +74,15 @@ impl<T, R> Once<T, R> {
     /// Returns the value, or `None` if there is none yet.
     ///
     /// It makes one load and never waits. The reference is good for as long as the `Once` is borrowed.
-    pub fn get(&self) -> Option<&T> {
-        self.core.get()
+    ///
+    /// # Contract
+    /// A value is the only one in a history of the `Once` in which this call is one `Get` (`Gives`). `None` promises
+    /// nothing.
+    pub fn get(&self) -> Option<&T>
+        ensures { IfSome result (λ value. Gives Get Never (new_in (opening self.now)) value.now) }
+    {
+        let (found, _pass) = self.pass().get();
+        found
     }
 
     /// Returns `true` if [`get`](Once::get) finds a value. After that the answer stays `true` while the `Once` is
@@ -118,15 +123,15 @@ impl<T, R: RelaxStrategy> Once<T, R> {
     /// is called only if that closure left no value. The call never returns if `f` waits for the value of this `Once`.
     ///
     /// # Contract
-    /// The precondition of `f` has to hold. The caller knows of the value what its type `T` says. Whether and when the
-    /// call returns is not promised.
+    /// The precondition of `f` has to hold. The value is the only one in a history of the `Once` in which this call is one
+    /// `CallOnce` (`Gives`): the value with which the `Once` was made, one that `f` may return, or one that another
+    /// caller wrote. Whether and when the call returns is not promised.
     pub fn call_once<F: FnOnce() -> T, W: Wait>(&self, rt: &W, f: F) -> &T
         requires { F.pre f }
+        ensures { Gives (CallOnce tt) (F.post f) (new_in (opening self.now)) result.now }
     {
-        match self.core.account().come(OnceCall::CallOnce(())) {
-            Ok(found) => found.value(),
-            Err(account) => make::<T, R, F, W>(rt, account, f).value(),
-        }
+        let (value, _pass) = self.pass().call_once(rt, f);
+        value
     }
 
     /// Like [`call_once`](Once::call_once), with a closure that may fail.
@@ -135,8 +140,8 @@ impl<T, R: RelaxStrategy> Once<T, R> {
     /// one.
     ///
     /// # Contract
-    /// The precondition of `f` has to hold. An `Err` is one that this caller's own `f` may return. Whether and when
-    /// the call returns is not promised.
+    /// The precondition of `f` has to hold. An `Err` is one that this caller's own `f` may return (`err`). `Ok` promises
+    /// what `call_once` does (`found`). Whether and when the call returns is not promised.
     ///
     /// # Examples
     /// ```
@@ -155,20 +160,16 @@ impl<T, R: RelaxStrategy> Once<T, R> {
     ) -> Result<&T, E>
         requires { F.pre f }
         ensures err { IfErr result (λ e. F.post f (Err e)) }
+        ensures found { IfOk result (λ value. Gives (TryCallOnceOk tt) (λ v. F.post f (Ok v)) (new_in (opening self.now)) value.now) }
     {
-        match find_or_try::<T, R, F, E, W>(self.core.account(), rt, f) {
-            Ok(found) => Ok(found.value()),
-            Err((error, account)) => {
-                account.close();
-                Err(error)
-            }
-        }
+        let (found, _pass) = self.pass().try_call_once(rt, f);
+        found
     }
 
     /// Like [`call_once`](Once::call_once), with a copy of `value` in place of what a closure gives.
     ///
     /// # Contract
-    /// Whether and when the call returns is not promised.
+    /// Like that of `call_once`.
     ///
     /// # Examples
     /// ```
@@ -181,6 +182,7 @@ impl<T, R: RelaxStrategy> Once<T, R> {
     pub fn init_from_ref<W: Wait>(&self, rt: &W, value: &T) -> &T
     where
         T: Copy,
+        ensures { Gives (CallOnce tt) (λ v. v ≡ value.now) (new_in (opening self.now)) result.now }
     {
         self.call_once(rt, || *value)
     }
@@ -188,7 +190,8 @@ impl<T, R: RelaxStrategy> Once<T, R> {
     /// Returns the value, spinning until there is one, even if no caller has begun to make it.
     ///
     /// # Contract
-    /// Whether and when the call returns is not promised.
+    /// The value is the only one in a history of the `Once` in which this call is one `Wait` (`Gives`). Whether and when
+    /// the call returns is not promised.
     ///
     /// # Examples
     /// ```
@@ -199,15 +202,19 @@ impl<T, R: RelaxStrategy> Once<T, R> {
     /// let (made, found) = thread::join(&rt, || *port.call_once(&rt, || 80), || *port.wait(&rt));
     /// assert_eq!(rt; (made, found), (80, 80));
     /// ```
-    pub fn wait<W: Wait>(&self, rt: &W) -> &T {
-        self.core.account().wait::<R, W>(rt).value()
+    pub fn wait<W: Wait>(&self, rt: &W) -> &T
+        ensures { Gives WaitCall Never (new_in (opening self.now)) result.now }
+    {
+        let (value, _pass) = self.pass().wait(rt);
+        value
     }
 
     /// Returns the value, or `None` if there is none and no closure runs. While a closure runs, the call spins until
     /// that closure has ended.
     ///
     /// # Contract
-    /// Whether and when the call returns is not promised.
+    /// A value is the only one in a history of the `Once` in which this call is one `Poll` (`Gives`). Whether and when the
+    /// call returns is not promised.
     ///
     /// # Examples
     /// ```
@@ -218,9 +225,10 @@ impl<T, R: RelaxStrategy> Once<T, R> {
     /// port.call_once(&rt, || 80);
     /// assert_eq!(rt; port.poll(&rt).copied(), Some(80));
     /// ```
-    pub fn poll<W: Wait>(&self, rt: &W) -> Option<&T> {
-        let (found, account) = self.core.account().poll::<R, W>(rt);
-        account.close();
+    pub fn poll<W: Wait>(&self, rt: &W) -> Option<&T>
+        ensures { IfSome result (λ value. Gives PollCall Never (new_in (opening self.now)) value.now) }
+    {
+        let (found, _pass) = self.pass().poll(rt);
         found
     }
 }

@@ -1,15 +1,23 @@
 //! A value that is made once, from a seed: what `Once` and `LazyLock` share. Begin with [`OnceCore::account`].
-ghost use Rattle.std.specs.Prelude.{◌≡◌, true, None, [], IfSome};
-ghost use Rattle.spin_once.specs.declared.once_core.rule.Stage.TheVariants.{Seed as InSeed, Done};
+ghost use Rattle.std.specs.Prelude.{◌≡◌, [], ◌∷◌};
+ghost use Rattle.spin_once.specs.Accounts.{here, new_in};
+ghost use Rattle.spin_once.specs.OnceValues.{OpensWith};
 
-use self::rule::{COMPLETE, SeedCell, Stage};
+use self::rule::{COMPLETE, Key, NOTHING, SeedCell, Stage};
+use spin_core::cell::Cell;
+use spin_core::cell::stable::MaybeStable;
+use spin_core::tie::Opening;
+use spin_core::trace::Trace;
+use std::snapshot::Snapshot;
 
 mod account;
 mod init_permit;
 mod known;
+mod pass;
 mod rule;
 
 pub(crate) use self::account::{Account, Found};
+pub use self::pass::Pass;
 pub(crate) use self::rule::Seed;
 
 /// A cell that holds a seed, and later the value made from it.
@@ -22,45 +30,48 @@ pub(crate) struct OnceCore<T, S: Seed<T>> {
 }
 
 impl<T, S: Seed<T>> OnceCore<T, S> {
-    /// Creates a cell with a seed.
+    /// Creates a cell with a seed, which no party has used.
     pub(crate) fn new(seed: S) -> Self
         ensures seed { result.cell.seed.value ≡ seed }
-        ensures opens { (result.cell.opening.value ≡ InSeed seed) × (result.cell.opening.told ≡ true) }
+        ensures opens { OpensWith [] result.cell }
     {
-        OnceCore {
-            cell: rule::with_seed(seed),
-        }
+        let trace = Trace::new(());
+        let known = Snapshot::of(&seed);
+        let stage = Stage::Seed(seed);
+        let key = Key {
+            seed: known,
+            opening: Opening::of(&trace, &stage),
+        };
+        let slot = MaybeStable { value: stage };
+        let cell = Cell::new(slot, NOTHING, trace, &key);
+        OnceCore { cell }
     }
 
-    /// Creates a cell with a value that may be made from `seed`.
+    /// Creates a cell with a value that may be made from `seed`, as if a party had read it.
     pub(crate) fn initialized(value: T, seed: &S) -> Self
         requires { S.makes seed.now value }
         ensures seed { result.cell.seed.value ≡ seed.now }
-        ensures opens { (result.cell.opening.value ≡ Done value) × (result.cell.opening.told ≡ true) }
+        ensures opens { OpensWith (value ∷ []) result.cell }
     {
-        OnceCore {
-            cell: rule::completed(value, seed),
-        }
+        let trace = Trace::new(());
+        let stage = Stage::Done(value);
+        let key = Key {
+            seed: Snapshot::of(seed),
+            opening: Opening::of(&trace, &stage),
+        };
+        let slot = MaybeStable { value: stage };
+        let cell = Cell::new(slot, COMPLETE, trace, &key);
+        OnceCore { cell }
     }
 
     /// Returns the account of a party that has made no call.
     pub(crate) fn account(&self) -> Account<'_, T, S>
-        ensures party { (result.party.key ≡ self.now.cell) × (result.party.view ≡ None) }
-        ensures seen { (result.seen.name ≡ self.now.cell.opening.name) × (result.seen.entries ≡ []) }
+        ensures { here result ≡ new_in self.now.cell }
     {
         Account {
             party: self.cell.enter(),
             seen: self.cell.watch(),
         }
-    }
-
-    /// Returns the value if there is one, by one load.
-    pub(crate) fn get(&self) -> Option<&T>
-        ensures { IfSome result (λ value. S.makes self.now.cell.seed.value value.now) }
-    {
-        let (found, account) = self.account().get();
-        account.close();
-        found
     }
 
     /// Returns the value if there is one. It loads no word, since the cell is no longer shared.

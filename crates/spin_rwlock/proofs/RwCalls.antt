@@ -22,25 +22,20 @@ use Rattle.spin_step_more.specs.declared.rw_calls.RwCall.{RwCall}
 use Rattle.spin_step_more.specs.declared.rw_calls.RwCall.TheVariants.{TryRead, Read, TryUpgradeableRead, UpgradeableRead, Write, TryWrite, Upgrade, TryUpgrade, Release, Downgrade, ReaderCount, WriterCount}
 use Rattle.spin_step_more.specs.declared.rw_calls.RwPoint.{RwPoint}
 use Rattle.spin_step_more.specs.declared.rw_calls.RwPoint.TheVariants.{First, Exchange, Asking}
-use Rattle.spin_core.specs.Cell.{reads as reads_it, writes, off}
+use Rattle.spin_core.specs.Cell.{reads as reads_it, writes}
 use Rattle.spin_core.specs.declared.tie.Opening.{Opening}
-use Rattle.spin_session.specs.Meaning.{table_at, use_at}
-use Rattle.spin_session.specs.Turns.{Fuses, IsLed, last_step, EndsWith, MayBegin, StaysQuiet, IsAnsweredBy, IsAnsweredAtOnce, IsTry, IsAnswered, IsLook, Uses, FusesBy, either_call, either_step}
-use Rattle.spin_rwlock.specs.Rw.{rw_meaning, rw_tables, Comes, call_of, downgrade_to}
+use Rattle.spin_session.specs.Meaning.{use_at}
+use Rattle.spin_session.specs.Turns.{Fuses, IsLed, last_step, MayBegin, StaysQuiet, IsAnsweredBy, IsAnsweredAtOnce, IsTry, IsAnswered, IsLook, Uses, FusesBy, either_call, either_step}
+use Rattle.spin_rwlock.specs.Rw.{rw_meaning, rw_tables, Comes, MayLeave, call_of, downgrade_to}
 
 -- no party writes while its call rests
 quiet : (c : RwCall) (h : Option Hold) (l : RwPoint) → use_at rw_meaning (Calling c l h) ≡ writes → ⊥
 quiet Upgrade (Some hold.Upgradable) Asking e = absurd cc
 quiet c h l e = grind (arith, e)
 
-pub stays_quiet : (c : RwCall) (h : Option Hold) → use_at rw_meaning (resting h) ≢ writes → StaysQuiet rw_meaning c h
-stays_quiet c h not = (not, quiet c h)
-
 -- a reader that asks to upgrade reads on wherever its call rests
 pub reads_on : Uses rw_meaning Upgrade (Some hold.Upgradable)
-reads_on Asking rests e = absurd (let no : reads_it ≡ off = e in cc)
-reads_on First rests e = absurd (cc (rests))
-reads_on (Exchange n) rests e = absurd (cc (rests))
+reads_on l rests e = grind (arith, rests, e)
 
 module _ {T : Type 0} (key : Opening T) where
   pub reads : (h : Hold) → Comes h → IsAnsweredBy rw_tables rw_meaning (call_of h true) None Granted (Some h) key
@@ -50,9 +45,7 @@ module _ {T : Type 0} (key : Opening T) where
   reads hold.Upgradable comes First n b k may is = grind (arith, is)
   reads hold.Upgradable comes (Exchange j) n b k may is = grind (arith, is)
   reads hold.Upgradable comes Asking n b k may is = grind (arith, is)
-  reads hold.Write comes l n b k may is = absurd comes
-  reads (hold.Ticket t) comes l n b k may is = absurd comes
-  reads hold.Starver comes l n b k may is = absurd comes
+  reads h comes l n b k may is = absurd comes
 
   pub tries : (h : Hold) → Comes h → IsTry rw_tables rw_meaning (call_of h false) None (Some h) key
   tries hold.Read comes First n b k may is = grind (arith, is)
@@ -61,9 +54,7 @@ module _ {T : Type 0} (key : Opening T) where
   tries hold.Upgradable comes First n b k may is = grind (arith, is)
   tries hold.Upgradable comes (Exchange j) n b k may is = grind (arith, is)
   tries hold.Upgradable comes Asking n b k may is = grind (arith, is)
-  tries hold.Write comes l n b k may is = absurd comes
-  tries (hold.Ticket t) comes l n b k may is = absurd comes
-  tries hold.Starver comes l n b k may is = absurd comes
+  tries h comes l n b k may is = absurd comes
 
   -- a party may begin these calls, and writes no value in them
   pub may_come : (h : Hold) → Comes h → (waits : Bool) → MayBegin rw_tables rw_meaning (call_of h waits) None key
@@ -71,27 +62,16 @@ module _ {T : Type 0} (key : Opening T) where
   may_come hold.Read comes false = (refl, (λ e. absurd cc, quiet TryRead None))
   may_come hold.Upgradable comes true = (refl, (λ e. absurd cc, quiet UpgradeableRead None))
   may_come hold.Upgradable comes false = (refl, (λ e. absurd cc, quiet TryUpgradeableRead None))
-  may_come hold.Write comes waits = absurd comes
-  may_come (hold.Ticket t) comes waits = absurd comes
-  may_come hold.Starver comes waits = absurd comes
+  may_come h comes waits = absurd comes
 
   pub writes_only : IsAnsweredBy rw_tables rw_meaning Write None Granted (Some hold.Write) key
   writes_only l n b k may is = grind (arith, is)
 
-  pub tries_to_write : IsTry rw_tables rw_meaning TryWrite None (Some hold.Write) key
-  tries_to_write l n b k may is = grind (arith, is)
-
   pub upgrades : IsAnsweredBy rw_tables rw_meaning Upgrade (Some hold.Upgradable) Granted (Some hold.Write) key
-  upgrades Asking n b k may is = grind (arith, is)
-  upgrades First n b k may is = grind (arith, is)
-  upgrades (Exchange j) n b k may is = grind (arith, is)
+  upgrades l n b k may is = grind (arith, is)
 
   pub tries_to_upgrade : IsTry rw_tables rw_meaning TryUpgrade (Some hold.Upgradable) (Some hold.Write) key
   tries_to_upgrade l n b k may is = grind (arith, is)
-
-  -- a call of one step does not go on after it
-  pub write_at_once : IsAnswered rw_tables TryWrite None key
-  write_at_once n m j l k i is = grind (arith, is)
 
   pub upgrade_at_once : IsAnswered rw_tables TryUpgrade (Some hold.Upgradable) key
   upgrade_at_once n m j l k i is = grind (arith, is)
@@ -100,33 +80,21 @@ module _ {T : Type 0} (key : Opening T) where
   count_at_once n m j l k i is = absurd (cc (is))
 
   pub leaves : (h : Hold) → Comes h → IsAnsweredAtOnce rw_tables Release (Some h) Done None key
-  leaves hold.Read comes n = refl
-  leaves hold.Upgradable comes n = refl
-  leaves hold.Write comes n = absurd comes
-  leaves (hold.Ticket t) comes n = absurd comes
-  leaves hold.Starver comes n = absurd comes
+  leaves h comes n = grind (arith, comes)
 
   pub may_leave : (h : Hold) → Comes h → MayBegin rw_tables rw_meaning Release (Some h) key
   may_leave hold.Read comes = (refl, (λ e. absurd cc, quiet Release (Some hold.Read)))
   may_leave hold.Upgradable comes = (refl, (λ e. absurd cc, quiet Release (Some hold.Upgradable)))
-  may_leave hold.Write comes = absurd comes
-  may_leave (hold.Ticket t) comes = absurd comes
-  may_leave hold.Starver comes = absurd comes
+  may_leave h comes = absurd comes
 
-  -- the writer becomes a reader
-  pub lowers : (h : Hold) → Comes h → EndsWith rw_tables (downgrade_to h) hold.Write (Some h) key
-  lowers hold.Read comes n = refl
-  lowers hold.Upgradable comes n = refl
-  lowers hold.Write comes n = absurd comes
-  lowers (hold.Ticket t) comes n = absurd comes
-  lowers hold.Starver comes n = absurd comes
+  -- the writer becomes a reader, or releases the lock
+  pub may_lower : (h : Hold) → Comes h → MayLeave (downgrade_to h) (Some h) key
+  may_lower hold.Read comes = (refl, (λ n. refl), λ e. absurd cc)
+  may_lower hold.Upgradable comes = (refl, (λ n. refl), λ e. absurd cc)
+  may_lower h comes = absurd comes
 
-  pub may_lower : (h : Hold) → Comes h → ((table_at rw_tables key).asks (downgrade_to h) (Some hold.Write)).begins (Some hold.Write) ≡ true
-  may_lower hold.Read comes = refl
-  may_lower hold.Upgradable comes = refl
-  may_lower hold.Write comes = absurd comes
-  may_lower (hold.Ticket t) comes = absurd comes
-  may_lower hold.Starver comes = absurd comes
+  pub may_release : MayLeave Release None key
+  may_release = (refl, (λ n. refl), λ e. absurd cc)
 
   pub lower_at_once : IsAnsweredAtOnce rw_tables Downgrade (Some hold.Upgradable) Done (Some hold.Read) key
   lower_at_once n = refl
@@ -185,17 +153,11 @@ module _ {T : Type 0} (value : T) (held : Option Hold) where
   fuses hold.Read comes false = (λ l. refl, led_by TryRead hold.Read (1, (Exchange 0, refl, (refl, refl)), refl) (λ n. (0, (refl, refl), refl)))
   fuses hold.Upgradable comes true = (λ l. refl, led_by UpgradeableRead hold.Upgradable (1, (Exchange 0, refl, (refl, refl)), refl) (λ n. (0, (refl, refl), refl)))
   fuses hold.Upgradable comes false = (λ l. refl, led_by TryUpgradeableRead hold.Upgradable (1, (Exchange 0, refl, (refl, refl)), refl) (λ n. (0, (refl, refl), refl)))
-  fuses hold.Write comes waits = absurd comes
-  fuses (hold.Ticket t) comes waits = absurd comes
-  fuses hold.Starver comes waits = absurd comes
+  fuses h comes waits = absurd comes
 
 -- a reader uses the value, and does not write it
 pub lent_reads : (h : Hold) → Comes h → use_at rw_meaning (resting (Some h)) ≡ reads_it
-lent_reads hold.Read comes = refl
-lent_reads hold.Upgradable comes = refl
-lent_reads hold.Write comes = absurd comes
-lent_reads (hold.Ticket t) comes = absurd comes
-lent_reads hold.Starver comes = absurd comes
+lent_reads h comes = grind (arith, comes)
 
 -- the readers are within the limit
 pub few_readers : (plain : Plain) (n : ℕ) → plain.cap ≡ reader_limit → IsInOrder plain → n ≡ rw_word plain → readers_in n ≤ reader_limit

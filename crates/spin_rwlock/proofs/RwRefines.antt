@@ -1,5 +1,5 @@
 -- The table of a read-write lock refines the plain lock.
-use Rattle.std.proofs.Common.{◌≡◌, ℕ, ◌+◌, ◌-◌, ◌<◌, ◌≤◌, ◌^◌, ◌==◌, is_some, [], Bool, true, false, length, Option, Some, None, List, refl, ap, ◌∙◌, arith}
+use Rattle.std.proofs.Common.{◌≡◌, ℕ, ◌+◌, ◌-◌, ◌<◌, ◌≤◌, ◌^◌, [], Bool, true, false, length, Option, Some, None, List, refl, ap, ◌∙◌, arith}
 use Rattle.spin_step.specs.Plain.{Plain, Kind, reading, upgradable, asking, writing, weight, Holder, with_kind, gets, turns, releases, may_turn, is_holder, rw_word, to_read, to_read_upgradable, to_write, to_upgrade, to_upgrade_asked}
 use Rattle.spin_step.specs.Orders.{IsInOrder}
 use Rattle.spin_step.proofs.Holders.{is_holder-from_entries}
@@ -8,10 +8,10 @@ use Rattle.spin_step.specs.declared.place.Hold.{Hold}
 use Rattle.spin_step.specs.declared.place.Hold.TheVariants as hold
 use Rattle.spin_step.specs.declared.place.Seat.{Seat}
 use Rattle.spin_step.specs.declared.place.Seat.TheVariants.{Calling, Holding}
-use Rattle.spin_step_more.specs.Readers.{reader_limit, OneOfEach, read, read_upgradable, write, upgrade, upgrade_asked, tells, readers_in, writers_in}
+use Rattle.spin_step_more.specs.Readers.{reader_limit, OneOfEach, read, read_upgradable, write, upgrade, upgrade_asked, tells}
 use Rattle.spin_step_more.specs.RwCalls.{rw_table}
 use Rattle.spin_step_more.specs.declared.rw_calls.RwCall.{RwCall}
-use Rattle.spin_step_more.specs.declared.rw_calls.RwCall.TheVariants.{TryRead, Read, TryUpgradeableRead, UpgradeableRead, TryWrite, TryWriteWeak, Write, ReaderCount, WriterCount, TryUpgrade, TryUpgradeWeak, Upgrade, Downgrade, DowngradeToUpgradeable, Release}
+use Rattle.spin_step_more.specs.declared.rw_calls.RwCall.TheVariants.{TryRead, Read, TryUpgradeableRead, UpgradeableRead, TryUpgrade, TryUpgradeWeak, Upgrade, Downgrade, DowngradeToUpgradeable, Release}
 use Rattle.spin_step_more.specs.declared.rw_calls.RwPoint.{RwPoint}
 use Rattle.spin_step_more.specs.declared.rw_calls.RwPoint.TheVariants.{First, Exchange, Asking}
 use Rattle.spin_step_more.proofs.Readers.{one_of_each, word_of}
@@ -23,19 +23,19 @@ use Rattle.spin_core.specs.declared.tie.Opening.{Opening}
 use Rattle.spin_core.specs.declared.trace.Trace.{Trace}
 use Rattle.spin_core.proofs.Owners.{OfReaders, readers_or_writer}
 use Rattle.spin_core.proofs.Views.{release-own, turn-own}
-use Rattle.spin_step.specs.Acts.{Act, next_of, load_for, retry, store, tried, swap, one_number, step_by, number_at, operation_by, is_section}
+use Rattle.spin_step.specs.Acts.{Act, next_of, retry, store, one_number, step_by, number_at, operation_by, is_section}
 use Rattle.spin_step.specs.Operations.{performed}
 use Rattle.spin_step.specs.declared.table.Operation.TheVariants as op
 use Rattle.spin_step.specs.Steps.{Decides}
 use Rattle.spin_step.specs.Parties.{entries_after}
 use Rattle.spin_step.specs.Plain.{Ask, Change, apply}
 use Rattle.spin_step.specs.declared.answer.Answer.{Answer}
-use Rattle.spin_step.specs.declared.answer.Answer.TheVariants.{Refused, Done, Count}
+use Rattle.spin_step.specs.declared.answer.Answer.TheVariants.{Refused, Done}
 use Rattle.spin_step.specs.declared.stepped.Next.{Next}
 use Rattle.spin_step.specs.declared.stepped.Next.TheVariants.{Continue, Answers}
 use Rattle.spin_step_more.specs.RwCalls.{act_of, granted, goes_for}
 use Rattle.spin_core.specs.Views.{Knows}
-use Rattle.spin_rwlock.proofs.Shapes.{Keeps, Gets, by_load, by_retry, by_exchange, by_weak, by_look, by_store, both_ways, won_or_lost, all_ways}
+use Rattle.spin_rwlock.proofs.Shapes.{Keeps, Gets, by_retry, by_store}
 use Rattle.spin_session.specs.Meaning.{part_of, seat_after, rests_at, use_at, worked, SoundAct, Sound, ComesFrom, Refines, ways_of}
 use Rattle.spin_session.proofs.Refining as session
 use Rattle.spin_rwlock.specs.Rw.{rw_meaning, Done as Entries, IsRw, View}
@@ -86,38 +86,20 @@ module _ {T : Type 0} (value : T) where
       abbrev comes_to : (d : Change) (next : Next RwPoint (Answer T)) → entries_after plain (Some d) (entries_of p from) ≡ entries_of p (to c h next) → Knows (apply plain d) (to c h next) → Gets one_number 0 rw_word (to c h) p plain from d next
       comes_to d next e k = record { entries = e; knows = k }
 
-    -- a call that comes as a reader, or as an upgradable one
-    abbrev Coming : RwCall → Next RwPoint (Answer T) → Type 0
-    Coming c missed = Keeps one_number 0 rw_word (to c None) p plain idle missed
-
-    module _ (f : ℕ → Option ℕ) (ask : Ask) (held : Hold) (grants : Decides plain (gets p ask) rw_word (f w)) (comes : (c : RwCall) → Gets one_number 0 rw_word (to c None) p plain idle (gets p ask) (granted held))
-        (c : RwCall) (missed : Next RwPoint (Answer T)) (stays_at : (n : ℕ) → Coming c (goes_for n)) (misses : Coming c missed) where
-      looks : SoundAct one_number 0 rw_word (λ n. Unit {0}) (load_for f (λ q. gets q ask) goes_for missed) (to c None) p plain idle
-      looks = by_load one_number 0 rw_word (to c None) p plain idle f ask grants goes_for missed stays_at misses
-
-      tries : (k : ℕ) → SoundAct one_number 0 rw_word (λ n. Unit {0}) (retry k f (λ q. gets q ask) (granted held) goes_for missed) (to c None) p plain idle
-      tries k = by_retry one_number 0 rw_word (to c None) p plain idle f ask grants k (granted held) goes_for missed (comes c) stays_at misses
-
     reads : Decides plain (gets p to_read) rw_word (read reader_limit w)
     reads = rw_read-grants plain p w reader_limit one room refl
 
     upgradables : Decides plain (gets p to_read_upgradable) rw_word (read_upgradable reader_limit w)
     upgradables = rw_upgradable-grants plain p w reader_limit one room refl
 
-    reader : (c : RwCall) → Gets one_number 0 rw_word (to c None) p plain idle (gets p to_read) (granted hold.Read)
-    reader c = comes_to c None idle (gets p to_read) (granted hold.Read) refl tt
-
-    upgrader : (c : RwCall) → Gets one_number 0 rw_word (to c None) p plain idle (gets p to_read_upgradable) (granted hold.Upgradable)
-    upgrader c = comes_to c None idle (gets p to_read_upgradable) (granted hold.Upgradable) refl tt
-
-    refuses : (c : RwCall) → Coming c (Answers Refused None)
-    refuses c = stays c None idle (Answers Refused None) refl tt
+    -- an exchange of a call that reads so, where the word may be another one by now
+    exchanges : (f : ℕ → Option ℕ) (ask : Ask) (held : Hold) → Decides plain (gets p ask) rw_word (f w) → (c : RwCall) (missed : Next RwPoint (Answer T)) → Gets one_number 0 rw_word (to c None) p plain idle (gets p ask) (granted held)
+        → ((n : ℕ) → Keeps one_number 0 rw_word (to c None) p plain idle (goes_for n)) → Keeps one_number 0 rw_word (to c None) p plain idle missed
+        → (k : ℕ) → SoundAct one_number 0 rw_word (λ n. Unit {0}) (retry k f (λ q. gets q ask) (granted held) goes_for missed) (to c None) p plain idle
+    exchanges f ask held grants c missed won found misses k = by_retry one_number 0 rw_word (to c None) p plain idle f ask grants k (granted held) goes_for missed won found misses
 
     writes : Decides plain (gets p to_write) rw_word (write w)
     writes = rw_write-grants plain p w refl
-
-    writer : (c : RwCall) → Gets one_number 0 rw_word (to c None) p plain idle (gets p to_write) (granted hold.Write)
-    writer c = comes_to c None idle (gets p to_write) (granted hold.Write) refl tt
 
     stands : (k : Kind) → HasPart plain p (holds k) → is_holder p k plain.holders ≡ true
     stands k has = is_holder-from_entries p k plain.holders (ap (λ e. e.holders) has.0)
@@ -148,32 +130,6 @@ module _ {T : Type 0} (value : T) where
     upgrades_asked has = rw_upgrade_asked-grants plain p w one (stands asking has) refl
 
   sound : (c : RwCall) (l : RwPoint) (h : Option Hold) (p : ℕ) (plain : Plain) (vs : List View) (from : Part) → ComesFrom (rw_table value reader_limit) rw_meaning c l h from → plain.cap ≡ reader_limit → IsInOrder plain → IsLockOf (part_of rw_meaning) vs plain → Unit {0} → HasPart plain p from → Is c l h p plain from
-  sound Read First None p s vs from comes room order is fine has = let e : from ≡ idle = grind (arith, comes) in
-      rw e (looks p s room order (read reader_limit) to_read hold.Read (reads p s room order) (reader p s room order) Read (Continue First) (λ n. stays p s room order Read None idle (goes_for n) refl tt) (stays p s room order Read None idle (Continue First) refl tt))
-  sound Read (Exchange k) None p s vs from comes room order is fine has = let e : from ≡ idle = grind (arith, comes) in
-      rw e (tries p s room order (read reader_limit) to_read hold.Read (reads p s room order) (reader p s room order) Read (Continue First) (λ n. stays p s room order Read None idle (goes_for n) refl tt) (stays p s room order Read None idle (Continue First) refl tt) k)
-  sound TryRead First None p s vs from comes room order is fine has = let e : from ≡ idle = grind (arith, comes) in
-      rw e (looks p s room order (read reader_limit) to_read hold.Read (reads p s room order) (reader p s room order) TryRead (Answers Refused None) (λ n. stays p s room order TryRead None idle (goes_for n) refl tt) (refuses p s room order TryRead))
-  sound TryRead (Exchange k) None p s vs from comes room order is fine has = let e : from ≡ idle = grind (arith, comes) in
-      rw e (tries p s room order (read reader_limit) to_read hold.Read (reads p s room order) (reader p s room order) TryRead (Answers Refused None) (λ n. stays p s room order TryRead None idle (goes_for n) refl tt) (refuses p s room order TryRead) k)
-  sound UpgradeableRead First None p s vs from comes room order is fine has = let e : from ≡ idle = grind (arith, comes) in
-      rw e (looks p s room order (read_upgradable reader_limit) to_read_upgradable hold.Upgradable (upgradables p s room order) (upgrader p s room order) UpgradeableRead (Continue First) (λ n. stays p s room order UpgradeableRead None idle (goes_for n) refl tt) (stays p s room order UpgradeableRead None idle (Continue First) refl tt))
-  sound UpgradeableRead (Exchange k) None p s vs from comes room order is fine has = let e : from ≡ idle = grind (arith, comes) in
-      rw e (tries p s room order (read_upgradable reader_limit) to_read_upgradable hold.Upgradable (upgradables p s room order) (upgrader p s room order) UpgradeableRead (Continue First) (λ n. stays p s room order UpgradeableRead None idle (goes_for n) refl tt) (stays p s room order UpgradeableRead None idle (Continue First) refl tt) k)
-  sound TryUpgradeableRead First None p s vs from comes room order is fine has = let e : from ≡ idle = grind (arith, comes) in
-      rw e (looks p s room order (read_upgradable reader_limit) to_read_upgradable hold.Upgradable (upgradables p s room order) (upgrader p s room order) TryUpgradeableRead (Answers Refused None) (λ n. stays p s room order TryUpgradeableRead None idle (goes_for n) refl tt) (refuses p s room order TryUpgradeableRead))
-  sound TryUpgradeableRead (Exchange k) None p s vs from comes room order is fine has = let e : from ≡ idle = grind (arith, comes) in
-      rw e (tries p s room order (read_upgradable reader_limit) to_read_upgradable hold.Upgradable (upgradables p s room order) (upgrader p s room order) TryUpgradeableRead (Answers Refused None) (λ n. stays p s room order TryUpgradeableRead None idle (goes_for n) refl tt) (refuses p s room order TryUpgradeableRead) k)
-  sound TryWrite l None p s vs from comes room order is fine has = let e : from ≡ idle = grind (arith, comes) in
-      rw e (by_exchange one_number 0 rw_word (to p s room order TryWrite None) p s idle 0 1 to_write (writes p s room order) (granted hold.Write) (λ n. Answers Refused None) (writer p s room order TryWrite) (λ n. refuses p s room order TryWrite))
-  sound TryWriteWeak l None p s vs from comes room order is fine has = let e : from ≡ idle = grind (arith, comes) in
-      rw e (by_weak one_number 0 rw_word (to p s room order TryWriteWeak None) p s idle 0 write to_write (writes p s room order) (granted hold.Write) (Answers Refused None) (writer p s room order TryWriteWeak) (refuses p s room order TryWriteWeak))
-  sound Write First None p s vs from comes room order is fine has = let e : from ≡ idle = grind (arith, comes) in
-      rw e (by_weak one_number 0 rw_word (to p s room order Write None) p s idle 0 write to_write (writes p s room order) (granted hold.Write) (Continue First) (writer p s room order Write) (stays p s room order Write None idle (Continue First) refl tt))
-  sound ReaderCount l None p s vs from comes room order is fine has = let e : from ≡ idle = grind (arith, comes) in
-      rw e (by_look one_number 0 rw_word (to p s room order ReaderCount None) p s idle (λ n. Answers (Count (readers_in n)) None) (λ n. stays p s room order ReaderCount None idle (Answers (Count (readers_in n)) None) refl tt))
-  sound WriterCount l None p s vs from comes room order is fine has = let e : from ≡ idle = grind (arith, comes) in
-      rw e (by_look one_number 0 rw_word (to p s room order WriterCount None) p s idle (λ n. Answers (Count (writers_in n)) None) (λ n. stays p s room order WriterCount None idle (Answers (Count (writers_in n)) None) refl tt))
   sound Release l (Some hold.Read) p s vs from comes room order is fine has = let e : from ≡ holds reading = grind (arith, comes) in rw e (released p s room order hold.Read reading idle (rw e at has) (tells reading))
   sound Release l (Some hold.Upgradable) p s vs from comes room order is fine has = let e : from ≡ holds upgradable = grind (arith, comes) in rw e (released p s room order hold.Upgradable upgradable idle (rw e at has) (tells upgradable))
   sound Release l (Some hold.Write) p s vs from comes room order is fine has = let e : from ≡ holds writing = grind (arith, comes) in rw e (released p s room order hold.Write writing idle (rw e at has) (tells writing))
@@ -185,45 +141,25 @@ module _ {T : Type 0} (value : T) where
       rw e (turns_to p s room order DowngradeToUpgradeable (Some hold.Write) writing upgradable 1 (Answers Done (Some hold.Upgradable)) (rw e at has) refl refl (λ q. refl) tt (tells writing))
   sound Upgrade First (Some hold.Upgradable) p s vs from comes room order is fine has = let e : from ≡ holds upgradable = grind (arith, comes) in
       rw e (turns_to p s room order Upgrade (Some hold.Upgradable) upgradable asking 4 (Continue Asking) (rw e at has) refl refl (λ q. refl) tt (tells upgradable))
-  sound Upgrade Asking (Some hold.Upgradable) p s vs from comes room order is fine has = let e : from ≡ holds asking = grind (arith, comes) in
-      rw e (by_weak one_number 0 rw_word (to p s room order Upgrade (Some hold.Upgradable)) p s (holds asking) 6 upgrade_asked to_upgrade_asked (upgrades_asked p s room order (rw e at has)) (granted hold.Write) (Continue Asking)
-      (comes_to p s room order Upgrade (Some hold.Upgradable) (holds asking) (gets p to_upgrade_asked) (granted hold.Write) (grind arith) tt) (stays p s room order Upgrade (Some hold.Upgradable) (holds asking) (Continue Asking) refl tt))
-  sound TryUpgrade l (Some hold.Upgradable) p s vs from comes room order is fine has = let e : from ≡ holds upgradable = grind (arith, comes) in
-      rw e (by_exchange one_number 0 rw_word (to p s room order TryUpgrade (Some hold.Upgradable)) p s (holds upgradable) 2 1 to_upgrade (upgrades p s room order (rw e at has)) (granted hold.Write) (λ n. Answers Refused (Some hold.Upgradable))
-      (comes_to p s room order TryUpgrade (Some hold.Upgradable) (holds upgradable) (gets p to_upgrade) (granted hold.Write) (grind arith) tt) (λ n. stays p s room order TryUpgrade (Some hold.Upgradable) (holds upgradable) (Answers Refused (Some hold.Upgradable)) refl tt))
-  sound TryUpgradeWeak l (Some hold.Upgradable) p s vs from comes room order is fine has = let e : from ≡ holds upgradable = grind (arith, comes) in
-      rw e (by_weak one_number 0 rw_word (to p s room order TryUpgradeWeak (Some hold.Upgradable)) p s (holds upgradable) 2 upgrade to_upgrade (upgrades p s room order (rw e at has)) (granted hold.Write) (Answers Refused (Some hold.Upgradable))
-      (comes_to p s room order TryUpgradeWeak (Some hold.Upgradable) (holds upgradable) (gets p to_upgrade) (granted hold.Write) (grind arith) tt) (stays p s room order TryUpgradeWeak (Some hold.Upgradable) (holds upgradable) (Answers Refused (Some hold.Upgradable)) refl tt))
-  sound c l h p s vs from comes room order is fine has = absurd (grind (arith, comes))
+  sound Upgrade Asking (Some hold.Upgradable) p s vs from comes room order is fine has = let e : from ≡ holds asking = grind (arith, comes) in rw e (grind (arith, upgrades_asked p s room order (rw e at has)))
+  sound TryUpgrade l (Some hold.Upgradable) p s vs from comes room order is fine has = let e : from ≡ holds upgradable = grind (arith, comes) in rw e (grind (arith, upgrades p s room order (rw e at has)))
+  sound TryUpgradeWeak l (Some hold.Upgradable) p s vs from comes room order is fine has = let e : from ≡ holds upgradable = grind (arith, comes) in rw e (grind (arith, upgrades p s room order (rw e at has)))
+  sound Read First None p s vs from comes room order is fine has = grind (arith, comes, reads p s room order)
+  sound Read (Exchange k) None p s vs from comes room order is fine has = let e : from ≡ idle = grind (arith, comes) in
+      rw e (exchanges p s room order (read reader_limit) to_read hold.Read (reads p s room order) Read (Continue First) (comes_to p s room order Read None idle (gets p to_read) (granted hold.Read) refl tt) (λ n. stays p s room order Read None idle (goes_for n) refl tt) (stays p s room order Read None idle (Continue First) refl tt) k)
+  sound TryRead First None p s vs from comes room order is fine has = grind (arith, comes, reads p s room order)
+  sound TryRead (Exchange k) None p s vs from comes room order is fine has = let e : from ≡ idle = grind (arith, comes) in
+      rw e (exchanges p s room order (read reader_limit) to_read hold.Read (reads p s room order) TryRead (Answers Refused None) (comes_to p s room order TryRead None idle (gets p to_read) (granted hold.Read) refl tt) (λ n. stays p s room order TryRead None idle (goes_for n) refl tt) (stays p s room order TryRead None idle (Answers Refused None) refl tt) k)
+  sound UpgradeableRead First None p s vs from comes room order is fine has = grind (arith, comes, upgradables p s room order)
+  sound UpgradeableRead (Exchange k) None p s vs from comes room order is fine has = let e : from ≡ idle = grind (arith, comes) in
+      rw e (exchanges p s room order (read_upgradable reader_limit) to_read_upgradable hold.Upgradable (upgradables p s room order) UpgradeableRead (Continue First) (comes_to p s room order UpgradeableRead None idle (gets p to_read_upgradable) (granted hold.Upgradable) refl tt) (λ n. stays p s room order UpgradeableRead None idle (goes_for n) refl tt) (stays p s room order UpgradeableRead None idle (Continue First) refl tt) k)
+  sound TryUpgradeableRead First None p s vs from comes room order is fine has = grind (arith, comes, upgradables p s room order)
+  sound TryUpgradeableRead (Exchange k) None p s vs from comes room order is fine has = let e : from ≡ idle = grind (arith, comes) in
+      rw e (exchanges p s room order (read_upgradable reader_limit) to_read_upgradable hold.Upgradable (upgradables p s room order) TryUpgradeableRead (Answers Refused None) (comes_to p s room order TryUpgradeableRead None idle (gets p to_read_upgradable) (granted hold.Upgradable) refl tt) (λ n. stays p s room order TryUpgradeableRead None idle (goes_for n) refl tt) (stays p s room order TryUpgradeableRead None idle (Answers Refused None) refl tt) k)
+  sound c l h p s vs from comes room order is fine has = grind (arith, comes, writes p s room order)
 
-  abbrev Rests : RwCall → Option Hold → Next RwPoint (Answer T) → Type 0
-  Rests c h next = rests_at rw_meaning (seat_after c h next) ≡ true
-
-  goes : (c : RwCall) (l : RwPoint) (h : Option Hold) (from : Part) (n : ℕ) → ComesFrom (rw_table value reader_limit) rw_meaning c l h from → Rests c h (next_of (rw_table value reader_limit) c l h n)
-  goes Read First None from n comes = both_ways (Rests Read None) (is_some (read reader_limit n)) (goes_for n) (Continue First) refl refl
-  goes Read (Exchange k) None from n comes = all_ways (Rests Read None) (λ j. j) (n == k) 0 (read reader_limit n) (granted hold.Read) (goes_for n) (Continue First) refl refl refl
-  goes TryRead First None from n comes = both_ways (Rests TryRead None) (is_some (read reader_limit n)) (goes_for n) (Answers Refused None) refl refl
-  goes TryRead (Exchange k) None from n comes = all_ways (Rests TryRead None) (λ j. j) (n == k) 0 (read reader_limit n) (granted hold.Read) (goes_for n) (Answers Refused None) refl refl refl
-  goes UpgradeableRead First None from n comes = both_ways (Rests UpgradeableRead None) (is_some (read_upgradable reader_limit n)) (goes_for n) (Continue First) refl refl
-  goes UpgradeableRead (Exchange k) None from n comes = all_ways (Rests UpgradeableRead None) (λ j. j) (n == k) 0 (read_upgradable reader_limit n) (granted hold.Upgradable) (goes_for n) (Continue First) refl refl refl
-  goes TryUpgradeableRead First None from n comes = both_ways (Rests TryUpgradeableRead None) (is_some (read_upgradable reader_limit n)) (goes_for n) (Answers Refused None) refl refl
-  goes TryUpgradeableRead (Exchange k) None from n comes = all_ways (Rests TryUpgradeableRead None) (λ j. j) (n == k) 0 (read_upgradable reader_limit n) (granted hold.Upgradable) (goes_for n) (Answers Refused None) refl refl refl
-  goes TryWrite l None from n comes = won_or_lost (Rests TryWrite None) (λ j. j) 0 (tried (swap 0 write) n) (granted hold.Write) (Answers Refused None) refl refl
-  goes TryWriteWeak l None from n comes = won_or_lost (Rests TryWriteWeak None) (λ j. j) 0 (tried (swap 0 write) n) (granted hold.Write) (Answers Refused None) refl refl
-  goes Write First None from n comes = won_or_lost (Rests Write None) (λ j. j) 0 (tried (swap 0 write) n) (granted hold.Write) (Continue First) refl refl
-  goes ReaderCount l None from n comes = refl
-  goes WriterCount l None from n comes = refl
-  goes Release l (Some hold.Read) from n comes = refl
-  goes Release l (Some hold.Upgradable) from n comes = refl
-  goes Release l (Some hold.Write) from n comes = refl
-  goes Downgrade l (Some hold.Write) from n comes = refl
-  goes Downgrade l (Some hold.Upgradable) from n comes = refl
-  goes DowngradeToUpgradeable l (Some hold.Write) from n comes = refl
-  goes Upgrade First (Some hold.Upgradable) from n comes = refl
-  goes Upgrade Asking (Some hold.Upgradable) from n comes = won_or_lost (Rests Upgrade (Some hold.Upgradable)) (λ j. j) 0 (tried (swap 6 upgrade_asked) n) (granted hold.Write) (Continue Asking) refl refl
-  goes TryUpgrade l (Some hold.Upgradable) from n comes = won_or_lost (Rests TryUpgrade (Some hold.Upgradable)) (λ j. j) 0 (tried (swap 2 upgrade) n) (granted hold.Write) (Answers Refused (Some hold.Upgradable)) refl refl
-  goes TryUpgradeWeak l (Some hold.Upgradable) from n comes = won_or_lost (Rests TryUpgradeWeak (Some hold.Upgradable)) (λ j. j) 0 (tried (swap 2 upgrade) n) (granted hold.Write) (Answers Refused (Some hold.Upgradable)) refl refl
-  goes c l h from n comes = absurd (grind (arith, comes))
+  goes : (c : RwCall) (l : RwPoint) (h : Option Hold) (from : Part) (n : ℕ) → ComesFrom (rw_table value reader_limit) rw_meaning c l h from → rests_at rw_meaning (seat_after c h (next_of (rw_table value reader_limit) c l h n)) ≡ true
+  goes c l h from n comes = grind (arith, comes)
 
   pub rw_refines : Refines (rw_table value reader_limit) rw_meaning
   rw_refines = record {

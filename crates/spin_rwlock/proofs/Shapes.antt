@@ -1,14 +1,13 @@
 -- What a table of one word shows of a step, by the step's shape.
-use Rattle.std.proofs.Common.{◌≡◌, ℕ, Bool, true, false, Option, Some, None, unwrap_or, refl, sym, eq-eqb, ne_eqb}
+use Rattle.std.proofs.Common.{◌≡◌, ℕ, Bool, Option, Some, None, refl, sym, eq-eqb, ne_eqb}
 use mathlib.Core.Logic.{dite}
 use native.Mathlib.Decide.{ℕ_discrete}
 use Rattle.spin_step.specs.Plain.{Plain, Ask, Change, gets, apply}
 use Rattle.spin_step.specs.Parties.{IsOpenStep, entries_after}
 use Rattle.spin_step.specs.Steps.{Decides}
-use Rattle.spin_step.specs.Acts.{Memory, Act, load, load_for, exchange, weak_exchange, retry, store, swap, tried, either, becomes, retried}
+use Rattle.spin_step.specs.Acts.{Memory, Act, retry, store}
 use Rattle.spin_step.specs.Operations.{performed}
 use Rattle.spin_step.specs.declared.table.Operation.{Operation}
-use Rattle.spin_step.specs.declared.table.Operation.TheVariants as op
 use Rattle.spin_step.specs.declared.stepped.Next.{Next}
 use Rattle.spin_core.specs.Views.{Part, entries_of, Knows}
 use Rattle.spin_session.specs.Meaning.{SoundAct, worked}
@@ -28,13 +27,6 @@ module _ {W L A : Type 0} (m : Memory W) (w : W) (first : Plain → ℕ) (to : N
     pub knows : Knows (apply plain c) (to next)
 
   module _ (f : ℕ → Option ℕ) (ask : Ask) (grants : Decides plain (gets p ask) first (f (first plain))) where
-    pub by_load : (found : ℕ → Next L A) (missed : Next L A) → ((n : ℕ) → Keeps (found n)) → Keeps missed → Is (load_for f (λ q. gets q ask) found missed)
-    by_load found missed stays stays' = go (f (first plain)) refl
-      where
-        go : (o : Option ℕ) → f (first plain) ≡ o → Is (load_for f (λ q. gets q ask) found missed)
-        go (Some k) is = record { opens = tt; entries = rw is (stays (first plain)).entries; knows = rw is (stays (first plain)).knows; counts = refl; same = refl; bounded = tt }
-        go None is = record { opens = tt; entries = rw is stays'.entries; knows = rw is stays'.knows; counts = refl; same = refl; bounded = tt }
-
     pub by_retry : (k : ℕ) (won : Next L A) (found : ℕ → Next L A) (missed : Next L A) → Gets (gets p ask) won → ((n : ℕ) → Keeps (found n)) → Keeps missed → Is (retry k f (λ q. gets q ask) won found missed)
     by_retry k won found missed comes stays stays' = dite (ℕ_discrete (first plain) k) here there
       where
@@ -54,40 +46,7 @@ module _ {W L A : Type 0} (m : Memory W) (w : W) (first : Plain → ℕ) (to : N
             go None is = let is' : f k ≡ None = rw e at is in
                 record { opens = rw (eq-eqb (first plain) k e, is) tt; entries = rw (eq-eqb (first plain) k e, is) stays'.entries; knows = rw (eq-eqb (first plain) k e, is) stays'.knows; counts = rw (eq-eqb (first plain) k e, is, is') (sym e); same = refl; bounded = tt }
 
-  -- a load that only looks
-  pub by_look : (next : ℕ → Next L A) → ((n : ℕ) → Keeps (next n)) → Is (load next)
-  by_look next stays = record { opens = tt; entries = (stays (first plain)).entries; knows = (stays (first plain)).knows; counts = refl; same = refl; bounded = tt }
-
-  -- an exchange of k for what the party asks
-  module _ (k j : ℕ) (ask : Ask) (grants : Decides plain (gets p ask) first (tried (op.Exchange k j) (first plain))) where
-    pub by_exchange : (won : Next L A) (lost : ℕ → Next L A) → Gets (gets p ask) won → ((n : ℕ) → Keeps (lost n)) → Is (exchange (op.Exchange k j) (λ q. gets q ask) won lost)
-    by_exchange won lost comes stays = dite (ℕ_discrete (first plain) k)
-        (λ e. let g : Decides plain (gets p ask) first (Some j) = rw (eq-eqb (first plain) k e) at grants in
-        record { opens = rw (eq-eqb (first plain) k e) (refl, g.0); entries = rw (eq-eqb (first plain) k e) comes.entries; knows = rw (eq-eqb (first plain) k e) comes.knows; counts = rw (eq-eqb (first plain) k e) g.1; same = refl; bounded = tt })
-        (λ ne. record { opens = rw (ne_eqb (first plain) k ne) tt; entries = rw (ne_eqb (first plain) k ne) (stays (first plain)).entries; knows = rw (ne_eqb (first plain) k ne) (stays (first plain)).knows; counts = rw (ne_eqb (first plain) k ne) refl; same = refl; bounded = tt })
-
-  -- a weak exchange, which the processor makes as a strong one
-  pub by_weak : (k : ℕ) (f : ℕ → Option ℕ) (ask : Ask) → Decides plain (gets p ask) first (tried (swap k f) (first plain)) → (won lost : Next L A) → Gets (gets p ask) won → Keeps lost → Is (weak_exchange k f (λ q. gets q ask) won lost)
-  by_weak k f ask grants won lost comes stays = let is = by_exchange k (unwrap_or (f k) k) ask grants won (λ n. lost) comes (λ n. stays) in
-      record { opens = is.opens; entries = is.entries; knows = is.knows; counts = is.counts; same = is.same; bounded = tt }
-
   -- an operation that always makes the plain step c
   pub by_store : (can : ℕ → Bool) (operation : Operation) (step : ℕ → Change) (next : Next L A) → IsOpenStep plain p (Some (step p)) → Gets (step p) next → worked operation (first plain) ≡ first (apply plain (step p))
       → worked operation (first plain) ≡ performed operation (first plain) → Is (store can operation step next)
   by_store can operation step next may comes word same = record { opens = may; entries = comes.entries; knows = comes.knows; counts = word; same = same; bounded = tt }
-
--- What holds of each way in which a call may go on.
-module _ {L A : Type 0} (P : Next L A → Type 0) where
-  pub both_ways : (b : Bool) (x y : Next L A) → P x → P y → P (either b x y)
-  both_ways true x y so also = so
-  both_ways false x y so also = also
-
-  pub won_or_lost : {W : Type 0} (put : ℕ → W) (w : W) (o : Option ℕ) (x y : Next L A) → P x → P y → P (becomes {V = Unit {0}} put w o x y).next
-  won_or_lost put w (Some k) x y so also = so
-  won_or_lost put w None x y so also = also
-
-  pub all_ways : {W : Type 0} (put : ℕ → W) (b : Bool) (w : W) (o : Option ℕ) (x y z : Next L A) → P x → P y → P z → P (retried {V = Unit {0}} put b w o x y z).next
-  all_ways put true w (Some k) x y z a b c = a
-  all_ways put true w None x y z a b c = c
-  all_ways put false w (Some k) x y z a b c = b
-  all_ways put false w None x y z a b c = c

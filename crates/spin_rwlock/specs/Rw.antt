@@ -1,9 +1,9 @@
 -- What the word and the seats of a read-write lock are in the plain lock, and what holds of its cell between any two steps.
-use Rattle.std.specs.Prelude.{◌≢◌, ℕ, Bool, true, false, Option, Some, None, List, map}
+use Rattle.std.specs.Prelude.{◌≡◌, ◌≢◌, ℕ, Bool, true, false, Option, Some, None, List, map}
 use Rattle.spin_step.specs.Plain.{reading, upgradable, asking, writing, rw_word}
 use Rattle.spin_step.specs.Acts.{Table}
 use Rattle.spin_step.specs.Machines.{Machine}
-use Rattle.spin_step.specs.Schedules.{Entry}
+use Rattle.spin_step.specs.Schedules.{Entry, resting}
 use Rattle.spin_step.specs.declared.answer.Answer.{Answer}
 use Rattle.spin_step.specs.declared.place.Hold.{Hold}
 use Rattle.spin_step.specs.declared.place.Hold.TheVariants as hold
@@ -14,14 +14,14 @@ use Rattle.spin_step_more.specs.declared.rw_calls.RwCall.{RwCall}
 use Rattle.spin_step_more.specs.declared.rw_calls.RwCall.TheVariants.{TryRead, Read, TryUpgradeableRead, UpgradeableRead, Write, Upgrade, Downgrade, DowngradeToUpgradeable}
 use Rattle.spin_step_more.specs.declared.rw_calls.RwPoint.{RwPoint}
 use Rattle.spin_step_more.specs.declared.rw_calls.RwPoint.TheVariants.{First, Exchange, Asking}
-use Rattle.spin_core.specs.Cell.{Use}
+use Rattle.spin_core.specs.Cell.{Use, writes}
 use Rattle.spin_core.specs.Views.{Part, idle, holds, Encodes, no_word}
 use Rattle.spin_core.specs.Own.{Numbered}
 use Rattle.spin_core.specs.declared.tie.Opening.{Opening}
 use Rattle.spin_core.specs.declared.trace.Trace.{Trace}
 use Rattle.spin_session.specs.Meaning as session
-use Rattle.spin_session.specs.Meaning.{Meaning, RunsTable}
-use Rattle.spin_session.specs.Turns.{Stands}
+use Rattle.spin_session.specs.Meaning.{Meaning, RunsTable, table_at, use_at}
+use Rattle.spin_session.specs.Turns.{EndsWith, Stands}
 use Rattle.spin_session.specs.declared.session.Session.{Session}
 
 -- what a party is while its call rests; a reader that has asked to upgrade still reads
@@ -111,6 +111,10 @@ module _ {T : Type 0} where
   -- what holds of the first word, the trace and the parties of a lock with this opening
   abbrev pub IsRw : Opening T → ℕ → Trace (Done T) (Unit {0}) → List (Numbered View) → Type 0
   IsRw = RunsTable rw_tables rw_meaning
+
+  -- the writer may make this call, by which it stops writing, and then holds `after`
+  abbrev pub MayLeave : RwCall → Option Hold → Opening T → Type 0
+  MayLeave c after key = (((table_at rw_tables key).asks c (Some hold.Write)).begins (Some hold.Write) ≡ true) × EndsWith rw_tables c hold.Write after key × (use_at rw_meaning (resting after) ≢ writes)
 
   -- the party reads in this way: it holds so, knows the history up to its last step, and sees a value
   abbrev pub IsLent : {P S : Type 0} → Hold → Session T (Numbered View) (Done T) P (Opening T) S → Type 0

@@ -1,20 +1,18 @@
 -- What a pass of a read-write lock knows, and what its calls do.
 use Rattle.std.specs.Prelude.{ℕ}
+use Rattle.std.specs.Option.{IfSome}
 use Rattle.spin_core.specs.Own.{Numbered}
-use Rattle.spin_core.specs.Passes.{IsCall, WritesSome}
-use Rattle.spin_core.specs.Spots.{Since, Releases}
+use Rattle.spin_core.specs.Values.{IsLast}
 use Rattle.spin_core.specs.declared.tie.Opening.{Opening}
-use Rattle.spin_core.specs.declared.trace.Watch.{Watch}
 use Rattle.spin_step.specs.declared.answer.Answer.{Answer}
-use Rattle.spin_step.specs.declared.answer.Answer.TheVariants as answer
+use Rattle.spin_step.specs.declared.answer.Answer.TheVariants.{Granted}
 use Rattle.spin_step_more.specs.declared.rw_calls.RwCall.{RwCall}
-use Rattle.spin_step_more.specs.declared.rw_calls.RwCall.TheVariants.{Read, UpgradeableRead, Write, Upgrade, ReaderCount, WriterCount, Release}
-use Rattle.spin_session.specs.Meaning.{model_at}
+use Rattle.spin_session.specs.Passes as session
 use Rattle.spin_session.specs.Turns as turns
-pub use Rattle.spin_session.specs.Passes.{history, lock_of, opening_of, party, OpensWith}
-use Rattle.spin_rwlock.specs.Rw.{Done, View, rw_tables}
-pub use Rattle.spin_rwlock.specs.Guards.{RwSpot, shared_spot, own_spot, write_spot}
-use Rattle.spin_rwlock.specs.Guards.{ReadsWith, ReadsLast, WritesWith, FindsLast, write_value}
+pub use Rattle.spin_session.specs.Passes.{◌⨾◌, After, history, lock_of, new_in, opening_of, party, OpensWith}
+use Rattle.spin_rwlock.specs.Rw.{View, rw_tables}
+pub use Rattle.spin_rwlock.specs.Guards.{RwSpot, shared_spot, write_spot, Holds}
+use Rattle.spin_rwlock.specs.Guards.{shared_value, write_value}
 use Rattle.spin_rwlock.specs.declared.rwlock.RwLock.{RwLock}
 use Rattle.spin_rwlock.specs.declared.rwlock.reader.SharedGuard.{SharedGuard}
 use Rattle.spin_rwlock.specs.declared.rwlock.rule.Kind.{Ghosts}
@@ -34,44 +32,24 @@ module _ {T : Type 0} where
   abbrev pub Calls : RwCall → Answer (Unit {0}) → RwSpot T → RwSpot T → Type 0
   Calls = turns.Calls rw_tables
 
-  -- from `before` to `now` the pass has written a value that satisfies `Q`, and has then made this call
-  abbrev pub Wrote : (T → Type 0) → RwCall → RwSpot T → RwSpot T → Type 0
-  Wrote Q call = Since (model_at rw_tables) (WritesSome Q (IsCall call answer.Done))
+  -- From `before` to `now` the pass has written a value, and has then made this call. If the lock tells its values, the value is x.
+  abbrev pub Wrote : RwCall → T → RwSpot T → RwSpot T → Type 0
+  Wrote = session.Wrote rw_tables
 
-  -- from `before` to `now` the pass has made one call, `reader_count`, with this answer
-  abbrev pub CountedReaders : ℕ → RwSpot T → RwSpot T → Type 0
-  CountedReaders readers = Calls ReaderCount (answer.Count readers)
-
-  -- from `before` to `now` the pass has made one call, `writer_count`, with this answer
-  abbrev pub CountedWriters : ℕ → RwSpot T → RwSpot T → Type 0
-  CountedWriters writers = Calls WriterCount (answer.Count writers)
-
-  -- from `before` to `now` the pass has acquired the lock once by `read`, and has released it
-  abbrev pub ReadOnce : RwSpot T → RwSpot T → Type 0
-  ReadOnce before now = (held : RwSpot T) × Calls Read answer.Granted before held × Calls Release answer.Done held now
-
-  -- From `before` to `now` the pass has acquired the lock once by `write`, and has released it. It left a value that satisfies `Q`.
-  abbrev pub WroteWith : (T → Type 0) → RwSpot T → RwSpot T → Type 0
-  WroteWith Q before now = (held : RwSpot T) × Calls Write answer.Granted before held × Wrote Q Release held now
-
-  abbrev pub WroteOnce : RwSpot T → RwSpot T → Type 0
-  WroteOnce = WroteWith (λ x. Unit {0})
-
-  -- From `before` to `now` the pass has acquired the lock once by `upgradeable_read`. Then it has become the writer by `upgrade`, and has
-  -- released the lock. It left some value.
-  abbrev pub RaisedOnce : RwSpot T → RwSpot T → Type 0
-  RaisedOnce before now = (reader writer : RwSpot T) × Calls UpgradeableRead answer.Granted before reader × Calls Upgrade answer.Granted reader writer × Wrote (λ x. Unit {0}) Release writer now
+  -- from `before` to `now` the pass has written some value, and has then made this call
+  abbrev pub WroteSome : RwCall → RwSpot T → RwSpot T → Type 0
+  WroteSome = session.WroteSome rw_tables
 
   module _ {R K : Type 0} {kind : Ghosts K} where
-    -- By this call the party at `before` is a reader with this guard, whose value is the one written last.
-    abbrev pub Lends : RwCall → Answer (Unit {0}) → RwSpot T → SharedGuard T K R kind → Watch (Done T) → Type 0
-    Lends call a before guard seen = ReadsWith guard seen × ReadsLast guard seen × Calls call a before (shared_spot guard seen)
+    -- By this call, so answered, the party at `before` is a reader with this guard, whose value is the one written last.
+    abbrev pub Lends : RwCall → Answer (Unit {0}) → RwSpot T → SharedGuard T K R kind → Type 0
+    Lends call answer before guard = let now = shared_spot guard in IfSome (shared_value guard) (IsLast (opening_of now) (history now)) × Calls call answer before now
 
   module _ {R : Type 0} where
     -- By this call the party at `before` is the writer with this guard, whose value is the one written last.
-    abbrev pub Grants : RwCall → RwSpot T → RwLockWriteGuard T R → Watch (Done T) → Type 0
-    Grants call before guard seen = WritesWith guard seen × FindsLast guard seen × Calls call answer.Granted before (write_spot guard seen)
+    abbrev pub Grants : RwCall → RwSpot T → RwLockWriteGuard T R → Type 0
+    Grants call before guard = let now = write_spot guard in Holds guard × IsLast (opening_of now) (history now) (write_value guard) × Calls call Granted before now
 
     -- The writer has written the guard's value, so this is the one written last, and has then made this call.
-    abbrev pub Leaves : RwCall → RwLockWriteGuard T R → Watch (Done T) → RwSpot T → Type 0
-    Leaves call guard seen now = Releases (model_at rw_tables) (λ o. o) call answer.Done (write_value guard) (write_spot guard seen) now
+    abbrev pub Unlocks : RwCall → RwLockWriteGuard T R → RwSpot T → Type 0
+    Unlocks call guard now = Wrote call (write_value guard) (write_spot guard) now × IsLast (opening_of (write_spot guard)) (history now) (write_value guard)

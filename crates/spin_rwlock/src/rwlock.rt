@@ -1,19 +1,19 @@
 //! A spinning lock for many readers or one writer. Begin at [`RwLock::read`] and [`RwLock::write`].
-ghost use Rattle.std.specs.Prelude.{◌≤◌};
+ghost use Rattle.std.specs.Prelude.{◌≤◌, IfSome};
+ghost use Rattle.spin_step.specs.declared.answer.Answer.TheVariants.{Granted};
 ghost use Rattle.spin_step_more.specs.Readers.{reader_limit};
-ghost use Rattle.spin_session.specs.Turns.{IsNew, spot};
-ghost use Rattle.spin_rwlock.specs.RwPasses.{OpensWith, opening};
+ghost use Rattle.spin_step_more.specs.declared.rw_calls.RwCall.TheVariants.{TryRead, Read, TryUpgradeableRead, UpgradeableRead, TryWrite, Write};
+ghost use Rattle.spin_rwlock.specs.RwPasses.{Grants, Lends, OpensWith, new_in, opening};
 
-use self::rule::RwSession;
+use self::pass::{grant, lend};
 use spin_core::cell::{Cell, Rule};
 use spin_core::lock::{Lock, SharedLock, with_guard};
-use spin_core::relax::{RelaxStrategy, Spin, Strategy};
+use spin_core::relax::{RelaxStrategy, Spin};
 use spin_core::tie::Opening;
 use spin_core::trace::Trace;
-use spin_session::calls::{begin, exchange_for, finish, go_on, in_three};
-use spin_session::session::Session;
+use spin_session::calls::{enter, exchange_for, finish, in_three};
 use spin_session::table::Ahead;
-use spin_step::{Answer, Hold};
+use spin_step::Hold;
 use spin_step_more::rw;
 use spin_step_more::rw_calls::{RwCall, RwPoint};
 use std::marker::PhantomData;
@@ -43,8 +43,8 @@ pub use spin_core::laws::{a_guard_reads_the_last_value_written, two_guards_read_
 ///
 /// # Contract
 /// While the guard or the hold of a writer lives, no other guard gives access to the value. A guard gives a value of
-/// `T`, with all that the invariant of `T` says. An upgrade and a downgrade keep the value. Without a [`Pass`] nothing
-/// else is promised of what other threads wrote.
+/// `T`, with all that the invariant of `T` says. Its value is the one written last in the lock's history. An upgrade
+/// and a downgrade keep the value.
 ///
 /// # Examples
 /// ```
@@ -80,16 +80,6 @@ impl<T, R> RwLock<T, R> {
         }
     }
 
-    // Returns a party that has made no call.
-    fn session(&self) -> RwSession<'_, T>
-        ensures { IsNew (opening self.now) (spot result) }
-    {
-        Session {
-            permit: self.cell.enter(),
-            seen: self.cell.watch(),
-        }
-    }
-
     /// Returns a mutable reference to the value.
     ///
     /// It neither looks at the word nor acquires the lock: no other thread has the lock.
@@ -107,23 +97,25 @@ impl<T, R> RwLock<T, R> {
     /// word.
     ///
     /// # Contract
-    /// The guard in `Some` is that of a reader. `None` promises nothing. Whether and when the call returns is not
-    /// promised.
+    /// The guard in `Some` is granted by one `TryRead`, and its value is the one written last in the lock's history
+    /// (`Lends`). `None` promises nothing. Whether and when the call returns is not promised.
     #[must_use = "dropping the guard at once releases the lock: bind the answer, or write `drop(..)`"]
-    pub fn try_read<W: Wait>(&self, rt: &W) -> Option<RwLockReadGuard<'_, T, R>> {
+    pub fn try_read<W: Wait>(&self, rt: &W) -> Option<RwLockReadGuard<'_, T, R>>
+        ensures { IfSome result (Lends TryRead Granted (new_in (opening self.now))) }
+    {
         match self.pass().try_read(rt) {
-            Ok((guard, _)) => Some(guard),
+            Ok(guard) => Some(guard),
             Err(_) => None,
         }
     }
 
-    /// Like [`try_read`](Self::try_read), but needs no right to wait: it also returns `None` if another thread changes the
-    /// word at the same time.
+    /// Like [`try_read`](Self::try_read), but needs no right to wait: it also returns `None` if another thread changes
+    /// the word at the same time.
     ///
     /// It makes one load and at most one compare-exchange.
     ///
     /// # Contract
-    /// The guard in `Some` is that of a reader. `None` promises nothing. The call returns.
+    /// The guard in `Some` is granted by one `TryRead` (`Lends`). `None` promises nothing. The call returns.
     ///
     /// # Examples
     /// ```
@@ -140,8 +132,35 @@ impl<T, R> RwLock<T, R> {
     /// drop(writer);
     /// ```
     #[must_use = "dropping the guard at once releases the lock: bind the answer, or write `drop(..)`"]
-    pub fn try_read_weak(&self) -> Option<RwLockReadGuard<'_, T, R>> {
-        peek(self)
+    #[tactic(auto, using(crate::proofs::RwCalls::peeks, crate::proofs::RwCalls::peek_wins, crate::proofs::RwCalls::may_count, crate::proofs::RwCalls::count_at_once))]
+    pub fn try_read_weak(&self) -> Option<RwLockReadGuard<'_, T, R>>
+        ensures { IfSome result (Lends TryRead Granted (new_in (opening self.now))) }
+    {
+        let (_, _, counted, word) = in_three(enter(&self.cell), RwCall::ReaderCount, None);
+        let _left = finish(counted);
+        let next = rw::read(word as usize, rw::MAX_READERS)?;
+        let ahead = Ahead {
+            old: word,
+            new: next as u64,
+            point: RwPoint::Exchange(word as usize),
+            number: word,
+            looks: true,
+        };
+        let (read, count) = (RwCall::TryRead, RwCall::ReaderCount);
+        match exchange_for(
+            enter(&self.cell),
+            read,
+            count,
+            None,
+            Some(Hold::Read),
+            ahead,
+        ) {
+            Ok(session) => Some(SharedGuard::lent(session)),
+            Err(session) => {
+                let _left = finish(session);
+                None
+            }
+        }
     }
 
     /// Tries to acquire upgradable shared access. Returns `None` if a writer or an upgradable reader holds the lock.
@@ -150,12 +169,14 @@ impl<T, R> RwLock<T, R> {
     /// compare-exchange if there are readers, and more only while other threads change the word.
     ///
     /// # Contract
-    /// The guard in `Some` is that of the upgradable reader. `None` promises nothing. Whether and when the call returns
-    /// is not promised.
+    /// The guard in `Some` is granted by one `TryUpgradeableRead`, and its value is the one written last in the lock's
+    /// history (`Lends`). `None` promises nothing. Whether and when the call returns is not promised.
     #[must_use = "dropping the guard at once releases the lock: bind the answer, or write `drop(..)`"]
-    pub fn try_upgradeable_read<W: Wait>(&self, rt: &W) -> Option<RwLockUpgradableGuard<'_, T, R>> {
+    pub fn try_upgradeable_read<W: Wait>(&self, rt: &W) -> Option<RwLockUpgradableGuard<'_, T, R>>
+        ensures { IfSome result (Lends TryUpgradeableRead Granted (new_in (opening self.now))) }
+    {
         match self.pass().try_upgradeable_read(rt) {
-            Ok((guard, _)) => Some(guard),
+            Ok(guard) => Some(guard),
             Err(_) => None,
         }
     }
@@ -165,7 +186,8 @@ impl<T, R> RwLock<T, R> {
     /// It makes one compare-exchange.
     ///
     /// # Contract
-    /// The guard in `Some` is that of the writer. `None` promises nothing. The call returns.
+    /// The guard in `Some` is granted by one `TryWrite`, and its value is the one written last in the lock's history
+    /// (`Grants`). `None` promises nothing. The call returns.
     ///
     /// # Examples
     /// ```
@@ -178,9 +200,11 @@ impl<T, R> RwLock<T, R> {
     /// assert!(rt; limit.try_write().is_some());
     /// ```
     #[must_use = "dropping the guard at once releases the lock: bind the answer, or write `drop(..)`"]
-    pub fn try_write<'a>(&'a self) -> Option<RwLockWriteGuard<'a, T, R>> {
+    pub fn try_write<'a>(&'a self) -> Option<RwLockWriteGuard<'a, T, R>>
+        ensures { IfSome result (Grants TryWrite (new_in (opening self.now))) }
+    {
         match self.pass().try_write() {
-            Ok((guard, _)) => Some(guard),
+            Ok(guard) => Some(guard),
             Err(_) => None,
         }
     }
@@ -191,7 +215,9 @@ impl<T, R> RwLock<T, R> {
     /// # Contract
     /// Like that of `try_write`.
     #[must_use = "dropping the guard at once releases the lock: bind the answer, or write `drop(..)`"]
-    pub fn try_write_weak<'a>(&'a self) -> Option<RwLockWriteGuard<'a, T, R>> {
+    pub fn try_write_weak<'a>(&'a self) -> Option<RwLockWriteGuard<'a, T, R>>
+        ensures { IfSome result (Grants TryWrite (new_in (opening self.now))) }
+    {
         self.try_write()
     }
 
@@ -283,19 +309,12 @@ impl<T, R: RelaxStrategy> RwLock<T, R> {
     /// whose exchange fails twice backs off. The call never returns if its own thread holds the lock as a writer.
     ///
     /// # Contract
-    /// The guard is that of a reader. Whether and when the call returns is not promised.
-    pub fn read<W: Wait>(&self, rt: &W) -> RwLockReadGuard<'_, T, R> {
-        // Like the two calls below, this repeats the pass's call by `begin` and `go_on`. Each call of a function that
-        // waits makes the path for a free lock two instructions longer.
-        let (call, after) = (RwCall::Read, Some(Hold::Read));
-        let session = match begin(self.session(), call, None, Answer::Granted, after) {
-            Ok(session) => session,
-            Err(on) => {
-                let by = Strategy::<R>::named();
-                go_on(on, call, None, Answer::Granted, after, by, rt)
-            }
-        };
-        SharedGuard::lent(session).0
+    /// The guard is granted by one `Read`, and its value is the one written last in the lock's history (`Lends`).
+    /// Whether and when the call returns is not promised.
+    pub fn read<W: Wait>(&self, rt: &W) -> RwLockReadGuard<'_, T, R>
+        ensures { Lends Read Granted (new_in (opening self.now)) result }
+    {
+        lend(enter(&self.cell), rt)
     }
 
     /// Acquires upgradable shared access, spinning while a writer or an upgradable reader holds the lock.
@@ -304,7 +323,8 @@ impl<T, R: RelaxStrategy> RwLock<T, R> {
     /// reader.
     ///
     /// # Contract
-    /// The guard is that of the upgradable reader. Whether and when the call returns is not promised.
+    /// The guard is granted by one `UpgradeableRead`, and its value is the one written last in the lock's history
+    /// (`Lends`). Whether and when the call returns is not promised.
     ///
     /// # Examples
     /// ```
@@ -316,16 +336,10 @@ impl<T, R: RelaxStrategy> RwLock<T, R> {
     /// assert!(rt; limit.try_upgradeable_read(&rt).is_none());
     /// assert_eq!(rt; *guard, 3);
     /// ```
-    pub fn upgradeable_read<W: Wait>(&self, rt: &W) -> RwLockUpgradableGuard<'_, T, R> {
-        let (call, after) = (RwCall::UpgradeableRead, Some(Hold::Upgradable));
-        let session = match begin(self.session(), call, None, Answer::Granted, after) {
-            Ok(session) => session,
-            Err(on) => {
-                let by = Strategy::<R>::named();
-                go_on(on, call, None, Answer::Granted, after, by, rt)
-            }
-        };
-        SharedGuard::lent(session).0
+    pub fn upgradeable_read<W: Wait>(&self, rt: &W) -> RwLockUpgradableGuard<'_, T, R>
+        ensures { Lends UpgradeableRead Granted (new_in (opening self.now)) result }
+    {
+        lend(enter(&self.cell), rt)
     }
 
     /// Acquires exclusive access, spinning until no thread holds the lock.
@@ -334,7 +348,8 @@ impl<T, R: RelaxStrategy> RwLock<T, R> {
     /// pause is twice as long as the last one, up to a limit. The call never returns if its own thread holds the lock.
     ///
     /// # Contract
-    /// The guard is that of the writer. Whether and when the call returns is not promised.
+    /// The guard is granted by one `Write`, and its value is the one written last in the lock's history (`Grants`).
+    /// Whether and when the call returns is not promised.
     ///
     /// # Examples
     /// ```
@@ -347,39 +362,10 @@ impl<T, R: RelaxStrategy> RwLock<T, R> {
     /// drop(writer);
     /// assert_eq!(rt; *limit.read(&rt), 4);
     /// ```
-    pub fn write<W: Wait>(&self, rt: &W) -> RwLockWriteGuard<'_, T, R> {
-        let (call, after) = (RwCall::Write, Some(Hold::Write));
-        let session = match begin(self.session(), call, None, Answer::Granted, after) {
-            Ok(session) => session,
-            Err(on) => {
-                let by = Strategy::<R>::named();
-                go_on(on, call, None, Answer::Granted, after, by, rt)
-            }
-        };
-        RwLockWriteGuard::written(session).0
-    }
-}
-
-// Tries to read without a right to wait, by one load and at most one exchange.
-#[tactic(auto, using(crate::proofs::RwCalls::peeks, crate::proofs::RwCalls::peek_wins, crate::proofs::RwCalls::may_count, crate::proofs::RwCalls::count_at_once))]
-fn peek<T, R>(lock: &RwLock<T, R>) -> Option<RwLockReadGuard<'_, T, R>> {
-    let (_, _, counted, word) = in_three(lock.session(), RwCall::ReaderCount, None);
-    finish(counted);
-    let next = rw::read(word as usize, rw::MAX_READERS)?;
-    let ahead = Ahead {
-        old: word,
-        new: next as u64,
-        point: RwPoint::Exchange(word as usize),
-        number: word,
-        looks: true,
-    };
-    let (read, count) = (RwCall::TryRead, RwCall::ReaderCount);
-    match exchange_for(lock.session(), read, count, None, Some(Hold::Read), ahead) {
-        Ok(session) => Some(SharedGuard::lent(session).0),
-        Err(session) => {
-            finish(session);
-            None
-        }
+    pub fn write<W: Wait>(&self, rt: &W) -> RwLockWriteGuard<'_, T, R>
+        ensures { Grants Write (new_in (opening self.now)) result }
+    {
+        grant(enter(&self.cell), rt)
     }
 }
 
@@ -399,7 +385,7 @@ impl<T, R> From<T> for RwLock<T, R> {
 
 impl<T, R: RelaxStrategy> Lock<T> for RwLock<T, R> {
     fn with<A, F: FnOnce(&mut T) -> A, W: Wait>(&self, rt: &W, by: F) -> A {
-        self.pass().with(rt, by).0
+        by(&mut *self.write(rt))
     }
 
     fn try_with<A, F: FnOnce(&mut T) -> A>(&self, by: F) -> Result<A, F> {
@@ -409,7 +395,7 @@ impl<T, R: RelaxStrategy> Lock<T> for RwLock<T, R> {
 
 impl<T, R: RelaxStrategy> SharedLock<T> for RwLock<T, R> {
     fn with_shared<A, F: FnOnce(&T) -> A, W: Wait>(&self, rt: &W, by: F) -> A {
-        self.pass().with_shared(rt, by).0
+        by(&*self.read(rt))
     }
 
     fn try_with_shared<A, F: FnOnce(&T) -> A, W: Wait>(&self, rt: &W, by: F) -> Result<A, F> {

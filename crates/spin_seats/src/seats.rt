@@ -3,8 +3,8 @@ ghost use Rattle.std.specs.Prelude.{◌≡◌, ◌≤◌, ◌⊎◌, Some, None,
 ghost use mathlib.Core.List.{IsPrefix};
 ghost use Rattle.spin_step.specs.declared.answer.Answer.TheVariants.{Granted, Refused, Count as Counted, Done as Left};
 ghost use Rattle.spin_step.specs.declared.place.Hold.TheVariants.{Read};
-ghost use Rattle.spin_session.specs.Turns.{IsNew, Stands, history, lock_of, spot};
-ghost use Rattle.spin_seats.specs.Passes.{Calls, FirstCall, SeatsSpot};
+ghost use Rattle.spin_session.specs.Turns.{Stands, history, lock_of, spot};
+ghost use Rattle.spin_seats.specs.Passes.{After, Calls, SeatsSpot, new_in, opening};
 ghost use Rattle.spin_seats.specs.Seats.{seats};
 ghost use Rattle.spin_seats.specs.declared.calls.SeatsCall.TheVariants.{TryEnter, TryEnterWeak, Enter, Count, Leave};
 
@@ -15,8 +15,7 @@ use spin_core::cell::Cell;
 use spin_core::relax::{Spin, Strategy};
 use spin_core::tie::Opening;
 use spin_core::trace::Trace;
-use spin_session::calls::{SessionOf, ask, attempt, finish, make, try_for, wait_for};
-use spin_session::session::Session;
+use spin_session::calls::{SessionOf, after, ask, attempt, enter, finish, make, try_for, wait_for};
 use spin_step::{Answer, Hold};
 use std::marker::Model;
 use std::sync::Wait;
@@ -108,20 +107,10 @@ impl<const N: usize> Seats<N> {
     /// # Contract
     /// The pass is of this lock, and knows nothing of the lock's history yet (`new`).
     pub fn pass(&self) -> Pass<'_, N>
-        ensures new { IsNew self.now.cell result }
+        ensures new { result ≡ new_in (opening self.now) }
     {
         Pass {
-            session: self.session(),
-        }
-    }
-
-    // Returns a party that has made no call.
-    fn session(&self) -> SessionOf<'_, (), SeatsRule<N>>
-        ensures { IsNew self.now.cell (spot result) }
-    {
-        Session {
-            permit: self.cell.enter(),
-            seen: self.cell.watch(),
+            session: enter(&self.cell),
         }
     }
 
@@ -144,17 +133,12 @@ impl<const N: usize> Seats<N> {
     /// The guard's party has made one call `TryEnter`, its first, with the answer `Granted`. Whether and when the call
     /// returns is not promised.
     #[must_use = "dropping the guard at once gives the seat back: bind the answer, or write `drop(..)`"]
-    #[tactic(auto, using(crate::proofs::Seating::try_answers))]
     pub fn try_enter<W: Wait>(&self, rt: &W) -> Option<SeatGuard<'_, N>>
-        ensures { IfSome result (FirstCall N TryEnter Granted self.now.cell) }
+        ensures { IfSome result (Calls N TryEnter Granted (new_in (opening self.now))) }
     {
-        let read = Some(Hold::Read);
-        match try_for(self.session(), SeatsCall::TryEnter, None, read, rt) {
-            Ok(session) => Some(SeatGuard { session }),
-            Err(session) => {
-                finish(session);
-                None
-            }
+        match self.pass().try_enter(rt) {
+            Ok(guard) => Some(guard),
+            Err(_pass) => None,
         }
     }
 
@@ -177,7 +161,7 @@ impl<const N: usize> Seats<N> {
     /// ```
     #[must_use = "dropping the guard at once gives the seat back: bind the answer, or write `drop(..)`"]
     pub fn try_enter_weak(&self) -> Option<SeatGuard<'_, N>>
-        ensures { IfSome result (FirstCall N TryEnterWeak Granted self.now.cell) }
+        ensures { IfSome result (Calls N TryEnterWeak Granted (new_in (opening self.now))) }
     {
         match self.pass().try_enter_weak() {
             Ok(guard) => Some(guard),
@@ -192,7 +176,7 @@ impl<const N: usize> Seats<N> {
     /// The guard's party has made one call `Enter`, its first, with the answer `Granted`. Whether and when the call
     /// returns is not promised.
     pub fn enter<W: Wait>(&self, rt: &W) -> SeatGuard<'_, N>
-        ensures { FirstCall N Enter Granted self.now.cell result }
+        ensures { Calls N Enter Granted (new_in (opening self.now)) result }
     {
         self.pass().enter(rt)
     }
@@ -231,8 +215,8 @@ impl<'a, const N: usize> Pass<'a, N> {
     /// `Refused` (`refused`). Whether and when the call returns is not promised.
     #[tactic(auto, using(crate::proofs::Seating::try_answers))]
     pub fn try_enter<W: Wait>(self, rt: &W) -> Result<SeatGuard<'a, N>, Pass<'a, N>>
-        ensures granted { IfOk result (λ guard. Calls N TryEnter Granted self.entry guard) }
-        ensures refused { IfErr result (λ pass. Calls N TryEnter Refused self.entry pass) }
+        ensures granted { IfOk result (Calls N TryEnter Granted self.entry) }
+        ensures refused { IfErr result (Calls N TryEnter Refused self.entry) }
     {
         let Self { session } = self;
         match try_for(session, SeatsCall::TryEnter, None, Some(Hold::Read), rt) {
@@ -248,8 +232,8 @@ impl<'a, const N: usize> Pass<'a, N> {
     /// `Refused` (`refused`). The call returns.
     #[tactic(auto, using(crate::proofs::Seating::weak_answers))]
     pub fn try_enter_weak(self) -> Result<SeatGuard<'a, N>, Pass<'a, N>>
-        ensures granted { IfOk result (λ guard. Calls N TryEnterWeak Granted self.entry guard) }
-        ensures refused { IfErr result (λ pass. Calls N TryEnterWeak Refused self.entry pass) }
+        ensures granted { IfOk result (Calls N TryEnterWeak Granted self.entry) }
+        ensures refused { IfErr result (Calls N TryEnterWeak Refused self.entry) }
     {
         let Self { session } = self;
         let read = Some(Hold::Read);
@@ -271,6 +255,34 @@ impl<'a, const N: usize> Pass<'a, N> {
         match ask(session, SeatsCall::Count, None) {
             (Answer::Count(taken), session) => (taken, Pass { session }),
             _ => unreachable!(),
+        }
+    }
+
+    /// Returns this pass, which then also knows what the other pass knows. It does nothing at run time.
+    ///
+    /// So the next call of this pass comes after the calls of the other that are known by now.
+    ///
+    /// # Contract
+    /// The history that the returned pass knows is the longer of the two, of which the other is a prefix (`After`).
+    ///
+    /// # Examples
+    /// ```
+    /// use spin_seats::seats::Seats;
+    ///
+    /// let seats: Seats<1> = Seats::new();
+    /// let earlier = seats.enter(&rt).leave();
+    /// let (count, pass) = seats.pass().after(&earlier).count();
+    /// assert_eq!(rt; count, 0);
+    /// drop(pass);
+    /// drop(earlier);
+    /// ```
+    pub fn after(self, earlier: &Pass<'_, N>) -> Pass<'a, N>
+        requires { lock_of self ≡ lock_of earlier.now }
+        ensures { After earlier.now self.entry result }
+    {
+        let Self { session } = self;
+        Pass {
+            session: after(session, &earlier.session),
         }
     }
 
@@ -319,6 +331,6 @@ impl<const N: usize> Drop for SeatGuard<'_, N> {
 impl<const N: usize> Drop for Pass<'_, N> {
     fn drop(self) {
         let Self { session } = self;
-        finish(session);
+        let _left = finish(session);
     }
 }

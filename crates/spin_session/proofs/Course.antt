@@ -17,18 +17,13 @@ use Rattle.spin_step.specs.declared.stepped.Next.{Next}
 use Rattle.spin_step.specs.declared.stepped.Next.TheVariants.{Continue, Answers}
 use Rattle.spin_session.specs.Meaning.{Meaning, model_at, seat_after, seat_now, use_at, rests_at, table_at}
 use Rattle.spin_session.specs.declared.session.Session.{Session}
-use Rattle.spin_session.specs.Turns.{MayFind, IsReached, IsLed, IsLedTo, Lands, SeesOn, course_of, next_after, outcome_of, has_begun, Spot, Comes, GoesBy, GoesOn, Under, Ended, Quiet, StaysQuiet, IsAtPoint, Knows, StandsAt, IsAnsweredBy, IsAnswered, IsTry, IsLook, Tells, AnswersWith, is_granted}
-use Rattle.spin_session.proofs.Refining.{not_begun}
+use Rattle.spin_session.specs.Passes.{Writes}
+use Rattle.spin_session.specs.Turns.{MayFind, IsReached, IsLed, IsLedTo, Lands, SeesOn, course_of, next_after, outcome_of, has_begun, Spot, Comes, GoesBy, GoesOn, Under, Ended, Quiet, StaysQuiet, IsAtPoint, Knows, StandsAt, IsAnsweredBy, IsAnswered, Acquires, TriesToAcquire, IsTry, IsLook, Tells, AnswersWith, is_granted}
 
 -- the seat of a party does not depend on what its answer says
 pub same_seat : {C L : Type 0} (V : Type 0) (c : C) (h : Option Hold) (next : Next L (Answer (Unit {0}))) → seat_after c h (filled {V = V} None next) ≡ seat_after c h next
 same_seat V c h (Continue l) = refl
 same_seat V c h (Answers a after) = refl
-
--- a party that rests in no call may rest in its seat
-pub rests_so : {C L : Type 0} (s : Meaning C L) (h : Option Hold) → rests_at s (resting h) ≡ true
-rests_so s None = refl
-rests_so s (Some x) = refl
 
 -- a call that may begin begins at its point
 pub starts_at : {W V C L A : Type 0} (t : Table W V C L A) (c : C) (h : Option Hold) (l : L) → (t.asks c h).begins h ≡ true → Some l ≡ begin_of t c h → l ≡ t.start c h
@@ -67,11 +62,12 @@ module _ {W V C L : Type 0} (t : ℕ → V → Table W V C L (Answer V)) (s : Me
     (l, n, ap (λ x. next_of (table_at t x.0) c l h n) (sym same) ∙ sym which, subst (λ x. MayFind t s c l h n x.0) same fine),
   )
 
-module _ {W V C L : Type 0} (t : ℕ → V → Table W V C L (Answer V)) (s : Meaning C L) (c : C) (h : Option Hold) where
-  -- a party in no call has not begun this one
-  pub from_rest : (p : Spot V C L) (k : Option Hold) → seat_now (what p.1) ≡ resting k → Under t s c p p
-  from_rest p k is = inr (refl, not_begun (table_at t p.0) (what p.1) k is)
+-- how a party uses the value
+pub uses_now : {C L : Type 0} (s : Meaning C L) (view : Option (Seat C L)) → use_of (use_at s) view ≡ use_at s (seat_now view)
+uses_now s None = refl
+uses_now s (Some x) = refl
 
+module _ {W V C L : Type 0} (t : ℕ → V → Table W V C L (Answer V)) (s : Meaning C L) (c : C) (h : Option Hold) where
   module _ (p q : Spot V C L) (next : Next L (Answer (Unit {0}))) (came : Comes t s c h next p q) where
     pub goes_on : (l : L) → next ≡ Continue l → IsIn (model_at t) c p q × (what q.1 ≡ Some (Calling c l h))
     goes_on l is = subst (λ x. Comes t s c h x p q) is came
@@ -111,6 +107,20 @@ module _ {W V C L : Type 0} (t : ℕ → V → Table W V C L (Answer V)) (s : Me
   refused p q knows a k (called, sits, (l, n, is, fine)) after tries so =
       let (same, then) = (tries l n (with_value a None) k fine is).1 (granted_as a ∙ so) in ((knows.0, knows.1, rw then at sits), rw same at called)
 
+  pub acquired : (p q : Spot V C L) → Knows s q → (a : Answer (Unit {0})) (k : Option Hold) → Ended t s c h a k p q → Acquires t s c h p.0 → Writes s q × HasCalled (model_at t) c Granted p q
+  acquired p q knows a k (called, sits, (l, n, is, fine)) only =
+      let (same, uses) = only l n (with_value a None) k fine is in ((knows.0, knows.1, uses_now s (what q.1) ∙ (ap (use_at s) sits ∙ uses)), rw same at called)
+
+  module _ (p q : Spot V C L) (knows : Knows s q) (a : Answer (Unit {0})) (k : Option Hold) (end : Ended t s c h a k p q) (tries : TriesToAcquire t s c h p.0) where
+    pub acquired_at_once : is_granted a ≡ true → Writes s q × HasCalled (model_at t) c Granted p q
+    acquired_at_once so =
+        let (l, n, is, fine) = end.2 in let (same, uses) = (tries l n (with_value a None) k fine is).0 (granted_as a ∙ so) in
+        ((knows.0, knows.1, uses_now s (what q.1) ∙ (ap (use_at s) end.1 ∙ uses)), rw same at end.0)
+
+    pub refused_at_once : is_granted a ≡ false → StandsAt h q × HasCalled (model_at t) c Refused p q
+    refused_at_once so =
+        let (l, n, is, fine) = end.2 in let (same, then) = (tries l n (with_value a None) k fine is).1 (granted_as a ∙ so) in ((knows.0, knows.1, rw then at end.1), rw same at end.0)
+
   -- the first step of a call that leaves what the party holds
   pub looked : (key : Opening V) → IsLook t c h key → (n : ℕ) (next : Next L (Answer (Unit {0}))) → GoesBy t s c ((table_at t key).start c h) h n next key → (a : Answer (Unit {0})) (k : Option Hold) → next ≡ Answers a k → (k ≡ h) × Tells t s c h a key
   looked key looks n next (which, fine) a k is =
@@ -136,11 +146,6 @@ module _ {W V C L : Type 0} (t : ℕ → V → Table W V C L (Answer V)) (s : Me
 pub rests_held : {C L A : Type 0} (c : C) (h : Option Hold) (next : Next L A) → AnswersWith h next → seat_after c h next ≡ resting h
 rests_held c h (Continue l) is = absurd is
 rests_held c h (Answers a after) is = ap resting is
-
--- how a party uses the value
-pub uses_now : {C L : Type 0} (s : Meaning C L) (view : Option (Seat C L)) → use_of (use_at s) view ≡ use_at s (seat_now view)
-uses_now s None = refl
-uses_now s (Some x) = refl
 
 -- what a party sees after a further step of its call
 pub sees_then : {V P Q C L S R : Type 0} (s : Meaning C L) (c : C) (l : L) (h : Option Hold) (v : Option V) (it : Session V (Numbered (Seat C L)) (Entry C V) P (Opening V) S) (now : Session V (Numbered (Seat C L)) (Entry C V) Q (Opening V) R)

@@ -1,6 +1,5 @@
 -- A party whose call was granted has a guard.
-use Rattle.std.proofs.Common.{◌≡◌, ℕ, true, Option, Some, None, sym, ap, ◌∙◌, subst, arith}
-use Rattle.std.specs.Prelude.{Result, Ok, Err, IfOk, IfErr}
+use Rattle.std.proofs.Common.{◌≡◌, ℕ, true, Option, Some, sym, ap, ◌∙◌, subst}
 use Rattle.std.specs.Option.{IfSome}
 use Rattle.spin_core.specs.Cell.{writes, use_of}
 use Rattle.spin_core.specs.Guard.{guard_value}
@@ -11,8 +10,7 @@ use Rattle.spin_core.specs.Values.{IsLast}
 use Rattle.spin_core.proofs.Passes as passes
 use Rattle.spin_core.specs.declared.guard.Guard.{Guard}
 use Rattle.spin_core.specs.declared.tie.Opening.{Opening}
-use Rattle.spin_core.specs.declared.trace.Watch.{Watch}
-use Rattle.spin_step.specs.Acts.{Table, with_value}
+use Rattle.spin_step.specs.Acts.{Table}
 use Rattle.spin_step.specs.Schedules.{Entry}
 use Rattle.spin_step.specs.declared.answer.Answer.{Answer}
 use Rattle.spin_step.specs.declared.answer.Answer.TheVariants.{Granted, Done}
@@ -24,24 +22,14 @@ use Rattle.spin_session.specs.Meaning.{Meaning, model_at, use_at}
 use Rattle.spin_session.specs.Passes.{Grants, Writes, guard_spot}
 use Rattle.spin_session.specs.Turns.{Calls, Spot, StandsAt}
 
-pub of_ok : {A B : Type 0} (r : Result A B) (P : A → Type 0) (x : A) → r ≡ Ok x → IfOk r P → P x
-of_ok r P x is all = subst (λ o. IfOk o P) is all
-
-pub of_err : {A B : Type 0} (r : Result A B) (P : B → Type 0) (x : B) → r ≡ Err x → IfErr r P → P x
-of_err r P x is all = subst (λ o. IfErr o P) is all
-
 -- a party with a hold by which it writes
 pub stands_writes : {V C L : Type 0} (s : Meaning C L) (p : Spot V C L) (h : Hold) → use_at s (Holding h) ≡ writes → StandsAt (Some h) p → Writes s p
 stands_writes s p h uses stands = (stands.0, stands.1, ap (use_of (use_at s)) (holder_sits (what p.1) h stands.2) ∙ uses)
 
--- an answer that says `Granted` for any value is `Granted`
-pub was_granted : {V : Type 0} (a : Answer (Unit {0})) → with_value {V = V} a None ≡ Granted → a ≡ Granted
-was_granted a is = grind (arith, is)
-
-module _ {W V C L P R S : Type 0} (t : ℕ → V → Table W V C L (Answer V)) (s : Meaning C L) (now : Spot V C L) (value : Option V) (guard : Guard V (Numbered (Seat C L)) P R (Opening V) S) (seen : Watch (Entry C V))
-    (same : guard_spot guard seen ≡ now) (last : Some (guard_value guard) ≡ value) where
+module _ {W V C L P R S : Type 0} (t : ℕ → V → Table W V C L (Answer V)) (s : Meaning C L) (now : Spot V C L) (value : Option V) (guard : Guard V (Numbered (Seat C L)) (Entry C V) P R (Opening V) S)
+    (same : guard_spot guard ≡ now) (last : Some (guard_value guard) ≡ value) where
   pub granted : Writes s now → IfSome value (IsLast now.0 now.2.entries)
-      → (call : C) (before : Spot V C L) → Calls t call Granted before now → Grants t s call before guard seen
+      → (call : C) (before : Spot V C L) → Calls t call Granted before now → Grants t s call before guard
   granted knows sees call before calls = let there = subst (Writes s) (sym same) knows in (
     there.2,
     (there.0, there.1),

@@ -1,5 +1,5 @@
 -- What one step of a table tells, and what the steps of a call tell.
-use Rattle.std.specs.Prelude.{◌≡◌, ◌≢◌, ◌⊎◌, ℕ, zero, suc, ◌==◌, Bool, true, false, Option, Some, None, List, [], length, if◌then◌else◌}
+use Rattle.std.specs.Prelude.{◌≡◌, ◌≢◌, ◌≤◌, ◌⊎◌, ℕ, zero, suc, ◌==◌, Bool, true, false, Option, Some, None, List, [], length, if◌then◌else◌}
 use Rattle.std.specs.Option.{IfSome, MatchOption}
 use Rattle.spin_step.specs.Acts.{Table, machine_of, next_of, operation_by, with_value, filled}
 use Rattle.spin_step.specs.Operations.{performed}
@@ -155,9 +155,9 @@ module _ {W V C L : Type 0} (t : ℕ → V → Table W V C L (Answer V)) where
   abbrev pub IsAt : C → L → Option Hold → Opening V → Option (Seat C L) → Type 0
   IsAt c l h key = IsAtPoint (table_at t key) c l h
 
--- the watch is of the party's lock and knows its trace up to the party's last step; the party may rest in its seat
+-- the watch is of the party's lock and knows its trace, at least up to the party's last step; the party may rest in its seat
 abbrev pub Knows : {V C L : Type 0} → Meaning C L → Spot V C L → Type 0
-Knows s p = (p.0.name ≡ p.2.name) × (mark_of p.1 ≡ length p.2.entries) × (rests_at s (seat_now (what p.1)) ≡ true)
+Knows s p = (p.0.name ≡ p.2.name) × (mark_of p.1 ≤ length p.2.entries) × (rests_at s (seat_now (what p.1)) ≡ true)
 
 -- if the party sees a value, it is the one written last
 abbrev pub SeesLast : {V P C L S : Type 0} → Session V (Numbered (Seat C L)) (Entry C V) P (Opening V) S → Type 0
@@ -186,13 +186,13 @@ lock_of p = p.2.name
 abbrev pub history : {V C L : Type 0} → Spot V C L → List (Entry C V)
 history p = p.2.entries
 
--- the party of this lock has made no call
-abbrev pub IsNew : {V C L : Type 0} → Opening V → Spot V C L → Type 0
-IsNew lock p = (p.0 ≡ lock) × (p.1 ≡ None) × (p.2.entries ≡ []) × (p.2.name ≡ lock.name)
+-- a party of this lock that has made no call, and knows nothing of the lock's trace
+abbrev pub new_in : {V C L : Type 0} → Opening V → Spot V C L
+new_in lock = (lock, None, record { marker = record {}; name = lock.name; entries = [] })
 
--- the party is in no call, holds this, and knows its lock's trace up to its last step
+-- the party is in no call, holds this, and knows its lock's trace, at least up to its last step
 abbrev pub StandsAt : {V C L : Type 0} → Option Hold → Spot V C L → Type 0
-StandsAt h p = (p.0.name ≡ p.2.name) × (mark_of p.1 ≡ length p.2.entries) × (seat_now (what p.1) ≡ resting h)
+StandsAt h p = (p.0.name ≡ p.2.name) × (mark_of p.1 ≤ length p.2.entries) × (seat_now (what p.1) ≡ resting h)
 
 abbrev pub Stands : {V P C L S : Type 0} → Option Hold → Session V (Numbered (Seat C L)) (Entry C V) P (Opening V) S → Type 0
 Stands h it = StandsAt h (spot it)
@@ -246,6 +246,15 @@ module _ {W V C L : Type 0} (t : ℕ → V → Table W V C L (Answer V)) (s : Me
   abbrev pub IsTry : C → Option Hold → Option Hold → Opening V → Type 0
   IsTry c h after key = (l : L) (n : ℕ) (b : Answer V) (k : Option Hold) → MayFind c l h n key → next_of (table_at t key) c l h n ≡ Answers b k
       → (is_granted b ≡ true → (b ≡ Granted) × (k ≡ after)) × (is_granted b ≡ false → (b ≡ Refused) × (k ≡ h))
+
+  -- Each answer of the call grants the lock, and its party then writes the value.
+  abbrev pub Acquires : C → Option Hold → Opening V → Type 0
+  Acquires c h key = (l : L) (n : ℕ) (b : Answer V) (k : Option Hold) → MayFind c l h n key → next_of (table_at t key) c l h n ≡ Answers b k → (b ≡ Granted) × (use_at s (resting k) ≡ writes)
+
+  -- Each answer of the call either grants the lock, and its party then writes the value, or is a refusal.
+  abbrev pub TriesToAcquire : C → Option Hold → Opening V → Type 0
+  TriesToAcquire c h key = (l : L) (n : ℕ) (b : Answer V) (k : Option Hold) → MayFind c l h n key → next_of (table_at t key) c l h n ≡ Answers b k
+      → (is_granted b ≡ true → (b ≡ Granted) × (use_at s (resting k) ≡ writes)) × (is_granted b ≡ false → (b ≡ Refused) × (k ≡ h))
 
 module _ {W V C L : Type 0} (t : ℕ → V → Table W V C L (Answer V)) where
   -- the party's call goes on, after a step at this point that found this number

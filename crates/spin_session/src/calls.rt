@@ -1,5 +1,5 @@
-//! The calls of a session: each is made by the steps of the lock's table. Begin with [`wait_for`].
-ghost use Rattle.std.specs.Prelude.{◌≡◌, ◌≢◌, true, None, Some, Option, IfOk, IfErr, length};
+//! The calls of a session: each is made by the steps of the lock's table. Begin with [`acquire`].
+ghost use Rattle.std.specs.Prelude.{◌≡◌, ◌≢◌, ◌≤◌, true, None, Some, Option, IfOk, IfErr, length};
 ghost use Rattle.std.specs.Option.{IfSome};
 ghost use Rattle.spin_core.specs.Values.{IsLast};
 ghost use Rattle.spin_core.specs.Cell.{off, writes, use_of, Moved, Keeps};
@@ -18,13 +18,13 @@ ghost use Rattle.spin_step.specs.declared.place.Hold.{Hold as AHold};
 ghost use Rattle.spin_step.specs.declared.table.Operation.TheVariants.{Exchange};
 ghost use Rattle.spin_session.specs.Meaning.{Peeks, seat_now, seat_after, table_at, use_at, model_at};
 ghost use Rattle.spin_session.specs.Operating.{Operates};
-ghost use Rattle.spin_session.specs.Passes.{Grants, Writes};
-ghost use Rattle.spin_session.specs.Turns.{TurnTold, SeesLast, SeesOn, EndsWith, IsLedTo, LeapTold, FusesBy, either_call, either_step, Fuses, Lands, last_step, next_after, course_of, IsAt, Knows, Quiet, StaysQuiet, Stands, MayBegin, Ended, Comes, GoesBy, GoesOn, Waits, Under, IsAnsweredBy, IsAnswered, IsAnsweredAtOnce, IsTry, IsLook, Tells, Calls, Spot, spot, is_granted};
+ghost use Rattle.spin_session.specs.Passes.{After, Grants, Writes, lock_of};
+ghost use Rattle.spin_session.specs.Turns.{TurnTold, SeesLast, SeesOn, EndsWith, IsLedTo, LeapTold, FusesBy, either_call, either_step, Fuses, Lands, last_step, next_after, course_of, IsAt, Knows, Quiet, StaysQuiet, Stands, MayBegin, Ended, Comes, GoesBy, GoesOn, Waits, Under, IsAnsweredBy, IsAnswered, IsAnsweredAtOnce, Acquires, TriesToAcquire, IsTry, IsLook, Tells, Calls, Spot, new_in, spot, is_granted};
 
 use crate::second::Word;
 use crate::session::Session;
 use crate::table::{Ahead, CallOf, Entry, Leap, LeapOf, Party, Peek, Runs, Turn};
-use spin_core::cell::{Permit, WritePermit};
+use spin_core::cell::{Cell, Left, Permit, WritePermit};
 use spin_core::guard::{Guard, Release};
 use spin_core::relax::{RelaxStrategy, Strategy};
 use spin_core::trace::Watch;
@@ -40,6 +40,26 @@ pub type SessionOf<'a, T, P> = Session<
     Entry<<P as Runs<T>>::Call, T>,
     P,
 >;
+
+/// The guard of a party that writes the value of such a lock.
+pub type GuardOf<'a, T, P, R> = Guard<
+    'a,
+    T,
+    Party<<P as Runs<T>>::Call, <P as Runs<T>>::Point>,
+    Entry<<P as Runs<T>>::Call, T>,
+    P,
+    R,
+>;
+
+/// Returns the session of a new party of a lock.
+pub fn enter<T, P: Runs<T>>(cell: &Cell<T, Party<P::Call, P::Point>, P>) -> SessionOf<'_, T, P>
+    ensures { spot result ≡ new_in cell.now }
+{
+    Session {
+        permit: cell.enter(),
+        seen: cell.watch(),
+    }
+}
 
 /// Makes a call that waits, and is always answered so. It makes its steps in rounds, and pauses between them. A round is
 /// the steps up to the first after which the call pauses (see [`Runs::hints`]), but at most three.
@@ -126,34 +146,6 @@ pub fn go_on<'a, T, P: Runs<T>, R: RelaxStrategy, W: Wait>(
     let _ = (answer, after, strategy);
     let (point, found, session) = on;
     wait::<T, P, R, W>(session, call, point, holds, found, rt)
-}
-
-/// Makes one more round of a call that waits at the point `at`, and is always answered so. This function does not wait.
-///
-/// # Contract
-/// With `Ok` the party has made exactly this call, with this answer, and holds `after`. With `Err` it waits in the call.
-pub fn again<'a, T, P: Runs<T>>(
-    session: SessionOf<'a, T, P>,
-    call: P::Call,
-    at: P::Point,
-    holds: Option<Hold>,
-    answer: Answer<()>,
-    after: Option<Hold>,
-) -> Result<SessionOf<'a, T, P>, (P::Point, u64, SessionOf<'a, T, P>)>
-    requires knows { Knows P.meaning (spot session) }
-    requires at { what session.permit.view ≡ Some (Calling call at holds) }
-    requires quiet { StaysQuiet P.meaning call holds }
-    ensures ended { (p : Spot T P.Call P.Point) → Under P.tables P.meaning call p (spot session.entry) → IsAnsweredBy P.tables P.meaning call holds answer after p.0 → IfOk result (λ now. Stands after now × Calls P.tables call answer p (spot now)) }
-    ensures last { IfOk result (λ now. SeesLast now) }
-    ensures waits { IfErr result (λ then. Knows P.meaning (spot then.2) × GoesOn P.tables call then.0 holds then.1 then.2.permit.key (what then.2.permit.view)) }
-    ensures under { (p : Spot T P.Call P.Point) → Under P.tables P.meaning call p (spot session.entry) → IfErr result (λ then. Under P.tables P.meaning call p (spot then.2)) }
-{
-    let _ = (answer, after);
-    let (next, point, found, session) = round(session, call, at, holds);
-    match next {
-        Next::Answers(_, _) => Ok(session),
-        Next::Continue(_) => Err((point, found, session)),
-    }
 }
 
 /// Makes the first round of a call that waits, whatever its answer is and what the party then holds. This function does
@@ -420,7 +412,7 @@ pub fn peek<'a, T, P: Runs<T>>(
     ensures value { result.1.value ≡ writer.entry.value }
     ensures key { result.1.key ≡ writer.entry.key }
     ensures finds { Peeks P.Word.words P.meaning writer.entry.view.0 result.0 }
-    ensures since { writer.entry.key.name ≡ seen.name → writer.entry.view.2 ≡ length seen.entries → (Since (model_at P.tables) Nothing (writer.entry.key, Some writer.entry.view, seen) (result.1.key, Some result.1.view, result.2)) × (result.1.view.2 ≡ length result.2.entries) }
+    ensures since { writer.entry.key.name ≡ seen.name → writer.entry.view.2 ≤ length seen.entries → (Since (model_at P.tables) Nothing (writer.entry.key, Some writer.entry.view, seen) (result.1.key, Some result.1.view, result.2)) × (result.1.view.2 ≡ length result.2.entries) }
 {
     P::laws();
     let permit = writer.into_permit();
@@ -458,7 +450,7 @@ pub fn give<'a, T, P: Runs<T>>(
     ensures key { result.permit.key ≡ writer.entry.key }
     ensures same { use_at P.meaning (resting after) ≢ off → result.permit.value ≡ Some writer.entry.value }
     ensures name { writer.entry.key.name ≡ seen.name → result.seen.name ≡ seen.name }
-    ensures releases { writer.entry.key.name ≡ seen.name → writer.entry.view.2 ≡ length seen.entries → Releases (model_at P.tables) (λ o. o) call Done writer.entry.value (writer.entry.key, Some writer.entry.view, seen) (spot result) }
+    ensures releases { writer.entry.key.name ≡ seen.name → writer.entry.view.2 ≤ length seen.entries → Releases (model_at P.tables) (λ o. o) call Done writer.entry.value (writer.entry.key, Some writer.entry.view, seen) (spot result) }
 {
     let _ = after;
     P::laws();
@@ -475,32 +467,102 @@ pub fn give<'a, T, P: Runs<T>>(
     Session { permit, seen }
 }
 
-/// Returns the guard of a party that writes the value, and what the party knows.
+/// Returns the guard of a party that writes the value.
 ///
 /// # Contract
 /// A call by which the party came here has granted the guard (`grants`).
 #[inline(always)]
 pub fn guarded<'a, T, P: Runs<T> + Release<T, Party<P::Call, P::Point>>, R>(
     session: SessionOf<'a, T, P>,
-) -> (
-    Guard<'a, T, Party<P::Call, P::Point>, P, R>,
-    Watch<Entry<P::Call, T>>,
-)
+) -> GuardOf<'a, T, P, R>
     requires writes { Writes P.meaning (spot session) }
     requires last { SeesLast session }
-    ensures grants { (call : P.Call) (before : Spot T P.Call P.Point) → Calls P.tables call Granted before (spot session.entry) → Grants P.tables P.meaning call before result.0 result.1 }
+    ensures grants { (call : P.Call) (before : Spot T P.Call P.Point) → Calls P.tables call Granted before (spot session.entry) → Grants P.tables P.meaning call before result }
 {
     let (writer, seen) = writing::<T, P>(session);
-    (Guard::new(writer), seen)
+    Guard::new(writer, seen)
+}
+
+/// Makes a call that waits for the lock, and returns the guard that it grants.
+///
+/// # Contract
+/// The call has granted the guard (`Grants`). Whether and when the call returns is not promised.
+#[inline(always)]
+pub fn acquire<'a, T, P: Runs<T> + Release<T, Party<P::Call, P::Point>>, R: RelaxStrategy, W: Wait>(
+    session: SessionOf<'a, T, P>,
+    call: P::Call,
+    holds: Option<Hold>,
+    rt: &W,
+) -> GuardOf<'a, T, P, R>
+    requires stands { Stands holds session }
+    requires may { MayBegin P.tables P.meaning call holds session.permit.key }
+    requires acquires { Acquires P.tables P.meaning call holds session.permit.key }
+    ensures { Grants P.tables P.meaning call (spot session.entry) result }
+{
+    match first_round(session, call, holds) {
+        Ok(session) => guarded(session),
+        Err(on) => {
+            let by = Strategy::<R>::named();
+            guarded(wait_on(on, call, holds, by, rt))
+        }
+    }
+}
+
+/// Makes a call that tries to acquire the lock, in at most three steps. Returns the guard, or else the party.
+///
+/// # Contract
+/// The call has granted the guard (`Grants`), or was refused. Then the party holds what it held before.
+#[inline(always)]
+pub fn try_to_acquire<'a, T, P: Runs<T> + Release<T, Party<P::Call, P::Point>>, R>(
+    session: SessionOf<'a, T, P>,
+    call: P::Call,
+    holds: Option<Hold>,
+) -> Result<GuardOf<'a, T, P, R>, SessionOf<'a, T, P>>
+    requires stands { Stands holds session }
+    requires may { MayBegin P.tables P.meaning call holds session.permit.key }
+    requires tries { TriesToAcquire P.tables P.meaning call holds session.permit.key }
+    requires once { IsAnswered P.tables call holds session.permit.key }
+    ensures granted { IfOk result (Grants P.tables P.meaning call (spot session.entry)) }
+    ensures refused { IfErr result (λ now. Stands holds now × Calls P.tables call Refused (spot session.entry) (spot now)) }
+{
+    let (answer, _, session, _) = in_three(session, call, holds);
+    if is_granted(answer) {
+        Ok(guarded(session))
+    } else {
+        Err(session)
+    }
+}
+
+/// Returns the session of a party that also knows what an earlier one knows.
+///
+/// # Contract
+/// The party is the same, and makes no step. Of the two histories it knows the longer (`after`).
+pub fn after<'a, T, P: Runs<T>>(
+    session: SessionOf<'a, T, P>,
+    earlier: &SessionOf<'_, T, P>,
+) -> SessionOf<'a, T, P>
+    requires { lock_of (spot session) ≡ lock_of (spot earlier.now) }
+    ensures after { After (spot earlier.now) (spot session.entry) (spot result) }
+    ensures stands { (h : Option AHold) → Stands h session.entry → Stands h result }
+{
+    let Session { permit, seen } = session;
+    let known = seen.later(&earlier.seen);
+    seen.end();
+    Session {
+        permit,
+        seen: known,
+    }
 }
 
 /// Ends the session of a party that is in no call, and holds nothing.
-pub fn finish<T, P: Runs<T>>(session: SessionOf<'_, T, P>)
+pub fn finish<T, P: Runs<T>>(session: SessionOf<'_, T, P>) -> Left
     requires { IsOut Idle (what session.permit.view) }
 {
     P::laws();
-    let Session { permit, seen: _ } = session;
-    permit.leave();
+    let Session { permit, seen } = session;
+    let left = permit.leave();
+    seen.end();
+    left
 }
 
 // Returns the point at which the party begins the call.
@@ -570,11 +632,8 @@ fn wait<'a, T, P: Runs<T>, R: RelaxStrategy, W: Wait>(
     unreachable!()
 }
 
-/// Returns the point at which the call goes on, after a step at `point` that found this number.
-///
-/// # Contract
-/// The party is at this point of the call.
-pub fn point_after<T, P: Runs<T>>(
+// Returns the point at which the call goes on, after a step at `point` that found this number.
+fn point_after<T, P: Runs<T>>(
     session: &SessionOf<'_, T, P>,
     call: P::Call,
     point: P::Point,

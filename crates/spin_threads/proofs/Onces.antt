@@ -1,6 +1,7 @@
 -- A call that a pass of a `Once` makes is a call of the object `Once`, unless the call's closure fails. The object's
 -- schedule has the same moves of the pass, with the same outcomes.
-use Rattle.std.proofs.Common.{◌≡◌, ℕ, zero, suc, ◌+◌, ◌==◌, if◌then◌else◌, Bool, true, false, Option, Some, None, List, [], ◌∷◌, ◌++◌, replicate, slice_get, refl, sym, ap, ◌∙◌, subst, eqb-true, is_some, arith}
+use Rattle.std.proofs.Common.{◌≡◌, ℕ, zero, suc, ◌+◌, ◌==◌, if◌then◌else◌, Bool, true, false, Option, Some, None, List, [], ◌∷◌, ◌++◌, length, replicate, slice_get, refl, sym, ap, ◌∙◌, subst, eqb-true, is_some, arith}
+use lib.Seq.{drop-length}
 use Rattle.std.specs.Option.{option_map}
 use Rattle.std.specs.List.{list_all}
 use Rattle.std.proofs.lemmas.Bool.{and_parts, eqb-false}
@@ -242,36 +243,45 @@ module _ (given : Option (Unit {0})) where
       subst HasIt (after-append (m given) (From n) old ys)
       (has_it n (old ++ ys) (played_till (old ++ ys) zs (From n) (subst (λ l. list_all is_played (outcomes (m given) (From n) l) ≡ true) (ap (λ l. old ++ l) is ∙ sym (append_assoc old ys zs)) played)))
 
-  -- A call of a pass is a call of the object
-  pub called : (c : OnceCall (Unit {0})) (a : Answer (Unit {0})) (before now : Option (Numbered View)) (old new : List Made) → Called given c a before old now new → passes.Made (t given) before (foretold_till old new) now (foretold new) (IsCall c a)
+  -- a party that has made its last step at the end of this schedule
+  abbrev at_end : ℕ → List Made → Option (Numbered View)
+  at_end p es = Some (Idle, p, length es)
+
+  -- A call of a pass is a call of the object, of a party with some number.
+  pub called : (c : OnceCall (Unit {0})) (a : Answer (Unit {0})) (before now : Option (Numbered View)) (old new : List Made) → Called given c a before old now new
+      → (p : ℕ) × passes.Made (t given) (at_end p (foretold_till old new)) (foretold_till old new) now (foretold new) (IsCall c a)
   called c a before now old new (p, may, is, own, outs, (more, least, new_is, mine, played, came), (rest, comes, own_is, outs_is, (i, rest_is, comes_are))) =
       let own_are : own ≡ Begin c ∷ (replicate i Step ++ Step ∷ []) = own_is ∙ ap (λ l. Begin c ∷ l) rest_is in
       let plain : are_plain (entries_by p more) ≡ true = ap are_plain (mine ∙ ap (by_party p) own_are) ∙ made_plain p c i in
       let all : (k : ℕ) → list_all is_played (outcomes (m given) (From (least + k)) (old ++ more)) ≡ true = λ k. subst (λ l. list_all is_played (outcomes (m given) (From (least + k)) l) ≡ true) new_is (played k) in (
         p,
-        may,
-        is,
-        own,
-        outs,
         (
-          foretold more,
-          least,
-          subst (λ l. foretold l ≡ foretold_till old l ++ foretold more) (sym new_is) (split old more),
-          own_kept p more plain ∙ mine,
-          λ k. ap (λ o. list_all is_played (outcomes (t given) o (foretold new))) (sym (first_named given (will_fail new) (least + k))) ∙ (all_alike given new (From (least + k)) (played k)).1,
-          λ k.
-              ap (λ o. outcomes_by (t given) p o (foretold more))
-              (ap (λ l. after (t given) (at_first (t given) (least + k)) (foretold_till old l)) new_is ∙ ap (λ o. after (t given) o (foretold_till old (old ++ more))) (sym (first_named given (will_fail (old ++ more)) (least + k))) ∙ leads_on given old more (From (least + k)) (all k))
-              ∙ outs_same p more (after (m given) (From (least + k)) old) (played_on old more (From (least + k)) (all k)) (has_always (least + k) old more (all k)) plain ∙ came k,
+          p,
+          (refl, ap (entries_by p) (drop-length (foretold_till old new))),
+          is,
+          own,
+          outs,
+          (
+            foretold more,
+            least,
+            subst (λ l. foretold l ≡ foretold_till old l ++ foretold more) (sym new_is) (split old more),
+            own_kept p more plain ∙ mine,
+            λ k. ap (λ o. list_all is_played (outcomes (t given) o (foretold new))) (sym (first_named given (will_fail new) (least + k))) ∙ (all_alike given new (From (least + k)) (played k)).1,
+            λ k.
+                ap (λ o. outcomes_by (t given) p o (foretold more))
+                (ap (λ l. after (t given) (at_first (t given) (least + k)) (foretold_till old l)) new_is ∙ ap (λ o. after (t given) o (foretold_till old (old ++ more))) (sym (first_named given (will_fail (old ++ more)) (least + k))) ∙ leads_on given old more (From (least + k)) (all k))
+                ∙ outs_same p more (after (m given) (From (least + k)) old) (played_on old more (From (least + k)) (all k)) (has_always (least + k) old more (all k)) plain ∙ came k,
+          ),
+          (rest, comes, own_is, outs_is, (i, rest_is, comes_are)),
         ),
-        (rest, comes, own_is, outs_is, (i, rest_is, comes_are)),
       )
 
   -- so what the object's laws say of a moment of the call holds for the pass
   pub found_in : (c : OnceCall (Unit {0})) (a : Answer (Unit {0})) (test : Plain → Bool) (P : Plain → Type 0) → ((h : Option Hold) → ((t given).asks c h).answers ((t given).says a) ≡ meaning.found (λ p s. test s)) → ((s : Plain) → test s ≡ true → P s)
       → (before now : Option (Numbered View)) (old new : List Made) → Called given c a before old now new → AtAMoment (t given) c now (foretold_till old new) (foretold new) P
   found_in c a test P says so before now old new made =
-      found (once_facts given) (λ p s. test s) says (λ p l h seen call is. so seen.plain is) before now (foretold_till old new) (foretold new) (called c a before now old new made)
+      let (p, call) = called c a before now old new made in
+      found (once_facts given) (λ p s. test s) says (λ p l h seen call is. so seen.plain is) (at_end p (foretold_till old new)) now (foretold_till old new) (foretold new) call
 
   -- after a step that answers with a value, there is a value
   given_there : (seen : Seen ℕ (Unit {0}) (OnceCall (Unit {0})) OncePoint) (p : ℕ) → Invariant (once_facts given) seen → (event (once_facts given) seen (p, Step)).outcome ≡ Answered (Value tt) None
@@ -283,7 +293,8 @@ module _ (given : Option (Unit {0})) where
 
   gave_in : (c : OnceCall (Unit {0})) (before now : Option (Numbered View)) (old new : List Made) → Called given c (Value tt) before old now new → AsAnswered (t given) c (Value tt) now (foretold_till old new) (foretold new) (λ s. has_value s ≡ true)
   gave_in c before now old new made =
-      let call = call_of (once_facts given) c (Value tt) before now (foretold_till old new) (foretold new) (called c (Value tt) before now old new made) in
+      let (q, it_is) = called c (Value tt) before now old new made in
+      let call = call_of (once_facts given) c (Value tt) (at_end q (foretold_till old new)) now (foretold_till old new) (foretold new) it_is in
       let it = call.answered in let p = call.party in let start = opening (t given) call.parties in
       record {
         party = p;

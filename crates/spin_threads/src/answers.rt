@@ -1,11 +1,10 @@
 //! Laws that an answer was right at some moment of its call. Each law is the contract of a function that does nothing.
 //! A caller that calls this function learns what the law states.
 //!
-//! Each law speaks of every pass that has made one call and got one answer, as the call's clause says (`Called` or
-//! `Calls`, or of `Seats` `Counted` or `WasRefused`). At some moment at which the pass was in that call, the plain lock
-//! was as the law says (`Found`, `FoundOnce`, `AtAMoment`). But the last law speaks of the moment just after the step
-//! that answered the call. The test `is_held` says that a party holds the lock, or is in its queue. [`crate::uses`] has
-//! callers.
+//! Each law speaks of every pass that has made one call and got one answer, as the call's clause says (`Calls`). At some
+//! moment at which the pass was in that call, the plain lock was as the law says (`Found`, `FoundOnce`). But the last law
+//! speaks of the moment just after the step that answered the call. The test `is_held` says that a party holds the lock,
+//! or is in its queue. [`crate::uses`] has callers.
 ghost use Rattle.std.specs.Prelude.{◌≡◌, ◌⊎◌, ◌<◌, ◌≤◌, ℕ, Bool, true, false, length};
 ghost use Rattle.spin_core.specs.declared.tie.Opening.{Opening};
 ghost use Rattle.spin_fair.specs.Fair as fair_mutex;
@@ -20,7 +19,6 @@ ghost use Rattle.spin_step.specs.declared.once_calls.OnceCall.TheVariants as onc
 ghost use Rattle.spin_step.specs.declared.ticket_calls.TicketCall.TheVariants as ticket;
 ghost use Rattle.spin_rwlock.specs.Rw as rwlock;
 ghost use Rattle.spin_rwlock.specs.Rw.{View as RwLockView};
-ghost use Rattle.spin_seats.specs.Passes.{history, party, Counted, SeatsSpot, WasRefused};
 ghost use Rattle.spin_seats.specs.Rule as seats;
 ghost use Rattle.spin_seats.specs.Seats.{seats as as_many_as_seats};
 ghost use Rattle.spin_seats.specs.declared.calls.SeatsCall.TheVariants as call;
@@ -32,7 +30,7 @@ ghost use Rattle.spin_step_more.specs.declared.fair_calls.FairCall.TheVariants a
 ghost use Rattle.spin_step_more.specs.declared.rw_calls.RwCall.TheVariants as rw;
 ghost use Rattle.spin_ticket.specs.Queue as ticket_mutex;
 ghost use Rattle.spin_ticket.specs.Queue.{View as TicketMutexView};
-ghost use Rattle.spin_threads.specs.Moments.{AtAMoment, Was, Found};
+ghost use Rattle.spin_threads.specs.Moments.{Was, Found};
 ghost use Rattle.spin_threads.specs.Onces.{FoundOnce, GaveOnce, has_value};
 
 /// If a pass tried once to acquire a `SpinMutex` and failed, some party held the lock at a moment of the call.
@@ -176,22 +174,17 @@ pub fn a_count_of_a_rwlock_was_so_at_a_moment<T>()
 /// If a pass counted the taken seats of a `Seats` once, the count was right at a moment of the call.
 ///
 /// # Contract
-/// `AtAMoment`: at a moment of the call the plain lock had as many readers as the answer says. A party with a seat
-/// reads.
+/// `Found`: at a moment of the call the plain lock had as many readers as the answer says. A party with a seat reads.
 pub fn a_count_of_seats_was_so_at_a_moment()
-    ensures { (n count : ℕ) (before now : SeatsSpot) → Counted n count before now →
-        AtAMoment (seats.model n) call.Count (party now) (history before) (history now)
-        (Was readers count) }
+    ensures { (n count : ℕ) → Found (seats.model n) seats.View call.Count (Count count) (Was readers count) }
 {}
 
 /// If a pass tried once to take a seat and was refused, all seats were taken at a moment of the call.
 ///
 /// # Contract
-/// `AtAMoment`: at a moment of the call the plain lock had as many holders as there are seats.
+/// `Found`: at a moment of the call the plain lock had as many holders as there are seats.
 pub fn a_refused_try_found_all_seats_taken()
-    ensures { (n : ℕ) (before now : SeatsSpot) → WasRefused n before now →
-        AtAMoment (seats.model n) call.TryEnter (party now) (history before) (history now) (λ s.
-        length s.holders ≡ as_many_as_seats n) }
+    ensures { (n : ℕ) → Found (seats.model n) seats.View call.TryEnter Refused (λ s. length s.holders ≡ as_many_as_seats n) }
 {}
 
 /// If a pass called `is_completed` of a `Once` once, then at some moment of the call the `Once` was as the answer says.

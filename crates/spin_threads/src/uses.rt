@@ -28,12 +28,11 @@ use crate::answers::{
     a_look_at_a_once_was_so_at_a_moment, a_look_at_a_spin_mutex_was_so_at_a_moment,
     a_refused_try_found_the_ticket_mutex_held_or_used_up,
 };
-use spin_core::trace::Watch;
 use spin_fair::fair::Pass as FairPass;
 use spin_flag::spin::Pass as SpinPass;
 use spin_once::once::Pass as OncePass;
 use spin_rwlock::rwlock::Pass as RwPass;
-use spin_ticket::ticket::{Entry, Pass as TicketPass, TicketMutexGuard};
+use spin_ticket::ticket::{Pass as TicketPass, TicketMutexGuard};
 
 /// Asks once whether a `SpinMutex` is held.
 pub fn look_at_a_spin_mutex<T, R>(pass: SpinPass<'_, T, R>) -> (bool, SpinPass<'_, T, R>)
@@ -41,14 +40,13 @@ pub fn look_at_a_spin_mutex<T, R>(pass: SpinPass<'_, T, R>) -> (bool, SpinPass<'
         (spin_passes.history pass.entry) (spin_passes.history result.1) (Was is_held result.0) }
 {
     a_look_at_a_spin_mutex_was_so_at_a_moment::<T>();
-    let (held, pass) = pass.is_locked();
-    (held, pass)
+    pass.is_locked()
 }
 
 /// Tries once to acquire a `TicketMutex`.
 pub fn try_a_ticket_mutex<'a, T, R>(
     pass: TicketPass<'a, T, R>,
-) -> Result<(TicketMutexGuard<'a, T, R>, Watch<Entry<T>>), TicketPass<'a, T, R>>
+) -> Result<TicketMutexGuard<'a, T, R>, TicketPass<'a, T, R>>
     ensures { IfErr result (λ now.
         AtAMoment (ticket_mutex.model (ticket_passes.opening_of pass.entry)) ticket.TryLock (ticket_passes.party now)
         (ticket_passes.history pass.entry) (ticket_passes.history now)
@@ -64,8 +62,7 @@ pub fn look_at_a_fair_mutex<T, R>(pass: FairPass<'_, T, R>) -> (bool, FairPass<'
         (fair_passes.history pass.entry) (fair_passes.history result.1) (Was is_held result.0) }
 {
     a_look_at_a_fair_mutex_was_so_at_a_moment::<T>();
-    let (held, pass) = pass.is_locked();
-    (held, pass)
+    pass.is_locked()
 }
 
 /// Counts the readers of an `RwLock` once.
@@ -74,8 +71,7 @@ pub fn count_the_readers<T, R>(pass: RwPass<'_, T, R>) -> (usize, RwPass<'_, T, 
         (rw_passes.history pass.entry) (rw_passes.history result.1) (Was readers result.0) }
 {
     a_count_of_a_rwlock_was_so_at_a_moment::<T>();
-    let (readers, pass) = pass.reader_count();
-    (readers, pass)
+    pass.reader_count()
 }
 
 /// Asks once whether a `Once` has a value.
@@ -85,6 +81,5 @@ pub fn look_at_a_once<T, R>(pass: OncePass<'_, T, R>) -> (bool, OncePass<'_, T, 
         (foretold (once_passes.schedule result.1)) (Was has_value result.0) }
 {
     a_look_at_a_once_was_so_at_a_moment();
-    let (there, pass) = pass.is_completed();
-    (there, pass)
+    pass.is_completed()
 }

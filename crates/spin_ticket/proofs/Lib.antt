@@ -1,4 +1,3 @@
 pub mod TicketRefines
 pub mod TicketQueue
-pub mod Granted
 pub mod Rows

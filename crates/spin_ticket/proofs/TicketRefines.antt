@@ -8,18 +8,18 @@ use Rattle.spin_step.proofs.TicketSteps.{ticket_take-grants, ticket_take-grants_
 use Rattle.spin_step.proofs.Tickets.{serving-taken, serving-entered, entered_is_served, first-length, enters_in_turn}
 use Rattle.spin_step.specs.TicketCalls.{ticket_table, ticket_memory, word_of, act_of}
 use Rattle.spin_step.specs.Acts.{Table, next_of}
+use Rattle.spin_step.specs.Schedules.{resting}
 use Rattle.spin_step.specs.declared.answer.Answer.{Answer}
 use Rattle.spin_step.specs.declared.answer.Answer.TheVariants.{Granted, Refused}
 use Rattle.spin_step.specs.declared.place.Hold.{Hold}
 use Rattle.spin_step.specs.declared.place.Hold.TheVariants as hold
 use Rattle.spin_step.specs.declared.place.Seat.TheVariants.{Calling, Holding}
-use Rattle.spin_step.specs.declared.stepped.Next.{Next}
 use Rattle.spin_step.specs.declared.stepped.Next.TheVariants.{Answers}
 use Rattle.spin_step.specs.declared.ticket_calls.TicketCall.{TicketCall}
 use Rattle.spin_step.specs.declared.ticket_calls.TicketCall.TheVariants.{Lock, TryLock, Release}
 use Rattle.spin_step.specs.declared.ticket_calls.TicketWords.{TicketWords}
 use Rattle.spin_step.specs.declared.ticket_calls.TicketPoint.{TicketPoint}
-use Rattle.spin_step.specs.declared.ticket_calls.TicketPoint.TheVariants.{LoadNext, Take, Await, TryLoadNext, TryLoadServing, TryTake, Serve}
+use Rattle.spin_step.specs.declared.ticket_calls.TicketPoint.TheVariants.{Take, Await, TryTake, Serve}
 use Rattle.spin_core.specs.Views.{Part, queues, HasPart, IsLockOf}
 use Rattle.spin_core.proofs.Leaving.{serving_word-up}
 use Rattle.spin_core.proofs.Owners.{OfTickets, one_ticket}
@@ -123,26 +123,3 @@ peeked_seat v found uses (plain, p, order, has, is) =
     let has' : HasPart plain p (queues n true) = subst (λ x. HasPart plain p (part x)) seat has in
     let own = (entered_is_served plain p n order.numbered order.exclusive.one_entered (ap (λ e. e.tickets) has'.0)).1 in
     seat ∙ ap (λ k. Holding (hold.Ticket k)) (sym own ∙ sym is)
-
-module _ {T : Type 0} (key : Opening T) where
-  abbrev next : TicketCall → TicketPoint → ℕ → Next TicketPoint (Answer T)
-  next c l n = next_of (table_at ticket_tables key) c l None n
-
-  -- a `lock` is answered by the grant alone
-  pub lock_grants : (a : Answer T) (after : Option Hold) (l : TicketPoint) (n : ℕ) → IsReached ticket_tables ticket_meaning Lock l None key → next Lock l n ≡ Answers a after → (a ≡ Granted) × (t : ℕ) × (after ≡ Some (hold.Ticket t))
-  lock_grants a after (Await t) n at is = (grind (arith, is), t, grind (arith, is))
-  lock_grants a after LoadNext n at is = absurd (grind (arith, is))
-  lock_grants a after (Take k) n at is = absurd (grind (arith, is))
-  lock_grants a after l n at is = absurd (grind (arith, at))
-
-  pub try_grants : (after : Option Hold) (l : TicketPoint) (n : ℕ) → IsReached ticket_tables ticket_meaning TryLock l None key → next TryLock l n ≡ Answers Granted after → (t : ℕ) × (after ≡ Some (hold.Ticket t))
-  try_grants after (TryTake k) n at is = (k, grind (arith, is))
-  try_grants after TryLoadNext n at is = absurd (grind (arith, is))
-  try_grants after (TryLoadServing k) n at is = absurd (grind (arith, is))
-  try_grants after l n at is = absurd (grind (arith, at))
-
-  pub try_refuses : (a : Answer T) (after : Option Hold) (l : TicketPoint) (n : ℕ) → IsReached ticket_tables ticket_meaning TryLock l None key → next TryLock l n ≡ Answers a after → (a ≡ Granted → ⊥) → (a ≡ Refused) × (after ≡ None)
-  try_refuses a after (TryTake k) n at is other = grind (arith, is, other)
-  try_refuses a after TryLoadNext n at is other = absurd (grind (arith, is))
-  try_refuses a after (TryLoadServing k) n at is other = grind (arith, is, other)
-  try_refuses a after l n at is other = absurd (grind (arith, at))

@@ -1,18 +1,16 @@
 -- What a pass of a `TicketMutex` knows, and what its calls do.
-use Rattle.std.specs.Prelude.{ℕ, Bool}
+use Rattle.std.specs.Prelude.{ℕ}
 use Rattle.spin_core.specs.Own.{Numbered}
 use Rattle.spin_core.specs.declared.guard.Guard.{Guard}
 use Rattle.spin_core.specs.declared.tie.Opening.{Opening}
-use Rattle.spin_core.specs.declared.trace.Watch.{Watch}
 use Rattle.spin_step.specs.declared.answer.Answer.{Answer}
-use Rattle.spin_step.specs.declared.answer.Answer.TheVariants.{Is}
-use Rattle.spin_step.specs.declared.ticket_calls.TicketCall.{TicketCall}
-use Rattle.spin_step.specs.declared.ticket_calls.TicketCall.TheVariants.{Lock, IsLocked, Release}
+pub use Rattle.spin_step.specs.declared.ticket_calls.TicketCall.{TicketCall}
+pub use Rattle.spin_step.specs.declared.ticket_calls.TicketCall.TheVariants.{Lock, TryLock, IsLocked, Release}
 use Rattle.spin_step.specs.declared.ticket_calls.TicketPoint.{TicketPoint}
 use Rattle.spin_session.specs.Passes as session
 use Rattle.spin_session.specs.Turns as turns
 use Rattle.spin_session.specs.Turns.{Spot}
-pub use Rattle.spin_session.specs.Passes.{history, lock_of, opening_of, party, OpensWith, Holds}
+pub use Rattle.spin_session.specs.Passes.{◌⨾◌, After, history, lock_of, new_in, opening_of, party, OpensWith, Holds}
 use Rattle.spin_ticket.specs.Queue.{Made, View, ticket_meaning, ticket_tables}
 use Rattle.spin_ticket.specs.declared.ticket.TicketMutex.{TicketMutex}
 
@@ -33,19 +31,19 @@ module _ {T : Type 0} where
   abbrev pub Calls : TicketCall → Answer (Unit {0}) → TicketSpot T → TicketSpot T → Type 0
   Calls = turns.Calls ticket_tables
 
-  -- from `before` to `now` the pass has made one call, `is_locked`, with this answer
-  abbrev pub Looked : Bool → TicketSpot T → TicketSpot T → Type 0
-  Looked set = Calls IsLocked (Is set)
+  -- From `before` to `now` the pass has written a value, and has then made this call. If the lock tells its values, the value is x.
+  abbrev pub Wrote : TicketCall → T → TicketSpot T → TicketSpot T → Type 0
+  Wrote = session.Wrote ticket_tables
 
-  -- From `before` to `now` the pass has acquired the lock once by `lock`, and has released it. It left some value.
-  abbrev pub HeldOnce : TicketSpot T → TicketSpot T → Type 0
-  HeldOnce = session.Held ticket_tables Lock Release
+  -- from `before` to `now` the pass has written some value, and has then made this call
+  abbrev pub WroteSome : TicketCall → TicketSpot T → TicketSpot T → Type 0
+  WroteSome = session.WroteSome ticket_tables
 
   module _ {P R S : Type 0} where
-    -- By this call the pass has acquired the guard, whose value is the one written last.
-    abbrev pub Grants : TicketCall → TicketSpot T → Guard T (Numbered View) P R (Opening T) S → Watch (Made T) → Type 0
+    -- By this call the party at the spot has acquired the guard, whose value is the one written last.
+    abbrev pub Grants : TicketCall → TicketSpot T → Guard T (Numbered View) (Made T) P R (Opening T) S → Type 0
     Grants = session.Grants ticket_tables ticket_meaning
 
-    -- The pass has written the guard's value, so this is the one written last, and has then released the lock.
-    abbrev pub Unlocks : Guard T (Numbered View) P R (Opening T) S → Watch (Made T) → TicketSpot T → Type 0
+    -- The party has written the guard's value, so this is the one written last, and has then released the lock.
+    abbrev pub Unlocks : Guard T (Numbered View) (Made T) P R (Opening T) S → TicketSpot T → Type 0
     Unlocks = session.Unlocks ticket_tables Release

@@ -1,11 +1,8 @@
 //! A spinning mutex that serves the threads in the order of their tickets. Begin at [`TicketMutex::lock`].
 ghost use Rattle.std.specs.Prelude.{Option, IfSome};
 ghost use Rattle.std.specs.Fmt.{DisplaysOnOk};
-ghost use Rattle.spin_core.specs.Guard.{IsHolder};
 ghost use Rattle.spin_core.specs.Texts.{lock_text};
-ghost use Rattle.spin_session.specs.Turns.{IsNew, spot};
-ghost use Rattle.spin_ticket.specs.Queue.{use_of_party};
-ghost use Rattle.spin_ticket.specs.TicketPasses.{OpensWith, opening};
+ghost use Rattle.spin_ticket.specs.TicketPasses.{Grants, Lock, OpensWith, TryLock, new_in, opening};
 
 use spin_core::cell::Cell;
 use spin_core::guard::{self, Guard};
@@ -14,8 +11,8 @@ use spin_core::relax::{RelaxStrategy, Spin, Strategy};
 use spin_core::texts::write_lock;
 use spin_core::tie::Opening;
 use spin_core::trace::Trace;
-use spin_session::calls::SessionOf;
-use spin_session::session::Session;
+use spin_session::calls::{acquire, enter};
+use spin_step::TicketCall;
 use std::fmt::{self, Debug, Formatter};
 use std::sync::Wait;
 
@@ -29,13 +26,14 @@ pub use spin_core::laws::{a_guard_reads_the_last_value_written, two_guards_read_
 /// A mutual exclusion lock that serves its threads in the order of their tickets, and on which a waiting thread spins.
 ///
 /// Each call of [`lock`](Self::lock) takes a ticket with the next number, and enters when that number is served. With
-/// more spinning threads than processors a call may wait for a thread that is not scheduled, and the queue nearly stands
-/// still. Use `SpinMutex` then, or the strategy `SpinThenYield`. A waiting thread relaxes with strategy `R`.
+/// more spinning threads than processors a call may wait for a thread that is not scheduled, and the queue nearly
+/// stands still. Use `SpinMutex` then, or the strategy `SpinThenYield`. A waiting thread relaxes with strategy `R`.
 ///
 /// # Contract
 /// While a guard or a hold of the lock lives, no other call acquires it. Threads enter in the order of their tickets
 /// (`the_parties_of_a_ticket_mutex_enter_in_turn`). A guard gives a value of `T`, with all that the invariant of `T`
-/// says. Without a [`pass`](Self::pass) nothing else is promised of what other threads wrote.
+/// says. When the guard is acquired this is the value written last in the lock's history. Without a
+/// [`pass`](Self::pass) other answers promise nothing.
 ///
 /// # Examples
 /// ```
@@ -56,7 +54,7 @@ pub struct TicketMutex<T, R = Spin> {
 ///
 /// # Contract
 /// `guard_value` is the lock's value. What is written through the guard is read through it.
-pub type TicketMutexGuard<'a, T, R = Spin> = Guard<'a, T, Party, TicketRule, R>;
+pub type TicketMutexGuard<'a, T, R = Spin> = Guard<'a, T, Party, Entry<T>, TicketRule, R>;
 
 /// A hold on a [`TicketMutex`]: it keeps the lock without a guard, and gives no access to the value.
 ///
@@ -64,7 +62,7 @@ pub type TicketMutexGuard<'a, T, R = Spin> = Guard<'a, T, Party, TicketRule, R>;
 ///
 /// # Contract
 /// `held_value` is the value that the guard had.
-pub type Held<'a, T, R = Spin> = guard::Held<'a, T, Party, TicketRule, R>;
+pub type Held<'a, T, R = Spin> = guard::Held<'a, T, Party, Entry<T>, TicketRule, R>;
 
 // The hints that a waiting thread gives in a pause, for each ticket before its own, up to a limit. The thread that is
 // next gives one hint.
@@ -95,20 +93,10 @@ impl<T, R> TicketMutex<T, R> {
         }
     }
 
-    // Returns a party that has made no call.
-    fn session(&self) -> SessionOf<'_, T, TicketRule>
-        ensures { IsNew (opening self.now) (spot result) }
-    {
-        Session {
-            permit: self.cell.enter(),
-            seen: self.cell.watch(),
-        }
-    }
-
     /// Consumes the mutex and returns the value.
     ///
-    /// It takes no ticket, since no other thread has the mutex. So it also returns the value if a guard was leaked, or a
-    /// hold dropped.
+    /// It takes no ticket, since no other thread has the mutex. So it also returns the value if a guard was leaked,
+    /// or a hold dropped.
     ///
     /// # Contract
     /// Only that the call returns.
@@ -123,13 +111,14 @@ impl<T, R> TicketMutex<T, R> {
     /// lock, or if it finds all 2^64 - 1 tickets used up.
     ///
     /// # Contract
-    /// The guard belongs to a holder of the lock (`IsHolder`). Whether and when the call returns is not promised.
+    /// The guard is granted by one `Lock`, and its value is the one written last in the lock's history (`Grants`).
+    /// Whether and when the call returns is not promised.
     pub fn lock<W: Wait>(&self, rt: &W) -> TicketMutexGuard<'_, T, R>
     where
         R: RelaxStrategy,
-        ensures { IsHolder use_of_party result }
+        ensures { Grants Lock (new_in (opening self.now)) result }
     {
-        self.pass().lock(rt).0
+        acquire(enter(&self.cell), TicketCall::Lock, None, rt)
     }
 
     /// Tries to acquire the mutex. Returns `None` at once if a thread holds it or waits for it, or if the tickets are
@@ -138,13 +127,13 @@ impl<T, R> TicketMutex<T, R> {
     /// It makes at most two loads and one compare-exchange.
     ///
     /// # Contract
-    /// The guard in `Some` belongs to a holder of the lock (`IsHolder`). `None` promises nothing. The call returns.
+    /// The guard in `Some` is granted by one `TryLock` (`Grants`). `None` promises nothing. The call returns.
     #[must_use = "dropping the guard at once releases the lock: bind the answer, or write `drop(..)`"]
     pub fn try_lock<'a>(&'a self) -> Option<TicketMutexGuard<'a, T, R>>
-        ensures { IfSome result (IsHolder use_of_party) }
+        ensures { IfSome result (Grants TryLock (new_in (opening self.now))) }
     {
         match self.pass().try_lock() {
-            Ok((guard, _)) => Some(guard),
+            Ok(guard) => Some(guard),
             Err(_) => None,
         }
     }

@@ -4,6 +4,7 @@
 //! Begin with [`ledger`].
 #![tactic(auto)]
 
+pub mod agreed;
 pub mod cache;
 pub mod ledger;
 pub mod meeting;

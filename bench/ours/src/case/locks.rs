@@ -35,9 +35,9 @@ impl Case for PassAdds {
     fn repeat<W: Wait>(&self, rt: &W, _worker: usize, calls: u64) -> u64 {
         let mut pass = self.0.pass();
         for _ in 0..calls {
-            let (mut sum, seen) = pass.lock(rt);
+            let mut sum = pass.lock(rt);
             *sum = sum.wrapping_add(1);
-            pass = SpinMutex::unlock(sum, seen);
+            pass = SpinMutex::unlock(sum);
         }
         0
     }
@@ -72,9 +72,9 @@ impl Case for PassReaders {
     fn repeat<W: Wait>(&self, rt: &W, _worker: usize, calls: u64) -> u64 {
         let (mut pass, mut seen) = (self.0.pass(), 0u64);
         for _ in 0..calls {
-            let (guard, known) = pass.read(rt);
+            let guard = pass.read(rt);
             seen = seen.wrapping_add(*guard);
-            pass = RwLock::unlock_shared(guard, known);
+            pass = RwLock::unlock_shared(guard);
         }
         seen
     }

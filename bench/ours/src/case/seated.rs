@@ -1,11 +1,11 @@
 //! A seated lock with one caller. The contracts say what this caller did.
 ghost use Rattle.std.specs.Prelude.{◌≡◌, Some};
 ghost use Rattle.spin_seated.specs.Passes.{IsPassOf};
-ghost use Rattle.spin_seated_uses.specs.Sections.{away, section_of};
+ghost use Rattle.spin_examples.specs.Sections.{away, section_of};
 
 use super::Case;
 use spin_seated::mutex::{Pass, SeatedMutex};
-use spin_seated_uses::adding::add;
+use spin_examples::adding::add;
 use std::alloc::{AllocError, Global};
 use std::sync;
 use std::sync::Wait;

@@ -2,7 +2,7 @@
 #![tactic(auto)]
 
 ghost use Rattle.std.specs.Prelude.{◌≡◌, ◌⊎◌};
-ghost use Rattle.spin_flag.specs.Passes.{history, lock_of, name_of, HeldOnce};
+ghost use Rattle.spin_flag.specs.Passes.{◌⨾◌, history, lock_of, name_of, Calls, WroteSome, Lock, Release, Granted};
 ghost use mathlib.Core.List.{IsPrefix};
 
 use spin_core::relax::Spin;
@@ -14,12 +14,12 @@ type Pass<'a> = spin::Pass<'a, u64, Spin>;
 
 /// Adds 1, unless the value is the largest number. The new calls of the pass are one `lock` and its release.
 pub fn add<'a, W: Wait>(rt: &W, pass: Pass<'a>) -> Pass<'a>
-    ensures made { HeldOnce pass.entry result }
+    ensures made { (Calls Lock Granted ⨾ WroteSome Release) pass.entry result }
     ensures lock { lock_of result ≡ lock_of pass.entry }
 {
-    let (mut guard, seen) = pass.lock(rt);
+    let mut guard = pass.lock(rt);
     *guard = guard.saturating_add(1);
-    SpinMutex::unlock(guard, seen)
+    SpinMutex::unlock(guard)
 }
 
 /// Calls `add` in each of two threads. The history that one pass knows is a prefix of the history that the other

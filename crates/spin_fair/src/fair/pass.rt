@@ -1,20 +1,18 @@
 //! The calls of a [`FairMutex`] by a thread that keeps track of them. Begin at [`FairMutex::pass`].
-ghost use Rattle.std.specs.Prelude.{◌≡◌, ◌⊎◌, Some, None, IfOk, IfErr};
+ghost use Rattle.std.specs.Prelude.{◌≡◌, ◌⊎◌, None, IfOk, IfErr};
 ghost use mathlib.Core.List.{IsPrefix};
-ghost use Rattle.spin_session.specs.Turns.{IsNew, Stands, history, lock_of, spot};
+ghost use Rattle.spin_session.specs.Turns.{Stands, history, lock_of, spot};
 ghost use Rattle.spin_step.specs.declared.answer.Answer.TheVariants.{Granted, Refused, Is};
 ghost use Rattle.spin_step_more.specs.declared.fair_calls.FairCall.TheVariants.{Lock, TryLock, TryLockStarver, IsLocked, Starve};
 ghost use Rattle.spin_fair.specs.Fair.{answer_of};
-ghost use Rattle.spin_fair.specs.FairPasses.{Calls, FairSpot, Grants, Holds, Unlocks, opening};
+ghost use Rattle.spin_fair.specs.FairPasses.{After, Calls, FairSpot, Grants, Holds, Unlocks, new_in, opening};
 
-use super::rule::{Entry, FairRule};
-use super::starving::StarvingPass;
-use super::{FairMutex, FairMutexGuard, LockRejectReason};
+use super::rule::FairRule;
+use super::{FairMutex, FairMutexGuard, LockRejectReason, Starvation};
 use spin_core::guard::Guard;
-use spin_core::relax::{RelaxStrategy, Strategy};
-use spin_core::trace::Watch;
+use spin_core::relax::RelaxStrategy;
 use spin_session::calls::{
-    SessionOf, ask, attempt, finish, give, guarded, in_three, try_for, wait_for,
+    SessionOf, acquire, after, ask, enter, finish, give, guarded, in_three, try_for, try_to_acquire,
 };
 use spin_step::{Answer, Hold};
 use spin_step_more::FairCall;
@@ -28,10 +26,23 @@ use std::sync::Wait;
 /// of others. A pass is as large as a reference to the lock. It can be sent, and a lock can have any number of passes.
 ///
 /// # Contract
-/// Each call takes the pass, and returns it or a guard with what the pass knows. The call ensures `Calls`: in the
-/// history the pass's new moves are those of exactly one call, and this call has the returned answer. (`unlock` also
-/// writes the guard's value: `Unlocks`.) The lock's model plays the moves of all threads in the order of the history. It
-/// skips no move, and gives this call the same answer.
+/// A call takes the pass, or a guard, which knows what its party knew when it acquired the lock. It returns the pass or
+/// a guard. The call ensures `Calls`: in the history the pass's new moves are those of exactly one call, and this
+/// call has the returned answer. (`unlock` also writes the guard's value: `Unlocks`.) The lock's model plays the moves
+/// of all threads in the order of the history. It skips no move, and gives this call the same answer.
+///
+/// # Examples
+/// ```
+/// use spin::mutex::FairMutex;
+///
+/// let lock: FairMutex<u64> = FairMutex::new(4);
+/// let starver = lock.pass().starve(&rt).ok().expect(&rt, "few threads starve");
+/// let guard = starver.lock(&rt);
+/// assert_eq!(rt; *guard, 4);
+/// let (is_locked, pass) = FairMutex::unlock(guard).is_locked();
+/// assert!(rt; !is_locked);
+/// drop(pass);
+/// ```
 #[must_use = "a pass that is dropped ends: bind it, or write `drop(..)`"]
 pub struct Pass<'a, T, R> {
     pub(super) session: SessionOf<'a, T, FairRule>,
@@ -52,27 +63,27 @@ impl<T, R> FairMutex<T, R> {
     /// # Contract
     /// The pass is of this lock, and knows nothing of its history yet (`new`).
     pub fn pass(&self) -> Pass<'_, T, R>
-        ensures new { IsNew (opening self.now) result }
+        ensures new { result ≡ new_in (opening self.now) }
     {
         Pass {
-            session: self.session(),
+            session: enter(&self.cell),
             strategy: PhantomData,
         }
     }
 
-    /// Releases the lock, and returns the pass by which it was acquired. Starvers stay registered.
+    /// Releases the lock, and returns the pass of the party that held it. Starvers stay registered.
     ///
     /// A guard that is dropped releases the lock too, and ends its pass.
     ///
     /// # Contract
-    /// `seen` has to be what the call that acquired the lock returned with the guard (`Holds`). The release is the next
-    /// call of the pass. Just before the release the pass writes the guard's value into the history, so this value is
-    /// the one written last (`Unlocks`).
-    pub fn unlock<'a>(guard: FairMutexGuard<'a, T, R>, seen: Watch<Entry<T>>) -> Pass<'a, T, R>
-        requires { Holds guard seen }
-        ensures { Unlocks guard.entry seen result }
+    /// The guard has to be one that a call of this lock returned (`Holds`), with or without a pass. The release is the
+    /// next call of its party. Just before the release the party writes the guard's value into the history, so this
+    /// value is the one written last (`Unlocks`).
+    pub fn unlock<'a>(guard: FairMutexGuard<'a, T, R>) -> Pass<'a, T, R>
+        requires { Holds guard }
+        ensures { Unlocks guard.entry result }
     {
-        let writer = Guard::into_writer(guard);
+        let (writer, seen) = Guard::into_parts(guard);
         Pass {
             session: give::<T, FairRule>(writer, seen, FairCall::Release, Hold::Write, None),
             strategy: PhantomData,
@@ -81,23 +92,21 @@ impl<T, R> FairMutex<T, R> {
 }
 
 impl<'a, T, R: RelaxStrategy> Pass<'a, T, R> {
-    /// Acquires the lock as [`FairMutex::lock`] does. Returns the guard, and what the pass then knows.
+    /// Acquires the lock as [`FairMutex::lock`] does.
     ///
     /// # Contract
     /// The call is one `Lock` with the answer `Granted`, however often it looked and tried, and even if it starved. The
     /// guard belongs to a holder of the lock, and its value is the one written last in the history (`Grants`). Whether
     /// and when the call returns is not promised.
-    pub fn lock<W: Wait>(self, rt: &W) -> (FairMutexGuard<'a, T, R>, Watch<Entry<T>>)
-        ensures { Grants Lock self.entry result.0 result.1 }
+    #[inline(always)]
+    pub fn lock<W: Wait>(self, rt: &W) -> FairMutexGuard<'a, T, R>
+        ensures { Grants Lock self.entry result }
     {
         let Self {
             session,
             strategy: _,
         } = self;
-        let by = Strategy::<R>::named();
-        let write = Some(Hold::Write);
-        let call = FairCall::Lock;
-        guarded(wait_for(session, call, None, Answer::Granted, write, by, rt))
+        acquire(session, FairCall::Lock, None, rt)
     }
 }
 
@@ -105,15 +114,15 @@ impl<'a, T, R> Pass<'a, T, R> {
     /// Registers the caller as a starver, as [`FairMutex::starve`] does. Returns the pass if too many threads starve.
     ///
     /// # Contract
-    /// The call is one `Starve`. Its answer is `Granted` with a pass that starves (`granted`), else `Refused`
-    /// (`refused`). Whether and when the call returns is not promised.
-    pub fn starve<W: Wait>(self, rt: &W) -> Result<StarvingPass<'a, T, R>, Pass<'a, T, R>>
-        ensures granted { IfOk result (λ pass. Calls Starve Granted self.entry pass) }
+    /// The call is one `Starve`. Its answer is `Granted` with the starver (`granted`), else `Refused` (`refused`).
+    /// Whether and when the call returns is not promised.
+    pub fn starve<W: Wait>(self, rt: &W) -> Result<Starvation<'a, T, R>, Pass<'a, T, R>>
+        ensures granted { IfOk result (λ starver. Calls Starve Granted self.entry starver) }
         ensures refused { IfErr result (λ pass. Calls Starve Refused self.entry pass) }
     {
         let Self { session, strategy } = self;
         match try_for(session, FairCall::Starve, None, Some(Hold::Starver), rt) {
-            Ok(session) => Ok(StarvingPass { session, strategy }),
+            Ok(session) => Ok(Starvation { session, strategy }),
             Err(session) => Err(Pass { session, strategy }),
         }
     }
@@ -124,13 +133,13 @@ impl<'a, T, R> Pass<'a, T, R> {
     /// # Contract
     /// The call is one `TryLock`. Its answer is `Granted` with a guard (`granted`), else `Refused` (`refused`). The
     /// guard's value is the one written last in the history.
-    pub fn try_lock(self) -> Result<(FairMutexGuard<'a, T, R>, Watch<Entry<T>>), Pass<'a, T, R>>
-        ensures granted { IfOk result (λ held. Grants TryLock self.entry held.0 held.1) }
+    pub fn try_lock(self) -> Result<FairMutexGuard<'a, T, R>, Pass<'a, T, R>>
+        ensures granted { IfOk result (Grants TryLock self.entry) }
         ensures refused { IfErr result (λ pass. Calls TryLock Refused self.entry pass) }
     {
         let Self { session, strategy } = self;
-        match attempt(session, FairCall::TryLock, None, Some(Hold::Write)) {
-            Ok(session) => Ok(guarded(session)),
+        match try_to_acquire(session, FairCall::TryLock, None) {
+            Ok(guard) => Ok(guard),
             Err(session) => Err(Pass { session, strategy }),
         }
     }
@@ -155,8 +164,8 @@ impl<'a, T, R> Pass<'a, T, R> {
     /// ```
     pub fn try_lock_starver(
         self,
-    ) -> Result<(FairMutexGuard<'a, T, R>, Watch<Entry<T>>), (LockRejectReason, Pass<'a, T, R>)>
-        ensures granted { IfOk result (λ held. Grants TryLockStarver self.entry held.0 held.1) }
+    ) -> Result<FairMutexGuard<'a, T, R>, (LockRejectReason, Pass<'a, T, R>)>
+        ensures granted { IfOk result (Grants TryLockStarver self.entry) }
         ensures refused { IfErr result (λ told. Calls TryLockStarver (answer_of told.0) self.entry told.1) }
     {
         let Self { session, strategy } = self;
@@ -182,11 +191,41 @@ impl<'a, T, R> Pass<'a, T, R> {
         }
     }
 
+    /// Returns this pass, which then also knows what the other pass knows. It does nothing when it runs.
+    ///
+    /// So the next call of this pass comes after the calls of the other that are known by now.
+    ///
+    /// # Contract
+    /// The history that the returned pass knows is the longer of the two, of which the other is a prefix (`After`).
+    ///
+    /// # Examples
+    /// ```
+    /// use spin::mutex::FairMutex;
+    ///
+    /// let lock: FairMutex<u64> = FairMutex::new(4);
+    /// let mut guard = lock.lock(&rt);
+    /// *guard = 5;
+    /// let writer = FairMutex::unlock(guard);
+    /// let reader = lock.pass().after(&writer);
+    /// assert_eq!(rt; *reader.lock(&rt), 5);
+    /// drop(writer);
+    /// ```
+    pub fn after(self, earlier: &Pass<'_, T, R>) -> Pass<'a, T, R>
+        requires { lock_of self ≡ lock_of earlier.now }
+        ensures { After earlier.now self.entry result }
+    {
+        let Self { session, strategy } = self;
+        Pass {
+            session: after(session, &earlier.session),
+            strategy,
+        }
+    }
+
     /// Compares what two passes of one lock know. It does nothing when it runs.
     ///
     /// # Contract
     /// The history that one of the passes knows is a prefix of the history that the other knows. The longer of the two
-    /// histories has the calls of both passes, each once, in the order in which each pass made them.
+    /// histories has the calls of both passes, in the order in which each pass made them.
     pub fn compare(&self, other: &Pass<'_, T, R>)
         requires { lock_of self.now ≡ lock_of other.now }
         ensures { IsPrefix (history self.now) (history other.now) ⊎ IsPrefix (history other.now) (history self.now) }
@@ -201,6 +240,6 @@ impl<T, R> Drop for Pass<'_, T, R> {
             session,
             strategy: _,
         } = self;
-        finish(session);
+        let _left = finish(session);
     }
 }

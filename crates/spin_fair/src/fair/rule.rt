@@ -7,7 +7,7 @@ ghost use Rattle.spin_step_more.specs.declared.fair_calls.FairPoint.TheVariants.
 ghost use Rattle.spin_fair.specs.Fair.{IsFair, fair_meaning, fair_tables, use_of_party};
 
 use super::STARVATION_SPINS;
-use spin_core::cell::{Rule, WritePermit};
+use spin_core::cell::{Left, Rule, WritePermit};
 use spin_core::guard::{self, Uses};
 use spin_core::relax::MAX_BACK_OFF;
 use spin_core::tie::Opening;
@@ -123,10 +123,9 @@ impl Uses<Party> for FairRule {
 }
 
 impl<T> guard::Release<T, Party> for FairRule {
-    fn release(writer: WritePermit<'_, T, Party, FairRule>) {
-        let seen = Watch::nothing();
-        let release = FairCall::Release;
-        finish(give::<T, FairRule>(writer, seen, release, Hold::Write, None));
+    fn release(writer: WritePermit<'_, T, Party, FairRule>) -> Left {
+        let (seen, release) = (Watch::nothing(), FairCall::Release);
+        finish(give::<T, FairRule>(writer, seen, release, Hold::Write, None))
     }
 
     ghost same = { λ key view. refl };

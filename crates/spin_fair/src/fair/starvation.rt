@@ -1,15 +1,20 @@
 //! A registered starver of a `FairMutex`. The starver goes before newcomers until it has the lock or gives up. Begin at
 //! [`Starvation::lock`].
-ghost use Rattle.std.specs.Prelude.{IfOk};
-ghost use Rattle.spin_core.specs.Guard.{IsHolder};
-ghost use Rattle.spin_fair.specs.Fair.{use_of_party};
+ghost use Rattle.std.specs.Prelude.{Some, IfOk, IfErr};
+ghost use Rattle.spin_session.specs.Turns.{Stands, spot};
+ghost use Rattle.spin_step.specs.declared.answer.Answer.TheVariants.{Refused, Done};
+ghost use Rattle.spin_step.specs.declared.place.Hold.TheVariants.{Starver};
+ghost use Rattle.spin_step_more.specs.declared.fair_calls.FairCall.TheVariants.{StarverTryLock, StarverTryLockFair, StarverLock, StarverDrop};
+ghost use Rattle.spin_fair.specs.FairPasses.{Calls, FairSpot, Grants};
 
 use super::FairMutexGuard;
-use super::starving::StarvingPass;
-use spin_core::relax::{RelaxStrategy, Spin, Strategy};
-use spin_session::calls::{begin, go_on, guarded};
+use super::pass::Pass;
+use super::rule::FairRule;
+use spin_core::relax::{RelaxStrategy, Spin};
+use spin_session::calls::{SessionOf, acquire, make, try_to_acquire};
 use spin_step::{Answer, Hold};
 use spin_step_more::FairCall;
+use std::marker::{Model, PhantomData};
 use std::sync::Wait;
 
 /// A registered starver of a `FairMutex`. Dropping it ends the registration.
@@ -18,10 +23,19 @@ use std::sync::Wait;
 /// again.
 ///
 /// # Contract
-/// The starver's party is registered (it holds `Starver`).
+/// The starver's party is registered: it holds `Starver`. Each call ensures `Calls`, as the calls of a [`Pass`] do.
 #[must_use = "if the place is dropped at once, the thread starves no longer: call `lock` on it"]
 pub struct Starvation<'a, T, R = Spin> {
-    pub(super) pass: StarvingPass<'a, T, R>,
+    pub(super) session: SessionOf<'a, T, FairRule>,
+    pub(super) strategy: PhantomData<R>,
+}
+
+impl<'a, T, R> Model for Starvation<'a, T, R> {
+    ghost Value = { FairSpot T };
+
+    ghost view = { λ starver. spot starver.session };
+
+    ghost invariant = { λ starver. Stands (Some Starver) starver.session };
 }
 
 impl<'a, T, R> Starvation<'a, T, R> {
@@ -31,8 +45,9 @@ impl<'a, T, R> Starvation<'a, T, R> {
     /// A failure returns the same starver, which stays registered. The call makes one compare-exchange.
     ///
     /// # Contract
-    /// The guard in `Ok` belongs to a holder of the lock (`IsHolder`). The starver in `Err` is registered. The call
-    /// returns.
+    /// The call is one `StarverTryLockFair`. Its answer is `Granted` with a guard (`granted`), else `Refused` with the
+    /// starver, which is still registered (`refused`). The guard's value is the one written last in the history. The
+    /// call returns.
     ///
     /// # Examples
     /// ```
@@ -46,12 +61,13 @@ impl<'a, T, R> Starvation<'a, T, R> {
     /// assert!(rt; first.try_lock_fair().is_ok());
     /// ```
     pub fn try_lock_fair(self) -> Result<FairMutexGuard<'a, T, R>, Starvation<'a, T, R>>
-        ensures { IfOk result (IsHolder use_of_party) }
+        ensures granted { IfOk result (Grants StarverTryLockFair self.entry) }
+        ensures refused { IfErr result (λ starver. Calls StarverTryLockFair Refused self.entry starver) }
     {
-        let Self { pass } = self;
-        match pass.try_lock_fair() {
-            Ok((guard, _)) => Ok(guard),
-            Err(pass) => Err(Starvation { pass }),
+        let Self { session, strategy } = self;
+        match try_to_acquire(session, FairCall::StarverTryLockFair, Some(Hold::Starver)) {
+            Ok(guard) => Ok(guard),
+            Err(session) => Err(Starvation { session, strategy }),
         }
     }
 
@@ -60,8 +76,9 @@ impl<'a, T, R> Starvation<'a, T, R> {
     /// A failure returns the same starver, which stays registered.
     ///
     /// # Contract
-    /// The guard in `Ok` belongs to a holder of the lock (`IsHolder`). The starver in `Err` is registered. The call
-    /// returns.
+    /// The call is one `StarverTryLock`. Its answer is `Granted` with a guard (`granted`), else `Refused` with the
+    /// starver, which is still registered (`refused`). A first exchange that fails is no step of the model: it only
+    /// begins the call. The guard's value is the one written last in the history. The call returns.
     ///
     /// # Examples
     /// ```
@@ -75,12 +92,39 @@ impl<'a, T, R> Starvation<'a, T, R> {
     /// assert_eq!(rt; lock.into_inner(), 5);
     /// ```
     pub fn try_lock(self) -> Result<FairMutexGuard<'a, T, R>, Starvation<'a, T, R>>
-        ensures { IfOk result (IsHolder use_of_party) }
+        ensures granted { IfOk result (Grants StarverTryLock self.entry) }
+        ensures refused { IfErr result (λ starver. Calls StarverTryLock Refused self.entry starver) }
     {
-        let Self { pass } = self;
-        match pass.try_lock() {
-            Ok((guard, _)) => Ok(guard),
-            Err(pass) => Err(Starvation { pass }),
+        let Self { session, strategy } = self;
+        match try_to_acquire(session, FairCall::StarverTryLock, Some(Hold::Starver)) {
+            Ok(guard) => Ok(guard),
+            Err(session) => Err(Starvation { session, strategy }),
+        }
+    }
+
+    /// Ends the registration, and returns the pass of the starver's party.
+    ///
+    /// # Contract
+    /// The call is one `StarverDrop`.
+    ///
+    /// # Examples
+    /// ```
+    /// use spin::mutex::FairMutex;
+    ///
+    /// let lock: FairMutex<u64> = FairMutex::new(4);
+    /// let starver = lock.starve(&rt).expect(&rt, "few threads starve");
+    /// assert!(rt; lock.try_lock().is_none());
+    /// let pass = starver.give_up();
+    /// assert!(rt; pass.try_lock().is_ok());
+    /// ```
+    pub fn give_up(self) -> Pass<'a, T, R>
+        ensures { Calls StarverDrop Done self.entry result }
+    {
+        let Self { session, strategy } = self;
+        let (call, held) = (FairCall::StarverDrop, Some(Hold::Starver));
+        Pass {
+            session: make(session, call, held, Answer::Done, None),
+            strategy,
         }
     }
 }
@@ -93,31 +137,23 @@ impl<'a, T, R: RelaxStrategy> Starvation<'a, T, R> {
     /// and looks at the word before it sets the flag again. Other starvers may overtake it.
     ///
     /// # Contract
-    /// The guard belongs to a holder of the lock (`IsHolder`). Whether and when the call returns is not promised.
+    /// The call is one `StarverLock` with the answer `Granted`, which ends the registration. The guard's value is the
+    /// one written last in the history (`Grants`). Whether and when the call returns is not promised.
+    #[inline(always)]
     pub fn lock<W: Wait>(self, rt: &W) -> FairMutexGuard<'a, T, R>
-        ensures { IsHolder use_of_party result }
+        ensures { Grants StarverLock self.entry result }
     {
-        let Self { pass } = self;
-        // Not by `StarvingPass::lock`: that would make the path for a lone starver longer.
-        let call = FairCall::StarverLock;
-        let held = Some(Hold::Starver);
-        let write = Some(Hold::Write);
-        let session = match begin(pass.into_session(), call, held, Answer::Granted, write) {
-            Ok(session) => session,
-            Err(on) => {
-                let by = Strategy::<R>::named();
-                go_on(on, call, held, Answer::Granted, write, by, rt)
-            }
-        };
-        let (guard, _) = guarded(session);
-        guard
+        let Self {
+            session,
+            strategy: _,
+        } = self;
+        acquire(session, FairCall::StarverLock, Some(Hold::Starver), rt)
     }
 }
 
 impl<T, R> Drop for Starvation<'_, T, R> {
     fn drop(self) {
-        let Self { pass } = self;
-        drop(pass);
+        drop(self.give_up());
     }
 }
 

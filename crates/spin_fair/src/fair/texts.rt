@@ -14,12 +14,10 @@ impl<T: Debug, R> Debug for FairMutex<T, R> {
     fn fmt<W: fmt::Write>(&self, f: &mut Formatter<W>) -> fmt::Result
         ensures { (found : Option T) × DisplaysOnOk W.write_str_gives f.old result (fair_text T.debug_output found) f.new }
     {
-        let guard = self.try_lock();
-        let value = guard.as_ref().map(|guard| &**guard);
         write_named(
             "FairMutex { data: ",
             "FairMutex { data: <locked> }",
-            value,
+            self.try_lock().as_ref().map(|guard| &**guard),
             f,
         )
     }

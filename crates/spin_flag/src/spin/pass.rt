@@ -1,17 +1,16 @@
 //! The calls of a [`SpinMutex`] by a thread that keeps track of them. Begin at [`SpinMutex::pass`].
 ghost use Rattle.std.specs.Prelude.{◌≡◌, ◌⊎◌, None, IfOk, IfErr};
 ghost use mathlib.Core.List.{IsPrefix};
-ghost use Rattle.spin_session.specs.Turns.{IsNew, Stands, history, lock_of, spot};
-ghost use Rattle.spin_flag.specs.Passes.{Calls, FlagSpot, Grants, Holds, Unlocks, opening};
+ghost use Rattle.spin_session.specs.Turns.{Stands, history, lock_of, spot};
+ghost use Rattle.spin_flag.specs.Passes.{After, Calls, FlagSpot, Grants, Holds, Unlocks, new_in, opening};
 ghost use Rattle.spin_step.specs.declared.answer.Answer.TheVariants.{Refused, Is};
 ghost use Rattle.spin_step.specs.declared.flag_calls.FlagCall.TheVariants.{Lock, TryLock, IsLocked};
 
-use super::rule::{Entry, FlagRule};
+use super::rule::FlagRule;
 use super::{SpinMutex, SpinMutexGuard};
 use spin_core::guard::Guard;
-use spin_core::relax::{RelaxStrategy, Strategy};
-use spin_core::trace::Watch;
-use spin_session::calls::{SessionOf, ask, attempt, finish, give, guarded, wait_for};
+use spin_core::relax::RelaxStrategy;
+use spin_session::calls::{SessionOf, acquire, after, ask, enter, finish, give, try_to_acquire};
 use spin_step::{Answer, FlagCall, Hold};
 use std::marker::{Model, PhantomData};
 use std::sync::Wait;
@@ -23,8 +22,8 @@ use std::sync::Wait;
 /// of others. A pass is as large as a reference to the lock. It can be sent, and a lock can have any number of passes.
 ///
 /// # Contract
-/// A call takes the pass, or a guard with what the pass knew when it acquired the guard. It returns the pass or a
-/// guard. The call ensures `Calls`: in the history the pass's new moves are those of exactly one call, and this
+/// A call takes the pass, or a guard, which knows what its party knew when it acquired the lock. It returns the pass or
+/// a guard. The call ensures `Calls`: in the history the pass's new moves are those of exactly one call, and this
 /// call has the returned answer. (`unlock` also writes the guard's value: `Unlocks`.) The lock's model plays the moves
 /// of all threads in the order of the history. It skips no move, and gives this call the same answer.
 ///
@@ -33,9 +32,9 @@ use std::sync::Wait;
 /// use spin::mutex::SpinMutex;
 ///
 /// let lock: SpinMutex<u64> = SpinMutex::new(4);
-/// let (mut guard, seen) = lock.pass().lock(&rt);
+/// let mut guard = lock.pass().lock(&rt);
 /// *guard = 5;
-/// let pass = SpinMutex::unlock(guard, seen);
+/// let pass = SpinMutex::unlock(guard);
 /// let (is_locked, pass) = pass.is_locked();
 /// assert!(rt; !is_locked);
 /// drop(pass);
@@ -60,27 +59,27 @@ impl<T, R> SpinMutex<T, R> {
     /// # Contract
     /// The pass is of this lock, and knows nothing of its history yet (`new`).
     pub fn pass(&self) -> Pass<'_, T, R>
-        ensures new { IsNew (opening self.now) result }
+        ensures new { result ≡ new_in (opening self.now) }
     {
         Pass {
-            session: self.session(),
+            session: enter(&self.cell),
             strategy: PhantomData,
         }
     }
 
-    /// Releases the lock, and returns the pass by which it was acquired.
+    /// Releases the lock, and returns the pass of the party that held it.
     ///
     /// A guard that is dropped releases the lock too, and ends its pass.
     ///
     /// # Contract
-    /// `seen` has to be what [`Pass::lock`] or [`Pass::try_lock`] returned with the guard (`Holds`). The release is the
-    /// next call of the pass. Just before the release the pass writes the guard's value into the history, so this value
-    /// is the one written last (`Unlocks`).
-    pub fn unlock<'a>(guard: SpinMutexGuard<'a, T, R>, seen: Watch<Entry<T>>) -> Pass<'a, T, R>
-        requires { Holds guard seen }
-        ensures { Unlocks guard.entry seen result }
+    /// The guard has to be one that a call of this lock returned (`Holds`), with or without a pass. The release is the
+    /// next call of its party. Just before the release the party writes the guard's value into the history, so this
+    /// value is the one written last (`Unlocks`).
+    pub fn unlock<'a>(guard: SpinMutexGuard<'a, T, R>) -> Pass<'a, T, R>
+        requires { Holds guard }
+        ensures { Unlocks guard.entry result }
     {
-        let writer = Guard::into_writer(guard);
+        let (writer, seen) = Guard::into_parts(guard);
         Pass {
             session: give::<T, FlagRule>(writer, seen, FlagCall::Release, Hold::Write, None),
             strategy: PhantomData,
@@ -89,24 +88,20 @@ impl<T, R> SpinMutex<T, R> {
 }
 
 impl<'a, T, R: RelaxStrategy> Pass<'a, T, R> {
-    /// Acquires the lock as [`SpinMutex::lock`] does. Returns the guard, and what the pass then knows.
+    /// Acquires the lock as [`SpinMutex::lock`] does.
     ///
     /// # Contract
     /// The call is one `Lock` with the answer `Granted`, however often it looked and tried. The guard belongs to a
     /// holder of the lock, and its value is the one written last in the history (`Grants`). Whether and when the call
     /// returns is not promised.
-    #[tactic(auto, using(crate::proofs::FlagRefines::lock_answers))]
-    pub fn lock<W: Wait>(self, rt: &W) -> (SpinMutexGuard<'a, T, R>, Watch<Entry<T>>)
-        ensures { Grants Lock self.entry result.0 result.1 }
+    pub fn lock<W: Wait>(self, rt: &W) -> SpinMutexGuard<'a, T, R>
+        ensures { Grants Lock self.entry result }
     {
         let Self {
             session,
             strategy: _,
         } = self;
-        let by = Strategy::<R>::named();
-        let write = Some(Hold::Write);
-        let call = FlagCall::Lock;
-        guarded(wait_for(session, call, None, Answer::Granted, write, by, rt))
+        acquire(session, FlagCall::Lock, None, rt)
     }
 }
 
@@ -127,14 +122,13 @@ impl<'a, T, R> Pass<'a, T, R> {
     /// drop(guard);
     /// assert!(rt; pass.try_lock().is_ok());
     /// ```
-    #[tactic(auto, using(crate::proofs::FlagRefines::try_answers))]
-    pub fn try_lock(self) -> Result<(SpinMutexGuard<'a, T, R>, Watch<Entry<T>>), Pass<'a, T, R>>
-        ensures granted { IfOk result (λ held. Grants TryLock self.entry held.0 held.1) }
+    pub fn try_lock(self) -> Result<SpinMutexGuard<'a, T, R>, Pass<'a, T, R>>
+        ensures granted { IfOk result (Grants TryLock self.entry) }
         ensures refused { IfErr result (λ pass. Calls TryLock Refused self.entry pass) }
     {
         let Self { session, strategy } = self;
-        match attempt(session, FlagCall::TryLock, None, Some(Hold::Write)) {
-            Ok(session) => Ok(guarded(session)),
+        match try_to_acquire(session, FlagCall::TryLock, None) {
+            Ok(guard) => Ok(guard),
             Err(session) => Err(Pass { session, strategy }),
         }
     }
@@ -153,11 +147,41 @@ impl<'a, T, R> Pass<'a, T, R> {
         }
     }
 
+    /// Returns this pass, which then also knows what the other pass knows. It does nothing when it runs.
+    ///
+    /// So the next call of this pass comes after the calls of the other that are known by now.
+    ///
+    /// # Contract
+    /// The history that the returned pass knows is the longer of the two, of which the other is a prefix (`After`).
+    ///
+    /// # Examples
+    /// ```
+    /// use spin::mutex::SpinMutex;
+    ///
+    /// let lock: SpinMutex<u64> = SpinMutex::new(4);
+    /// let mut guard = lock.lock(&rt);
+    /// *guard = 5;
+    /// let writer = SpinMutex::unlock(guard);
+    /// let reader = lock.pass().after(&writer);
+    /// assert_eq!(rt; *reader.lock(&rt), 5);
+    /// drop(writer);
+    /// ```
+    pub fn after(self, earlier: &Pass<'_, T, R>) -> Pass<'a, T, R>
+        requires { lock_of self ≡ lock_of earlier.now }
+        ensures { After earlier.now self.entry result }
+    {
+        let Self { session, strategy } = self;
+        Pass {
+            session: after(session, &earlier.session),
+            strategy,
+        }
+    }
+
     /// Compares what two passes of one lock know. It does nothing when it runs.
     ///
     /// # Contract
     /// The history that one of the passes knows is a prefix of the history that the other knows. The longer of the two
-    /// histories has the calls of both passes, each once, in the order in which each pass made them.
+    /// histories has the calls of both passes, in the order in which each pass made them.
     pub fn compare(&self, other: &Pass<'_, T, R>)
         requires { lock_of self.now ≡ lock_of other.now }
         ensures { IsPrefix (history self.now) (history other.now) ⊎ IsPrefix (history other.now) (history self.now) }
@@ -172,6 +196,6 @@ impl<T, R> Drop for Pass<'_, T, R> {
             session,
             strategy: _,
         } = self;
-        finish(session);
+        let _left = finish(session);
     }
 }

@@ -5,7 +5,7 @@ ghost use Rattle.spin_core.specs.Values.{untold};
 ghost use Rattle.spin_session.specs.Meaning.{ways_of};
 ghost use Rattle.spin_flag.specs.Flag.{IsFlag, flag_meaning, flag_tables, use_of_party};
 
-use spin_core::cell::{Rule, WritePermit};
+use spin_core::cell::{Left, Rule, WritePermit};
 use spin_core::guard::{self, Uses};
 use spin_core::tie::Opening;
 use spin_core::trace::{Trace, Watch};
@@ -66,9 +66,9 @@ impl Uses<Party> for FlagRule {
 }
 
 impl<T> guard::Release<T, Party> for FlagRule {
-    fn release(writer: WritePermit<'_, T, Party, FlagRule>) {
+    fn release(writer: WritePermit<'_, T, Party, FlagRule>) -> Left {
         let (seen, release) = (Watch::nothing(), FlagCall::Release);
-        finish(give::<T, FlagRule>(writer, seen, release, Hold::Write, None));
+        finish(give::<T, FlagRule>(writer, seen, release, Hold::Write, None))
     }
 
     ghost same = { λ key view. refl };

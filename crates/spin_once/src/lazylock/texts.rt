@@ -13,6 +13,7 @@ impl<T: Debug, F, R, M: Promise<T>> Debug for LazyLock<T, F, R, M> {
     fn fmt<W: fmt::Write>(&self, f: &mut Formatter<W>) -> fmt::Result
         ensures { (found : Option T) × DisplaysOnOk W.write_str_gives f.old result (once_text (codes "LazyLock") T.debug_output found) f.new }
     {
-        write_once("LazyLock(", "LazyLock(<uninit>)", self.core.get(), f)
+        let (found, _pass) = Self::pass(self).get();
+        write_once("LazyLock(", "LazyLock(<uninit>)", found, f)
     }
 }

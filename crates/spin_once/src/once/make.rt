@@ -1,37 +1,16 @@
 //! What a call with a closure does. Begin with [`make`].
-ghost use Rattle.std.specs.Prelude.{◌≡◌, Some, Err, true, false, IfOk, IfErr};
+ghost use Rattle.std.specs.Prelude.{◌≡◌, Some, Ok, Err, false, IfOk, IfErr};
 ghost use Rattle.spin_core.specs.Own.{what};
-ghost use Rattle.spin_core.specs.Passes.{IsCall};
 ghost use Rattle.spin_session.specs.Turns.{has_begun};
-ghost use Rattle.spin_step.specs.declared.answer.Answer.TheVariants.{Value};
 ghost use Rattle.spin_step.specs.declared.once_calls.OnceCall.TheVariants.{CallOnce, TryCallOnceOk};
 ghost use Rattle.spin_step.specs.declared.once_calls.OncePoint.TheVariants.{TryBegin};
-ghost use Rattle.spin_once.specs.Accounts.{Place, here, Since, Entered};
+ghost use Rattle.spin_once.specs.Accounts.{Place, here, Since, Entered, Finds};
 ghost use Rattle.spin_once.specs.Once.{in_call, IsFailedCall};
 
 use crate::once_core::{Account, Found};
 use spin_core::relax::RelaxStrategy;
 use spin_step::OnceCall;
 use std::sync::Wait;
-
-/// Finds the value, or makes it by a closure that may fail. Spins while another thread makes it. If the closure fails,
-/// returns its error with the account.
-pub(super) fn find_or_try<'a, T, R: RelaxStrategy, F: FnOnce() -> Result<T, E>, E, W: Wait>(
-    account: Account<'a, T, ()>,
-    rt: &W,
-    f: F,
-) -> Result<Found<'a, T, ()>, (E, Account<'a, T, ()>)>
-    requires out { has_begun (what account.party.view) ≡ false }
-    requires calls { F.pre f }
-    ensures found { IfOk result (λ found. Since (here account.entry) (IsCall (TryCallOnceOk tt) (Value tt)) (here found.account)) }
-    ensures failed { IfErr result (λ failed. Since (here account.entry) IsFailedCall (here failed.1)) }
-    ensures err { IfErr result (λ failed. F.post f (Err failed.0) × (has_begun (what failed.1.party.view) ≡ false)) }
-{
-    match account.come(OnceCall::TryCallOnceOk(())) {
-        Ok(found) => Ok(found),
-        Err(account) => try_make::<T, R, F, E, W>(rt, account, f),
-    }
-}
 
 // Makes the value, or waits for it. It is not inlined, since that would lengthen the path of each caller that finds a
 // value.
@@ -44,7 +23,7 @@ pub(super) fn make<'a, T, R: RelaxStrategy, F: FnOnce() -> T, W: Wait>(
 ) -> Found<'a, T, ()>
     requires wants { what account.party.view ≡ Some (in_call (CallOnce tt) TryBegin) }
     requires calls { F.pre f }
-    ensures { (p : Place T (Unit {0})) → Entered (CallOnce tt) p (here account.entry) → Since p (IsCall (CallOnce tt) (Value tt)) (here result.account) }
+    ensures { (p : Place T (Unit {0})) → Entered (CallOnce tt) p (here account.entry) → Finds (CallOnce tt) (F.post f) p result.account }
 {
     match account.claim::<R, W>(OnceCall::CallOnce(()), rt) {
         Ok(found) => found,
@@ -52,16 +31,17 @@ pub(super) fn make<'a, T, R: RelaxStrategy, F: FnOnce() -> T, W: Wait>(
     }
 }
 
+// Like `make`, with a closure that may fail. If it fails, returns its error with the account.
 #[cold]
 #[inline(never)]
-fn try_make<'a, T, R: RelaxStrategy, F: FnOnce() -> Result<T, E>, E, W: Wait>(
+pub(super) fn try_make<'a, T, R: RelaxStrategy, F: FnOnce() -> Result<T, E>, E, W: Wait>(
     rt: &W,
     account: Account<'a, T, ()>,
     f: F,
 ) -> Result<Found<'a, T, ()>, (E, Account<'a, T, ()>)>
     requires wants { what account.party.view ≡ Some (in_call (TryCallOnceOk tt) TryBegin) }
     requires calls { F.pre f }
-    ensures found { IfOk result (λ found. (p : Place T (Unit {0})) → Entered (TryCallOnceOk tt) p (here account.entry) → Since p (IsCall (TryCallOnceOk tt) (Value tt)) (here found.account)) }
+    ensures found { IfOk result (λ found. (p : Place T (Unit {0})) → Entered (TryCallOnceOk tt) p (here account.entry) → Finds (TryCallOnceOk tt) (λ v. F.post f (Ok v)) p found.account) }
     ensures failed { IfErr result (λ failed. (p : Place T (Unit {0})) → Entered (TryCallOnceOk tt) p (here account.entry) → Since p IsFailedCall (here failed.1)) }
     ensures err { IfErr result (λ failed. F.post f (Err failed.0) × (has_begun (what failed.1.party.view) ≡ false)) }
 {

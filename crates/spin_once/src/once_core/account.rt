@@ -1,10 +1,10 @@
 //! What a party does, and knows of the trace. Begin with [`Account::get`] and [`Account::come`]; [`Account::claim`]
 //! gives the value or the right to make it.
-ghost use Rattle.std.specs.Prelude.{◌≡◌, ◌⊎◌, ℕ, Some, None, true, false, length, IfErr, IfSome};
+ghost use Rattle.std.specs.Prelude.{◌≡◌, ◌≤◌, ◌⊎◌, ℕ, Some, None, true, false, length, IfErr, IfSome};
 ghost use mathlib.Core.List.{IsPrefix};
 ghost use Rattle.spin_core.specs.Cell.{use_of, Moved, Keeps};
 ghost use Rattle.spin_core.specs.Own.{what};
-ghost use Rattle.spin_core.specs.Passes.{mark_of, IsCall};
+ghost use Rattle.spin_core.specs.Passes.{mark_of};
 ghost use Rattle.spin_core.specs.Traced.{Found as FoundIn, MayKnow, Named, Watches};
 ghost use Rattle.spin_session.specs.Meaning.{just_one};
 ghost use Rattle.spin_session.specs.Operating.{Operates};
@@ -14,7 +14,7 @@ ghost use Rattle.spin_step.specs.declared.stepped.Next.TheVariants.{Answers};
 ghost use Rattle.spin_step.specs.declared.once_calls.OnceCall.TheVariants.{Get, IsCompleted, Wait as WaitCall, Poll};
 ghost use Rattle.spin_step.specs.declared.once_calls.OncePoint.TheVariants.{TryBegin};
 ghost use Rattle.spin_once.specs.Once.{IsOnce, Told, once_ways, use_of_party, next_at, view_of, turn_by, in_call, reader, Call, HasClosure, is_run, stops, IsAt, IsStepOf, IsTold};
-ghost use Rattle.spin_once.specs.OnceValues.{IsValue, Sees};
+ghost use Rattle.spin_once.specs.OnceValues.{made, Sees};
 
 use super::init_permit::InitPermit;
 use super::known::known;
@@ -26,12 +26,13 @@ use spin_step::{Answer, Next, OnceCall, OncePoint, OnceTable, Operation, Steps};
 use std::marker::Brand;
 use std::sync::Wait;
 
-/// A party that knows which moves in the trace are its own, and the whole trace up to its own last move.
+/// A party that knows which moves in the trace are its own, and the whole trace at least up to its own last move.
 pub(crate) struct Account<'a, T, S: Seed<T>> {
     pub(super) party: Caller<'a, T, S>,
     pub(super) seen: Watch<Entry<T>>,
     ghost named: { party.key.opening.name ≡ seen.name },
-    ghost knows: { mark_of party.view ≡ length seen.entries },
+    ghost knows: { mark_of party.view ≤ length seen.entries },
+    ghost few: { length (made party.key.opening.value seen.entries) ≤ 1 },
     ghost finds: { Sees party.key.opening seen.entries (use_of use_of_party party.view) party.value },
 }
 
@@ -42,12 +43,14 @@ pub(crate) struct Found<'a, T, S: Seed<T>> {
 }
 
 impl<'a, T, S: Seed<T>> Found<'a, T, S> {
-    ghost use Rattle.spin_once.specs.Accounts.{Place, here, Since};
+    ghost use Rattle.spin_once.specs.Accounts.{Has, Shows, here, seed_of};
 
     /// Returns the value, for as long as the cell is borrowed. The party keeps reading it.
     pub(crate) fn read(self) -> (&'a T, Account<'a, T, S>)
-        ensures made { S.makes self.entry.account.party.key.seed.value result.0.now }
-        ensures since { (p : Place T S) (c : Call) → Since p (IsCall c (Value tt)) (here self.entry.account) → Since p (IsCall c (Value tt)) (here result.1) × IsValue p.0.opening result.1.seen.entries result.0.now }
+        ensures made { S.makes (seed_of self.entry.account) result.0.now }
+        ensures same { here result.1 ≡ here self.entry.account }
+        ensures shows { Shows self.entry.account result.0.now }
+        ensures has { Has (here result.1) result.0.now }
         ensures out { has_begun (what result.1.party.view) ≡ false }
     {
         let Self { account } = self;
@@ -59,19 +62,11 @@ impl<'a, T, S: Seed<T>> Found<'a, T, S> {
         };
         (known(value), Account { party, seen })
     }
-
-    /// Returns the value to a caller that keeps no record of its calls.
-    pub(crate) fn value(self) -> &'a T
-        ensures { S.makes self.entry.account.party.key.seed.value result.now }
-    {
-        let (value, account) = self.read();
-        account.close();
-        value
-    }
 }
 
 impl<'a, T, S: Seed<T>> Account<'a, T, S> {
-    ghost use Rattle.spin_once.specs.Accounts.{Place, here, Since, Entered, Comes, Under, FindsSeed, GetsOrNone, ComesIn, Claims, MayRun};
+    ghost use Rattle.spin_once.specs.Accounts.{Place, here, Answered, Entered, Comes, Under, FindsSeed, GetsOrNone, ComesIn, Claims, MayRun};
+    ghost use Rattle.spin_once.specs.Passes.{After, AreOfOne};
 
     /// Ends the account of a party that is in no call.
     pub(crate) fn close(self)
@@ -87,6 +82,18 @@ impl<'a, T, S: Seed<T>> Account<'a, T, S> {
         ensures { IsPrefix self.now.seen.entries other.now.seen.entries ⊎ IsPrefix other.now.seen.entries self.now.seen.entries }
     {
         self.seen.compare(&other.seen);
+    }
+
+    /// Returns the account of a party that also knows what another one knows.
+    pub(crate) fn after(self, earlier: &Account<'_, T, S>) -> Self
+        requires { AreOfOne (here self) (here earlier.now) }
+        ensures { After (here earlier.now) (here self.entry) (here result) }
+    {
+        let Self { party, seen } = self;
+        Account {
+            party,
+            seen: seen.later(&earlier.seen),
+        }
     }
 
     // Makes the step of the call at `point`, or begins the call there. The step is not the one that ends a closure.
@@ -150,8 +157,7 @@ impl<'a, T, S: Seed<T>> Account<'a, T, S> {
     fn answer(self, call: OnceCall<()>, next: Next<OncePoint, Answer<()>>) -> (Option<&'a T>, Self)
         requires view { what self.party.view ≡ Some (view_of call next) }
         requires told { IsTold next }
-        ensures tells { (p : Place T S) → Comes call next p (here self.entry) → GetsOrNone call p result }
-        ensures makes { IfSome result.0 (λ value. S.makes self.entry.party.key.seed.value value.now) }
+        ensures { (p : Place T S) → Comes call next p (here self.entry) → GetsOrNone call p result }
     {
         let _ = call;
         if is_value(next) {
@@ -165,8 +171,7 @@ impl<'a, T, S: Seed<T>> Account<'a, T, S> {
     /// Finds the value, or none, by one load.
     pub(crate) fn get(self) -> (Option<&'a T>, Self)
         requires { has_begun (what self.party.view) ≡ false }
-        ensures tells { GetsOrNone Get (here self.entry) result }
-        ensures makes { IfSome result.0 (λ value. S.makes self.entry.party.key.seed.value value.now) }
+        ensures { GetsOrNone Get (here self.entry) result }
     {
         let (next, account) = self.step(OnceCall::Get, OncePoint::Look);
         account.answer(OnceCall::Get, next)
@@ -175,7 +180,7 @@ impl<'a, T, S: Seed<T>> Account<'a, T, S> {
     /// Returns whether one load finds a value.
     pub(crate) fn is_completed(self) -> (bool, Account<'a, T, S>)
         requires { has_begun (what self.party.view) ≡ false }
-        ensures made { Since (here self.entry) (IsCall IsCompleted (Is result.0)) (here result.1) }
+        ensures made { Answered IsCompleted (Is result.0) (here self.entry) (here result.1) }
         ensures out { has_begun (what result.1.party.view) ≡ false }
     {
         let (next, account) = self.step(OnceCall::IsCompleted, OncePoint::Look);
@@ -220,7 +225,7 @@ impl<'a, T, S: Seed<T>> Account<'a, T, S> {
     /// Spins until there is a value.
     pub(crate) fn wait<R: RelaxStrategy, W: Wait>(self, rt: &W) -> Found<'a, T, S>
         requires { has_begun (what self.party.view) ≡ false }
-        ensures { Since (here self.entry) (IsCall WaitCall (Value tt)) (here result.account) }
+        ensures { Answered WaitCall (Value tt) (here self.entry) (here result.account) }
     {
         let (next, account) = self.step(OnceCall::Wait, OncePoint::Look);
         match next {

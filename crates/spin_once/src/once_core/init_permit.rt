@@ -24,7 +24,7 @@ pub(crate) struct InitPermit<'a, T, S: Seed<T>> {
 }
 
 impl<'a, T, S: Seed<T>> InitPermit<'a, T, S> {
-    ghost use Rattle.spin_once.specs.Accounts.{Place, here, HasSeed, Entered, Since};
+    ghost use Rattle.spin_once.specs.Accounts.{Place, here, HasSeed, Entered, Shows, Since};
 
     /// Takes the seed out.
     pub(crate) fn take(self) -> (Self, S)
@@ -52,7 +52,8 @@ impl<'a, T, S: Seed<T>> InitPermit<'a, T, S> {
     /// Stores the value, which all parties may read from then on. A seed that was not taken out is not dropped.
     pub(crate) fn complete(self, value: T) -> Found<'a, T, S>
         requires { S.makes self.account.party.key.seed.value value }
-        ensures { (c : Call) (p : Place T S) → what self.entry.account.party.view ≡ Some (in_call c Run) → Entered c p (here self.entry.account) → Since p (IsCall c (Value tt)) (here result.account) }
+        ensures shows { Shows result.account value }
+        ensures since { (c : Call) (p : Place T S) → what self.entry.account.party.view ≡ Some (in_call c Run) → Entered c p (here self.entry.account) → Since p (IsCall c (Value tt)) (here result.account) }
     {
         let Self { account } = self;
         let Account { party, seen } = account;

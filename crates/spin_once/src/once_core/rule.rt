@@ -1,8 +1,6 @@
 //! The rule of a [`OnceCore`](super::OnceCore): what the word says of all parties, and what a step tells.
-ghost use Rattle.std.specs.Prelude.{◌≡◌, true};
 ghost use Rattle.spin_core.specs.Own.{what};
 ghost use Rattle.spin_once.specs.Once.{Told, turn_by, fails_by};
-ghost use Rattle.spin_once.specs.declared.once_core.rule.Stage.TheVariants.{Done, Seed as InSeed};
 
 use spin_core::cell::stable::{MaybeStable, Stabilizes, Stable};
 use spin_core::cell::{Cell, Permit, Play, Rule, WritePermit};
@@ -114,36 +112,4 @@ pub(super) struct Fail;
 
 impl<T, S> Play<Key<T, S>, Party, Entry<T>> for Fail {
     ghost told = { λ key old new before. Told key.opening fails_by before };
-}
-
-/// Creates a cell with a seed, which no party has used.
-pub(super) fn with_seed<T, S: Seed<T>>(seed: S) -> SeedCell<T, S>
-    ensures seed { result.seed.value ≡ seed }
-    ensures opens { (result.opening.value ≡ InSeed seed) × (result.opening.told ≡ true) }
-{
-    let trace = Trace::new(());
-    let known = Snapshot::of(&seed);
-    let stage = Stage::Seed(seed);
-    let key = Key {
-        seed: known,
-        opening: Opening::of(&trace, &stage),
-    };
-    let slot = MaybeStable { value: stage };
-    Cell::new(slot, NOTHING, trace, &key)
-}
-
-/// Creates a cell with a value, as if a party had read it.
-pub(super) fn completed<T, S: Seed<T>>(value: T, seed: &S) -> SeedCell<T, S>
-    requires { S.makes seed.now value }
-    ensures seed { result.seed.value ≡ seed.now }
-    ensures opens { (result.opening.value ≡ Done value) × (result.opening.told ≡ true) }
-{
-    let trace = Trace::new(());
-    let stage = Stage::Done(value);
-    let key = Key {
-        seed: Snapshot::of(seed),
-        opening: Opening::of(&trace, &stage),
-    };
-    let slot = MaybeStable { value: stage };
-    Cell::new(slot, COMPLETE, trace, &key)
 }

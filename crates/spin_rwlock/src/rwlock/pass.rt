@@ -7,19 +7,18 @@ ghost use Rattle.spin_core.specs.Values.{IsLast};
 ghost use Rattle.spin_step.specs.declared.answer.Answer.TheVariants.{Granted, Refused, Count, Done};
 ghost use Rattle.spin_step_more.specs.Readers.{reader_limit};
 ghost use Rattle.spin_step_more.specs.declared.rw_calls.RwCall.TheVariants.{TryRead, Read, TryUpgradeableRead, UpgradeableRead, TryWrite, Write, ReaderCount, WriterCount, Release};
-ghost use Rattle.spin_session.specs.Turns.{IsNew, Stands, history, lock_of, spot};
-ghost use Rattle.spin_rwlock.specs.Guards.{RwSpot, shared_value, shared_opening, shared_spot, ReadsWith, WritesWith};
+ghost use Rattle.spin_session.specs.Turns.{Stands, spot};
+ghost use Rattle.spin_rwlock.specs.Guards.{shared_value};
 ghost use Rattle.spin_rwlock.specs.Rw.{call_of};
-ghost use Rattle.spin_rwlock.specs.RwPasses.{Calls, Grants, Lends, Leaves, opening, opening_of};
+ghost use Rattle.spin_rwlock.specs.RwPasses.{◌⨾◌, After, Calls, Grants, Holds, Lends, RwSpot, Unlocks, WroteSome, history, lock_of, new_in, opening, opening_of, shared_spot};
 
 use super::RwLock;
-use super::reader::{Lent, RwLockReadGuard, SharedGuard, release};
-use super::rule::{Entry, Kind, Party, Reader, RwRule, Upgrader, call_of};
+use super::reader::{RwLockReadGuard, SharedGuard};
+use super::rule::{Entry, Kind, Party, Reader, RwRule, RwSession, Upgrader, call_of};
 use super::upgradable::RwLockUpgradableGuard;
 use super::writer::RwLockWriteGuard;
 use spin_core::relax::{RelaxStrategy, Strategy};
-use spin_core::trace::Watch;
-use spin_session::calls::{ask, attempt, finish, try_for, wait_for};
+use spin_session::calls::{after, ask, attempt, begin, enter, finish, go_on, try_for};
 use spin_session::session::Session;
 use spin_step::{Answer, Hold};
 use spin_step_more::rw_calls::RwCall;
@@ -33,23 +32,23 @@ use std::sync::Wait;
 /// of others. A pass is as large as a reference to the lock. It can be sent, and a lock can have any number of passes.
 ///
 /// # Contract
-/// A call takes the pass, or a guard with what the pass knew when it acquired the guard. It returns the pass or a
-/// guard. The call ensures `Called`: in the history the pass's new moves are those of exactly one call, and this
+/// A call takes the pass, or a guard, which knows what its party knew when it acquired the lock. It returns the pass or
+/// a guard. The call ensures `Calls`: in the history the pass's new moves are those of exactly one call, and this
 /// call has the returned answer. (`with` and `with_shared` make two calls: one acquires the lock, the other releases
 /// it.) The lock's model plays the moves of all threads in the order of the history. It skips no move, and gives this
 /// call the same answer.
 ///
-/// Before a writer releases or downgrades, it records its value in the history (`Wrote`). So the value of a guard is
-/// the one written last in the history (`found`), until the owner borrows the value by `get_mut`.
+/// Before a writer releases or downgrades, it records its value in the history (`Unlocks`). So the value of a guard is
+/// the one written last in the history (`Lends`, `Grants`), until the owner borrows the value by `get_mut`.
 ///
 /// # Examples
 /// ```
 /// use spin::RwLock;
 ///
 /// let limit: RwLock<u64> = RwLock::new(3);
-/// let (reader, seen) = limit.pass().read(&rt);
+/// let reader = limit.pass().read(&rt);
 /// assert_eq!(rt; *reader, 3);
-/// let (count, pass) = RwLock::unlock_shared(reader, seen).reader_count();
+/// let (count, pass) = RwLock::unlock_shared(reader).reader_count();
 /// assert_eq!(rt; count, 0);
 /// drop(pass);
 /// ```
@@ -73,129 +72,100 @@ impl<T, R> RwLock<T, R> {
     /// # Contract
     /// The pass is of this lock, and knows nothing of its history yet (`new`).
     pub fn pass(&self) -> Pass<'_, T, R>
-        ensures new { IsNew (opening self.now) result }
+        ensures new { result ≡ new_in (opening self.now) }
     {
         Pass {
-            session: self.session(),
+            session: enter(&self.cell),
             strategy: PhantomData,
         }
     }
 
-    /// Releases the shared access of a reader of either kind, and returns the pass by which it was acquired.
+    /// Releases the shared access of a reader of either kind, and returns the pass of its party.
     ///
     /// A guard that is dropped releases the lock too, and ends its pass.
     ///
     /// # Contract
-    /// `seen` has to be what the pass knew when it got the guard (`ReadsWith`). The pass makes one call, `Release`
-    /// (`made`). The guard's value is still the one written last in the history (`still`).
-    pub fn unlock_shared<'a, K: Kind>(
-        guard: SharedGuard<'a, T, K, R>,
-        seen: Watch<Entry<T>>,
-    ) -> Pass<'a, T, R>
-        requires { ReadsWith guard seen }
-        ensures still { IfSome (shared_value guard.entry) (IsLast (shared_opening guard.entry) (history result)) }
-        ensures made { Calls Release Done (shared_spot guard.entry seen) result }
+    /// The release is the next call of the party that acquired the guard, with or without a pass (`made`). The guard's
+    /// value is still the one written last in the history (`still`).
+    pub fn unlock_shared<'a, K: Kind>(guard: SharedGuard<'a, T, K, R>) -> Pass<'a, T, R>
+        ensures still { IfSome (shared_value guard.entry) (IsLast (opening_of result) (history result)) }
+        ensures made { Calls Release Done (shared_spot guard.entry) result }
     {
         Pass {
-            session: release::<T, K>(guard.knowing(seen)),
+            session: guard.release(),
             strategy: PhantomData,
         }
     }
 
-    /// Releases the exclusive access of the writer, and returns the pass by which it was acquired.
+    /// Releases the exclusive access of the writer, and returns the pass of its party.
     ///
     /// A guard that is dropped releases the lock too, and ends its pass.
     ///
     /// # Contract
-    /// `seen` has to be what the pass knew when it got the guard (`WritesWith`). The pass writes the guard's value into
-    /// the history, and then makes one call, `Release`. So that value is the one written last (`Leaves`).
-    pub fn unlock<'a>(guard: RwLockWriteGuard<'a, T, R>, seen: Watch<Entry<T>>) -> Pass<'a, T, R>
-        requires { WritesWith guard seen }
-        ensures { Leaves Release guard.entry seen result }
+    /// The guard has to be one that a call of this lock returned (`Holds`), with or without a pass. The release is the
+    /// next call of its party. Just before the release the party writes the guard's value into the history, so this
+    /// value is the one written last (`Unlocks`).
+    #[tactic(auto, using(crate::proofs::RwCalls::may_release))]
+    pub fn unlock<'a>(guard: RwLockWriteGuard<'a, T, R>) -> Pass<'a, T, R>
+        requires { Holds guard }
+        ensures { Unlocks Release guard.entry result }
     {
         Pass {
-            session: guard.release(seen),
+            session: guard.leave(RwCall::Release, None),
             strategy: PhantomData,
         }
     }
 }
 
 impl<'a, T, R: RelaxStrategy> Pass<'a, T, R> {
-    /// Acquires shared access as [`RwLock::read`] does. Returns the guard, and what the pass then knows.
+    /// Acquires shared access as [`RwLock::read`] does.
     ///
     /// # Contract
-    /// The call is one `Read` with the answer `Granted`, however often it looked and tried (`made`). The guard's value
-    /// is the one written last in the history (`found`). Whether and when the call returns is not promised.
-    pub fn read<W: Wait>(self, rt: &W) -> (RwLockReadGuard<'a, T, R>, Watch<Entry<T>>)
-        ensures { Lends Read Granted self.entry result.0 result.1 }
+    /// The call is one `Read` with the answer `Granted`, however often it looked and tried. The guard's value is the
+    /// one written last in the history (`Lends`). Whether and when the call returns is not promised.
+    #[inline(always)]
+    pub fn read<W: Wait>(self, rt: &W) -> RwLockReadGuard<'a, T, R>
+        ensures { Lends Read Granted self.entry result }
     {
-        self.lend::<Reader, _>(rt)
+        lend(self.into_session(), rt)
     }
 
-    /// Acquires upgradable shared access as [`RwLock::upgradeable_read`] does. Returns the guard, and what the pass
-    /// then knows.
+    /// Acquires upgradable shared access as [`RwLock::upgradeable_read`] does.
     ///
     /// # Contract
-    /// The call is one `UpgradeableRead` with the answer `Granted`, however often it looked and tried (`made`). The
-    /// guard's value is the one written last in the history. Whether and when the call returns is not
-    /// promised.
-    pub fn upgradeable_read<W: Wait>(
-        self,
-        rt: &W,
-    ) -> (RwLockUpgradableGuard<'a, T, R>, Watch<Entry<T>>)
-        ensures { Lends UpgradeableRead Granted self.entry result.0 result.1 }
+    /// The call is one `UpgradeableRead` with the answer `Granted`, however often it looked and tried. The guard's
+    /// value is the one written last in the history (`Lends`). Whether and when the call returns is not promised.
+    #[inline(always)]
+    pub fn upgradeable_read<W: Wait>(self, rt: &W) -> RwLockUpgradableGuard<'a, T, R>
+        ensures { Lends UpgradeableRead Granted self.entry result }
     {
-        self.lend::<Upgrader, _>(rt)
+        lend(self.into_session(), rt)
     }
 
-    /// Acquires exclusive access as [`RwLock::write`] does. Returns the guard, and what the pass then knows.
+    /// Acquires exclusive access as [`RwLock::write`] does.
     ///
     /// # Contract
-    /// The call is one `Write` with the answer `Granted`, however often it tried (`made`). The guard's value is the one
-    /// written last in the history (`found`). Whether and when the call returns is not promised.
+    /// The call is one `Write` with the answer `Granted`, however often it tried. The guard's value is the one written
+    /// last in the history (`Grants`). Whether and when the call returns is not promised.
     ///
     /// # Examples
     /// ```
     /// use spin::RwLock;
     ///
     /// let limit: RwLock<u64> = RwLock::new(3);
-    /// let (mut writer, seen) = limit.pass().write(&rt);
+    /// let mut writer = limit.pass().write(&rt);
     /// *writer = 4;
-    /// let (reader, seen) = writer.downgrade_seen(seen);
+    /// let reader = writer.downgrade();
     /// assert_eq!(rt; *reader, 4);
-    /// let (count, pass) = RwLock::unlock_shared(reader, seen).writer_count();
+    /// let (count, pass) = RwLock::unlock_shared(reader).writer_count();
     /// assert_eq!(rt; count, 0);
     /// drop(pass);
     /// ```
-    pub fn write<W: Wait>(self, rt: &W) -> (RwLockWriteGuard<'a, T, R>, Watch<Entry<T>>)
-        ensures { Grants Write self.entry result.0 result.1 }
+    pub fn write<W: Wait>(self, rt: &W) -> RwLockWriteGuard<'a, T, R>
+        ensures { Grants Write self.entry result }
     {
-        let Self {
-            session,
-            strategy: _,
-        } = self;
-        let by = Strategy::<R>::named();
-        let (call, after) = (RwCall::Write, Some(Hold::Write));
-        let session = wait_for(session, call, None, Answer::Granted, after, by, rt);
-        RwLockWriteGuard::written(session)
+        grant(self.into_session(), rt)
     }
-
-    // Waits until the lock admits a reader of this kind.
-    fn lend<K: Kind, W: Wait>(self, rt: &W) -> Lent<'a, T, K, R>
-        ensures { Lends (call_of K.hold true) Granted self.entry result.0 result.1 }
-    {
-        let Self {
-            session,
-            strategy: _,
-        } = self;
-        let by = Strategy::<R>::named();
-        let (call, after) = (call_of(K::hold(), true), Some(K::hold()));
-        SharedGuard::lent(wait_for(session, call, None, Answer::Granted, after, by, rt))
-    }
-}
-
-impl<'a, T, R: RelaxStrategy> Pass<'a, T, R> {
-    ghost use Rattle.spin_rwlock.specs.RwPasses.{ReadOnce, WroteOnce};
 
     /// Acquires exclusive access, calls the closure with the value, and releases the access, as the lock's own
     /// [`with`](spin_core::lock::Lock::with) does.
@@ -218,11 +188,11 @@ impl<'a, T, R: RelaxStrategy> Pass<'a, T, R> {
     pub fn with<A, F: FnOnce(&mut T) -> A, W: Wait>(self, rt: &W, by: F) -> (A, Pass<'a, T, R>)
         requires { F.IsAlwaysCallable by }
         ensures answers { AnswersOf F.FnOnce by result.0 }
-        ensures made { WroteOnce self.entry result.1 }
+        ensures made { (Calls Write Granted ⨾ WroteSome Release) self.entry result.1 }
     {
-        let (mut guard, seen) = self.write(rt);
+        let mut guard = self.write(rt);
         let answer = by(&mut *guard);
-        (answer, RwLock::unlock(guard, seen))
+        (answer, RwLock::unlock(guard))
     }
 
     /// Acquires shared access, calls the closure with the value, and releases the access, as the lock's own
@@ -234,26 +204,33 @@ impl<'a, T, R: RelaxStrategy> Pass<'a, T, R> {
     pub fn with_shared<A, F: FnOnce(&T) -> A, W: Wait>(self, rt: &W, by: F) -> (A, Pass<'a, T, R>)
         requires { F.IsAlwaysCallable by }
         ensures answers { AnswersOfShared F.FnOnce by result.0 }
-        ensures made { ReadOnce self.entry result.1 }
+        ensures made { (Calls Read Granted ⨾ Calls Release Done) self.entry result.1 }
     {
-        let (guard, seen) = self.read(rt);
+        let guard = self.read(rt);
         let answer = by(&*guard);
-        (answer, RwLock::unlock_shared(guard, seen))
+        (answer, RwLock::unlock_shared(guard))
     }
 }
 
 impl<'a, T, R> Pass<'a, T, R> {
+    fn into_session(self) -> RwSession<'a, T>
+        ensures { (spot result ≡ self.entry) × Stands None result }
+    {
+        let Self {
+            session,
+            strategy: _,
+        } = self;
+        session
+    }
+
     /// Tries to acquire shared access as [`RwLock::try_read`] does. A failure returns the pass.
     ///
     /// # Contract
     /// The call is one `TryRead`, with the answer `Granted` and a guard (`granted`), or else `Refused` (`refused`). The
     /// guard's value is the one written last in the history. Whether and when the call returns is not
     /// promised.
-    pub fn try_read<W: Wait>(
-        self,
-        rt: &W,
-    ) -> Result<(RwLockReadGuard<'a, T, R>, Watch<Entry<T>>), Pass<'a, T, R>>
-        ensures granted { IfOk result (λ lent. Lends TryRead Granted self.entry lent.0 lent.1) }
+    pub fn try_read<W: Wait>(self, rt: &W) -> Result<RwLockReadGuard<'a, T, R>, Pass<'a, T, R>>
+        ensures granted { IfOk result (Lends TryRead Granted self.entry) }
         ensures refused { IfErr result (λ pass. Calls TryRead Refused self.entry pass) }
     {
         self.try_lend::<Reader, _>(rt)
@@ -268,8 +245,8 @@ impl<'a, T, R> Pass<'a, T, R> {
     pub fn try_upgradeable_read<W: Wait>(
         self,
         rt: &W,
-    ) -> Result<(RwLockUpgradableGuard<'a, T, R>, Watch<Entry<T>>), Pass<'a, T, R>>
-        ensures granted { IfOk result (λ lent. Lends TryUpgradeableRead Granted self.entry lent.0 lent.1) }
+    ) -> Result<RwLockUpgradableGuard<'a, T, R>, Pass<'a, T, R>>
+        ensures granted { IfOk result (Lends TryUpgradeableRead Granted self.entry) }
         ensures refused { IfErr result (λ pass. Calls TryUpgradeableRead Refused self.entry pass) }
     {
         self.try_lend::<Upgrader, _>(rt)
@@ -292,8 +269,8 @@ impl<'a, T, R> Pass<'a, T, R> {
     /// drop(reader);
     /// assert!(rt; pass.try_write().is_ok());
     /// ```
-    pub fn try_write(self) -> Result<(RwLockWriteGuard<'a, T, R>, Watch<Entry<T>>), Pass<'a, T, R>>
-        ensures granted { IfOk result (λ held. Grants TryWrite self.entry held.0 held.1) }
+    pub fn try_write(self) -> Result<RwLockWriteGuard<'a, T, R>, Pass<'a, T, R>>
+        ensures granted { IfOk result (Grants TryWrite self.entry) }
         ensures refused { IfErr result (λ pass. Calls TryWrite Refused self.entry pass) }
     {
         let Self { session, strategy } = self;
@@ -304,8 +281,8 @@ impl<'a, T, R> Pass<'a, T, R> {
     }
 
     // Tries to come as a reader of this kind.
-    fn try_lend<K: Kind, W: Wait>(self, rt: &W) -> Result<Lent<'a, T, K, R>, Pass<'a, T, R>>
-        ensures granted { IfOk result (λ lent. Lends (call_of K.hold false) Granted self.entry lent.0 lent.1) }
+    fn try_lend<K: Kind, W: Wait>(self, rt: &W) -> Result<SharedGuard<'a, T, K, R>, Pass<'a, T, R>>
+        ensures granted { IfOk result (Lends (call_of K.hold false) Granted self.entry) }
         ensures refused { IfErr result (λ pass. Calls (call_of K.hold false) Refused self.entry pass) }
     {
         let Self { session, strategy } = self;
@@ -352,16 +329,85 @@ impl<'a, T, R> Pass<'a, T, R> {
         }
     }
 
+    /// Returns this pass, which then also knows what the other pass knows. It does nothing when it runs.
+    ///
+    /// So the next call of this pass comes after the calls of the other that are known by now.
+    ///
+    /// # Contract
+    /// The history that the returned pass knows is the longer of the two, of which the other is a prefix (`After`).
+    ///
+    /// # Examples
+    /// ```
+    /// use spin::RwLock;
+    ///
+    /// let limit: RwLock<u64> = RwLock::new(3);
+    /// let mut guard = limit.write(&rt);
+    /// *guard = 4;
+    /// let writer = RwLock::unlock(guard);
+    /// let reader = limit.pass().after(&writer);
+    /// assert_eq!(rt; *reader.read(&rt), 4);
+    /// drop(writer);
+    /// ```
+    pub fn after(self, earlier: &Pass<'_, T, R>) -> Pass<'a, T, R>
+        requires { lock_of self ≡ lock_of earlier.now }
+        ensures { After earlier.now self.entry result }
+    {
+        let Self { session, strategy } = self;
+        Pass {
+            session: after(session, &earlier.session),
+            strategy,
+        }
+    }
+
     /// Compares what two passes of one lock know. It does nothing when it runs.
     ///
     /// # Contract
     /// The history that one of the passes knows is a prefix of the history that the other knows. The longer of the two
-    /// histories has the calls of both passes, each once, in the order in which each pass made them.
+    /// histories has the calls of both passes, in the order in which each pass made them.
     pub fn compare(&self, other: &Pass<'_, T, R>)
         requires { lock_of self.now ≡ lock_of other.now }
         ensures { IsPrefix (history self.now) (history other.now) ⊎ IsPrefix (history other.now) (history self.now) }
     {
         self.session.seen.compare(&other.session.seen);
+    }
+}
+
+// Waits until the lock admits a reader of this kind.
+#[inline(always)]
+pub(super) fn lend<'a, T, K: Kind, R: RelaxStrategy, W: Wait>(
+    session: RwSession<'a, T>,
+    rt: &W,
+) -> SharedGuard<'a, T, K, R>
+    requires { Stands None session }
+    ensures { Lends (call_of K.hold true) Granted (spot session.entry) result }
+{
+    let (call, after) = (call_of(K::hold(), true), Some(K::hold()));
+    match begin(session, call, None, Answer::Granted, after) {
+        Ok(session) => SharedGuard::lent(session),
+        Err(on) => {
+            let by = Strategy::<R>::named();
+            SharedGuard::lent(go_on(on, call, None, Answer::Granted, after, by, rt))
+        }
+    }
+}
+
+// Waits until the lock admits a writer.
+#[tactic(auto, using(crate::proofs::RwCalls::writes_only))]
+#[inline(always)]
+pub(super) fn grant<'a, T, R: RelaxStrategy, W: Wait>(
+    session: RwSession<'a, T>,
+    rt: &W,
+) -> RwLockWriteGuard<'a, T, R>
+    requires { Stands None session }
+    ensures { Grants Write (spot session.entry) result }
+{
+    let (call, after) = (RwCall::Write, Some(Hold::Write));
+    match begin(session, call, None, Answer::Granted, after) {
+        Ok(session) => RwLockWriteGuard::written(session),
+        Err(on) => {
+            let by = Strategy::<R>::named();
+            RwLockWriteGuard::written(go_on(on, call, None, Answer::Granted, after, by, rt))
+        }
     }
 }
 
@@ -371,6 +417,6 @@ impl<T, R> Drop for Pass<'_, T, R> {
             session,
             strategy: _,
         } = self;
-        finish(session);
+        let _left = finish(session);
     }
 }

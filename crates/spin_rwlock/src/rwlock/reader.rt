@@ -2,24 +2,22 @@
 ghost use Rattle.std.specs.Prelude.{◌≡◌, Some, None};
 ghost use Rattle.std.specs.Option.{IfSome};
 ghost use Rattle.spin_core.specs.Values.{IsLast};
+ghost use Rattle.spin_step.specs.declared.answer.Answer.{Answer as AnAnswer};
 ghost use Rattle.spin_step.specs.declared.answer.Answer.TheVariants.{Done};
 ghost use Rattle.spin_step.specs.declared.place.Hold.TheVariants.{Read as Reads};
+ghost use Rattle.spin_step_more.specs.declared.rw_calls.RwCall.{RwCall as ACall};
 ghost use Rattle.spin_step_more.specs.declared.rw_calls.RwCall.TheVariants.{Release};
-ghost use Rattle.spin_session.specs.Turns.{Calls, Stands, spot};
+ghost use Rattle.spin_session.specs.Turns.{Calls, SeesLast, Stands, spot};
 ghost use Rattle.spin_rwlock.specs.Rw.{IsLent, rw_tables};
 
 use super::rule::{Entry, Kind, Party, Reader, RwRule, RwSession};
 use spin_core::relax::Spin;
-use spin_core::trace::Watch;
 use spin_session::calls::{finish, make};
 use spin_session::session::Session;
 use spin_step::Answer;
 use spin_step_more::rw_calls::RwCall;
 use std::marker::PhantomData;
 use std::ops::Deref;
-
-/// A reader's guard, and what its party knows of the lock's history.
-pub(super) type Lent<'a, T, K, R> = (SharedGuard<'a, T, K, R>, Watch<Entry<T>>);
 
 /// The guard of a reader of kind `K`. Dropping it releases the shared access.
 ///
@@ -56,20 +54,19 @@ pub struct ReadHeld<'a, T, R = Spin> {
 }
 
 impl<'a, T, K: Kind, R> SharedGuard<'a, T, K, R> {
-    ghost use Rattle.spin_rwlock.specs.Guards.{shared_value, shared_spot, ReadsWith};
+    ghost use Rattle.spin_rwlock.specs.Guards.{RwSpot, shared_value, shared_spot};
+    ghost use Rattle.spin_rwlock.specs.RwPasses.{Lends};
 
-    // Returns the guard of this party, and what it knows.
-    pub(super) fn lent(session: RwSession<'a, T>) -> Lent<'a, T, K, R>
+    // Returns the guard of this party. A call by which the party came here has lent it.
+    pub(super) fn lent(session: RwSession<'a, T>) -> Self
         requires { IsLent K.hold session }
-        ensures same { (result.0.session.permit ≡ session.entry.permit) × (result.0.session.seen ≡ session.entry.seen) }
-        ensures seen { (result.1.name ≡ session.entry.seen.name) × (result.1.entries ≡ session.entry.seen.entries) }
+        ensures same { result.session ≡ session.entry }
+        ensures lends { SeesLast session.entry → (call : ACall) (answer : AnAnswer (Unit {0})) (before : RwSpot T) → Calls rw_tables call answer before (spot session.entry) → Lends call answer before result }
     {
-        let seen = session.seen.copy();
-        let guard = SharedGuard {
+        SharedGuard {
             session,
             marker: PhantomData,
-        };
-        (guard, seen)
+        }
     }
 
     /// Consumes the guard and returns a reference to the value.
@@ -104,38 +101,26 @@ impl<'a, T, K: Kind, R> SharedGuard<'a, T, K, R> {
         session
     }
 
-    // Returns the party, which knows this of the history.
-    pub(super) fn knowing(self, seen: Watch<Entry<T>>) -> RwSession<'a, T>
-        requires { ReadsWith self seen }
-        ensures same { spot result ≡ shared_spot self.entry seen }
-        ensures value { result.permit.value ≡ shared_value self.entry }
-        ensures lent { IsLent K.hold result }
+    // Releases the shared access. The party is then in no call, and holds nothing.
+    #[tactic(auto, using(crate::proofs::RwCalls::leaves, crate::proofs::RwCalls::may_leave))]
+    pub(super) fn release(self) -> RwSession<'a, T>
+        ensures stands { Stands None result }
+        ensures made { Calls rw_tables Release Done (shared_spot self.entry) (spot result) }
+        ensures still { IfSome (shared_value self.entry) (IsLast result.permit.key result.seen.entries) }
     {
-        let Session { permit, seen: _ } = self.into_session();
-        Session { permit, seen }
+        let (call, held) = (RwCall::Release, Some(K::hold()));
+        make(self.into_session(), call, held, Answer::Done, None)
     }
 }
 
-// Releases the shared access of this party. It is then in no call, and holds nothing.
-#[tactic(auto, using(crate::proofs::RwCalls::leaves, crate::proofs::RwCalls::may_leave))]
-pub(super) fn release<'a, T, K: Kind>(session: RwSession<'a, T>) -> RwSession<'a, T>
-    requires { IsLent K.hold session }
-    ensures stands { Stands None result }
-    ensures made { Calls rw_tables Release Done (spot session.entry) (spot result) }
-    ensures still { IfSome session.entry.permit.value (IsLast result.permit.key result.seen.entries) }
-{
-    let (call, held) = (RwCall::Release, Some(K::hold()));
-    make(session, call, held, Answer::Done, None)
-}
-
 impl<'a, T, R> SharedGuard<'a, T, Reader, R> {
-    ghost use Rattle.spin_rwlock.specs.Guards.{shared_value, read_held_value, shared_party, read_held_party};
+    ghost use Rattle.spin_rwlock.specs.Guards.{shared_value, read_held_value, shared_spot, read_held_spot};
 
     /// Consumes the guard and keeps the shared access.
     ///
     /// # Contract
-    /// `read_held_value` of the hold is the value of the guard. The hold has the guard's party (`party`). The call
-    /// returns.
+    /// `read_held_value` of the hold is the value of the guard. The hold has the guard's party, and knows what the
+    /// guard knows (`party`). The call returns.
     ///
     /// # Examples
     /// ```
@@ -149,7 +134,7 @@ impl<'a, T, R> SharedGuard<'a, T, Reader, R> {
     /// ```
     pub fn hold(this: Self) -> ReadHeld<'a, T, R>
         ensures value { read_held_value result ≡ shared_value this.entry }
-        ensures party { (read_held_party result ≡ shared_party this.entry) × (result.session.permit.key ≡ this.entry.session.permit.key) }
+        ensures party { read_held_spot result ≡ shared_spot this.entry }
     {
         ReadHeld {
             session: this.into_session(),
@@ -159,7 +144,7 @@ impl<'a, T, R> SharedGuard<'a, T, Reader, R> {
 }
 
 impl<'a, T, R> ReadHeld<'a, T, R> {
-    ghost use Rattle.spin_rwlock.specs.Guards.{shared_value, read_held_value, shared_party, read_held_party};
+    ghost use Rattle.spin_rwlock.specs.Guards.{shared_value, read_held_value, shared_spot, read_held_spot};
 
     /// Turns the hold into a guard again.
     ///
@@ -169,16 +154,13 @@ impl<'a, T, R> ReadHeld<'a, T, R> {
     /// The guard has the hold's value and its party (`value`, `party`). The call returns.
     pub fn into_guard(self) -> RwLockReadGuard<'a, T, R>
         ensures value { shared_value result ≡ read_held_value self.entry }
-        ensures party { (shared_party result ≡ read_held_party self.entry) × (result.session.permit.key ≡ self.entry.session.permit.key) }
+        ensures party { shared_spot result ≡ read_held_spot self.entry }
     {
         let Self {
             session,
             strategy: _,
         } = self;
-        SharedGuard {
-            session,
-            marker: PhantomData,
-        }
+        SharedGuard::lent(session)
     }
 }
 
@@ -198,7 +180,7 @@ impl<T, K: Kind, R> Deref for SharedGuard<'_, T, K, R> {
 
 impl<T, K: Kind, R> Drop for SharedGuard<'_, T, K, R> {
     fn drop(self) {
-        finish(release::<T, K>(self.into_session()));
+        let _left = finish(self.release());
     }
 }
 

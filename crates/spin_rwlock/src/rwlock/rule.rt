@@ -70,8 +70,9 @@ impl<T> Runs<T> for RwRule<T> {
         }
     }
 
-    // A reader that the word found keeps out gives one hint before it looks again. A reader that loses a second exchange
-    // in a round stands back, since readers that try again at once keep each other from succeeding. A writer backs off.
+    // A reader that the word found keeps out gives one hint before it looks again. A reader that loses a second
+    // exchange in a round stands back, since readers that try again at once keep each other from succeeding. A writer
+    // backs off.
     fn hints(
         call: RwCall,
         from: RwPoint,
@@ -90,8 +91,8 @@ impl<T> Runs<T> for RwRule<T> {
         }
     }
 
-    // A call that acquires shared access expects a free lock, and makes its exchange at once. This saves a load, since a
-    // failed exchange returns the word too.
+    // A call that acquires shared access expects a free lock, and makes its exchange at once. This saves a load, since
+    // a failed exchange returns the word too.
     fn ahead(call: RwCall, holds: Option<Hold>) -> Option<Ahead<RwPoint>> {
         let _ = holds;
         let new = match call {

@@ -5,10 +5,10 @@ ghost use Rattle.std.specs.Fmt.{DisplaysOnOk};
 ghost use Rattle.spin_rwlock.specs.Guards.{shared_value, write_value};
 ghost use Rattle.spin_rwlock.specs.Texts.{rw_text, lent_text};
 
-use super::reader::{RwLockReadGuard, SharedGuard};
+use super::RwLock;
+use super::reader::SharedGuard;
 use super::rule::Kind;
 use super::writer::RwLockWriteGuard;
-use super::{RwLock, peek};
 use spin_core::texts::write_named;
 use std::fmt;
 use std::fmt::{Debug, Display, Formatter};
@@ -19,7 +19,7 @@ impl<T: Debug, R> Debug for RwLock<T, R> {
     fn fmt<W: fmt::Write>(&self, f: &mut Formatter<W>) -> fmt::Result
         ensures { (found : Option T) × DisplaysOnOk W.write_str_gives f.old result (rw_text T.debug_output found) f.new }
     {
-        let guard: Option<RwLockReadGuard<T, R>> = peek(self);
+        let guard = self.try_read_weak();
         let value = guard.as_ref().map(|guard| &**guard);
         write_named("RwLock { data: ", "RwLock { <locked> }", value, f)
     }

@@ -1,21 +1,14 @@
 //! The guard of the upgradable reader, and what it can do besides reading. Begin at `upgrade`.
 ghost use Rattle.std.specs.Prelude.{◌≡◌, Some, IfOk, IfErr};
-ghost use Rattle.spin_core.specs.declared.trace.Watch.{Watch as AWatch};
-ghost use Rattle.spin_step.specs.declared.answer.Answer.TheVariants.{Granted, Refused, Done};
-ghost use Rattle.spin_step.specs.declared.place.Hold.TheVariants.{Read as Reads, Upgradable, Write};
-ghost use Rattle.spin_step.specs.declared.place.Seat.TheVariants.{Holding};
+ghost use Rattle.spin_step.specs.declared.answer.Answer.TheVariants.{Refused, Done};
 ghost use Rattle.spin_step_more.specs.declared.rw_calls.RwCall.TheVariants.{TryUpgrade, Upgrade, Downgrade};
-ghost use Rattle.spin_session.specs.Turns.{Stands, spot};
-ghost use Rattle.spin_rwlock.specs.Guards.{write_value, shared_spot, own_spot, write_spot, ReadsWith, ReadsLast};
-ghost use Rattle.spin_rwlock.specs.Rw.{Done as Entries, IsLent};
-ghost use Rattle.spin_rwlock.specs.RwPasses.{Calls, Grants, Lends};
+ghost use Rattle.spin_rwlock.specs.RwPasses.{Grants, Lends};
 
-use super::reader::{Lent, RwLockReadGuard, SharedGuard};
-use super::rule::{Entry, Reader, RwRule, RwSession, Upgrader};
+use super::reader::{RwLockReadGuard, SharedGuard};
+use super::rule::Upgrader;
 use super::writer::RwLockWriteGuard;
 use spin_core::relax::{RelaxStrategy, Spin, Strategy};
-use spin_core::trace::Watch;
-use spin_session::calls::{attempt, make, wait_for, writer};
+use spin_session::calls::{attempt, make, wait_for};
 use spin_step::{Answer, Hold};
 use spin_step_more::rw_calls::RwCall;
 use std::sync::Wait;
@@ -29,7 +22,7 @@ use std::sync::Wait;
 pub type RwLockUpgradableGuard<'a, T, R = Spin> = SharedGuard<'a, T, Upgrader, R>;
 
 impl<'a, T, R> SharedGuard<'a, T, Upgrader, R> {
-    ghost use Rattle.spin_rwlock.specs.Guards.{shared_value, write_value};
+    ghost use Rattle.spin_rwlock.specs.Guards.{shared_value, write_value, shared_spot};
 
     /// Tries to become the writer. Fails at once if another reader holds the lock.
     ///
@@ -37,7 +30,9 @@ impl<'a, T, R> SharedGuard<'a, T, Upgrader, R> {
     /// still admitted.
     ///
     /// # Contract
-    /// The returned guard, of either kind, has the value that this guard had. The call returns.
+    /// The guard's party makes one call, `TryUpgrade`, which is granted with a writer's guard (`granted`), or refused
+    /// with a reader's (`refused`). The returned guard has the value that this one had, which is the one written last
+    /// in the lock's history. The call returns.
     ///
     /// # Examples
     /// ```
@@ -50,36 +45,18 @@ impl<'a, T, R> SharedGuard<'a, T, Upgrader, R> {
     /// drop(reader);
     /// assert!(rt; guard.try_upgrade().is_ok());
     /// ```
+    #[tactic(auto, using(crate::proofs::RwCalls::tries_to_upgrade, crate::proofs::RwCalls::upgrade_at_once, crate::proofs::RwCalls::may_raise))]
     pub fn try_upgrade(self) -> Result<RwLockWriteGuard<'a, T, R>, Self>
-        ensures granted { IfOk result (λ guard. Some (write_value guard) ≡ shared_value self.entry) }
-        ensures refused { IfErr result (λ guard. shared_value guard ≡ shared_value self.entry) }
+        ensures granted_value { IfOk result (λ guard. Some (write_value guard) ≡ shared_value self.entry) }
+        ensures refused_value { IfErr result (λ guard. shared_value guard ≡ shared_value self.entry) }
+        ensures granted { IfOk result (Grants TryUpgrade (shared_spot self.entry)) }
+        ensures refused { IfErr result (Lends TryUpgrade Refused (shared_spot self.entry)) }
     {
-        match raise(self.into_session()) {
-            Ok((guard, _)) => Ok(guard),
-            Err((guard, _)) => Err(guard),
+        let (held, after) = (Some(Hold::Upgradable), Some(Hold::Write));
+        match attempt(self.into_session(), RwCall::TryUpgrade, held, after) {
+            Ok(session) => Ok(RwLockWriteGuard::written(session)),
+            Err(session) => Err(SharedGuard::lent(session)),
         }
-    }
-
-    /// Like [`try_upgrade`](Self::try_upgrade), for a guard that a [`Pass`](super::Pass) acquired.
-    ///
-    /// The call takes what the pass knows of the lock's history. It returns what the pass knows afterwards, its own
-    /// steps included.
-    ///
-    /// # Contract
-    /// `seen` has to be what the pass knew when it got this guard (`ReadsWith`). The pass makes one call, `TryUpgrade`.
-    /// The call is granted with a writer's guard, or refused with a reader's guard. The returned guard has the value
-    /// that this one had, which is the one written last in the history.
-    pub fn try_upgrade_seen(
-        self,
-        seen: Watch<Entry<T>>,
-    ) -> Result<(RwLockWriteGuard<'a, T, R>, Watch<Entry<T>>), (Self, Watch<Entry<T>>)>
-        requires { ReadsWith self seen }
-        ensures granted_value { IfOk result (λ held. Some (write_value held.0) ≡ shared_value self.entry) }
-        ensures refused_value { IfErr result (λ held. shared_value held.0 ≡ shared_value self.entry) }
-        ensures granted { IfOk result (λ held. Grants TryUpgrade (shared_spot self.entry seen) held.0 held.1) }
-        ensures refused { IfErr result (λ held. Lends TryUpgrade Refused (shared_spot self.entry seen) held.0 held.1) }
-    {
-        raise(self.knowing(seen))
     }
 
     /// Like [`try_upgrade`](Self::try_upgrade), but may fail spuriously, so call it in a loop. (This implementation
@@ -88,8 +65,10 @@ impl<'a, T, R> SharedGuard<'a, T, Upgrader, R> {
     /// # Contract
     /// Like that of `try_upgrade`.
     pub fn try_upgrade_weak(self) -> Result<RwLockWriteGuard<'a, T, R>, Self>
-        ensures granted { IfOk result (λ guard. Some (write_value guard) ≡ shared_value self.entry) }
-        ensures refused { IfErr result (λ guard. shared_value guard ≡ shared_value self.entry) }
+        ensures granted_value { IfOk result (λ guard. Some (write_value guard) ≡ shared_value self.entry) }
+        ensures refused_value { IfErr result (λ guard. shared_value guard ≡ shared_value self.entry) }
+        ensures granted { IfOk result (Grants TryUpgrade (shared_spot self.entry)) }
+        ensures refused { IfErr result (Lends TryUpgrade Refused (shared_spot self.entry)) }
     {
         self.try_upgrade()
     }
@@ -99,7 +78,8 @@ impl<'a, T, R> SharedGuard<'a, T, Upgrader, R> {
     /// It makes one atomic addition.
     ///
     /// # Contract
-    /// The reader's guard has the value that this one had. The call returns.
+    /// The guard's party makes one call, `Downgrade` (`made`). The reader's guard has the value that this one had,
+    /// which is the one written last in the lock's history. The call returns.
     ///
     /// # Examples
     /// ```
@@ -112,34 +92,19 @@ impl<'a, T, R> SharedGuard<'a, T, Upgrader, R> {
     /// assert!(rt; limit.try_upgradeable_read(&rt).is_some());
     /// assert_eq!(rt; *reader, 3);
     /// ```
+    #[tactic(auto, using(crate::proofs::RwCalls::lower_at_once, crate::proofs::RwCalls::may_lower_on))]
     pub fn downgrade(self) -> RwLockReadGuard<'a, T, R>
-        ensures { shared_value result ≡ shared_value self.entry }
+        ensures value { shared_value result ≡ shared_value self.entry }
+        ensures made { Lends Downgrade Done (shared_spot self.entry) result }
     {
-        lower(self.into_session()).0
-    }
-
-    /// Like [`downgrade`](Self::downgrade), for a guard that a [`Pass`](super::Pass) acquired.
-    ///
-    /// The call takes what the pass knows of the lock's history. It returns what the pass knows afterwards, its own
-    /// steps included.
-    ///
-    /// # Contract
-    /// `seen` has to be what the pass knew when it got this guard (`ReadsWith`). The pass makes one call, `Downgrade`
-    /// (`made`). The reader's guard has the value that this one had, which is the one written last in the history.
-    pub fn downgrade_seen(
-        self,
-        seen: Watch<Entry<T>>,
-    ) -> (RwLockReadGuard<'a, T, R>, Watch<Entry<T>>)
-        requires { ReadsWith self seen }
-        ensures value { shared_value result.0 ≡ shared_value self.entry }
-        ensures made { Lends Downgrade Done (shared_spot self.entry seen) result.0 result.1 }
-    {
-        lower(self.knowing(seen))
+        let (held, after) = (Some(Hold::Upgradable), Some(Hold::Read));
+        let (call, done) = (RwCall::Downgrade, Answer::Done);
+        SharedGuard::lent(make(self.into_session(), call, held, done, after))
     }
 }
 
 impl<'a, T, R: RelaxStrategy> SharedGuard<'a, T, Upgrader, R> {
-    ghost use Rattle.spin_rwlock.specs.Guards.{shared_value, write_value};
+    ghost use Rattle.spin_rwlock.specs.Guards.{shared_value, write_value, shared_spot};
 
     /// Becomes the writer, spinning until every other reader has released the lock.
     ///
@@ -147,8 +112,9 @@ impl<'a, T, R: RelaxStrategy> SharedGuard<'a, T, Upgrader, R> {
     /// writer, so the value does not change. The call never returns if its own thread holds a second guard of the lock.
     ///
     /// # Contract
-    /// The writer's guard has the value that this one had. Its party has made one call, `Upgrade`, which asks by its first
-    /// step, and was granted (`made`). Whether and when the call returns is not promised.
+    /// The guard's party makes one call, `Upgrade`, which asks by its first step, and is granted (`made`). The writer's
+    /// guard has the value that this one had, which is the one written last in the lock's history. Whether and when the
+    /// call returns is not promised.
     ///
     /// # Examples
     /// ```
@@ -161,96 +127,14 @@ impl<'a, T, R: RelaxStrategy> SharedGuard<'a, T, Upgrader, R> {
     /// }
     /// assert_eq!(rt; *limit.read(&rt), 4);
     /// ```
+    #[tactic(auto, using(crate::proofs::RwCalls::upgrades, crate::proofs::RwCalls::may_raise))]
     pub fn upgrade<W: Wait>(self, rt: &W) -> RwLockWriteGuard<'a, T, R>
-        ensures made { (seen : AWatch (Entries T)) × Grants Upgrade (own_spot self.entry) result seen }
         ensures value { Some (write_value result) ≡ shared_value self.entry }
+        ensures made { Grants Upgrade (shared_spot self.entry) result }
     {
-        raise_waiting(self.into_session(), rt).0
+        let (call, held, after) = (RwCall::Upgrade, Some(Hold::Upgradable), Some(Hold::Write));
+        let (session, by) = (self.into_session(), Strategy::<R>::named());
+        let session = wait_for(session, call, held, Answer::Granted, after, by, rt);
+        RwLockWriteGuard::written(session)
     }
-
-    /// Like [`upgrade`](Self::upgrade), for a guard that a [`Pass`](super::Pass) acquired.
-    ///
-    /// The call takes what the pass knows of the lock's history. It returns what the pass knows afterwards, its own
-    /// steps included.
-    ///
-    /// # Contract
-    /// `seen` has to be what the pass knew when it got this guard (`ReadsWith`). The pass makes one call, `Upgrade`.
-    /// The call asks by its first step, and is granted (`made`). The writer's guard has the value that this one had,
-    /// which is the one written last in the history.
-    ///
-    /// # Examples
-    /// ```
-    /// use spin::RwLock;
-    ///
-    /// let limit: RwLock<u64> = RwLock::new(3);
-    /// let (guard, seen) = limit.pass().upgradeable_read(&rt);
-    /// let (mut writer, seen) = guard.upgrade_seen(&rt, seen);
-    /// *writer = 4;
-    /// drop(RwLock::unlock(writer, seen));
-    /// assert_eq!(rt; limit.into_inner(), 4);
-    /// ```
-    pub fn upgrade_seen<W: Wait>(
-        self,
-        rt: &W,
-        seen: Watch<Entry<T>>,
-    ) -> (RwLockWriteGuard<'a, T, R>, Watch<Entry<T>>)
-        requires { ReadsWith self seen }
-        ensures made { Grants Upgrade (shared_spot self.entry seen) result.0 result.1 }
-        ensures value { Some (write_value result.0) ≡ shared_value self.entry }
-    {
-        raise_waiting(self.knowing(seen), rt)
-    }
-}
-
-// Makes the upgradable reader a plain reader.
-#[tactic(auto, using(crate::proofs::RwCalls::lower_at_once, crate::proofs::RwCalls::may_lower_on))]
-fn lower<'a, T, R>(session: RwSession<'a, T>) -> Lent<'a, T, Reader, R>
-    requires { IsLent Upgradable session }
-    ensures value { result.0.session.permit.value ≡ session.entry.permit.value }
-    ensures made { Lends Downgrade Done (spot session.entry) result.0 result.1 }
-{
-    let (held, after) = (Some(Hold::Upgradable), Some(Hold::Read));
-    SharedGuard::lent(make(session, RwCall::Downgrade, held, Answer::Done, after))
-}
-
-// Tries once to make the upgradable reader the writer. Fails if the lock has another holder.
-#[tactic(auto, using(crate::proofs::RwCalls::tries_to_upgrade, crate::proofs::RwCalls::upgrade_at_once, crate::proofs::RwCalls::may_raise))]
-fn raise<'a, T, R>(
-    session: RwSession<'a, T>,
-) -> Result<(RwLockWriteGuard<'a, T, R>, Watch<Entry<T>>), Lent<'a, T, Upgrader, R>>
-    requires { IsLent Upgradable session }
-    ensures granted_value { IfOk result (λ held. Some (write_value held.0) ≡ session.entry.permit.value) }
-    ensures refused_value { IfErr result (λ lent. lent.0.session.permit.value ≡ session.entry.permit.value) }
-    ensures granted { IfOk result (λ held. Grants TryUpgrade (spot session.entry) held.0 held.1) }
-    ensures refused { IfErr result (λ lent. Lends TryUpgrade Refused (spot session.entry) lent.0 lent.1) }
-{
-    let (held, after) = (Some(Hold::Upgradable), Some(Hold::Write));
-    match attempt(session, RwCall::TryUpgrade, held, after) {
-        Ok(session) => Ok(RwLockWriteGuard::written(session)),
-        Err(session) => Err(SharedGuard::lent(session)),
-    }
-}
-
-// Asks to become the writer, and waits until the party is.
-#[tactic(auto, using(crate::proofs::RwCalls::upgrades, crate::proofs::RwCalls::may_raise))]
-fn raise_waiting<'a, T, R: RelaxStrategy, W: Wait>(
-    session: RwSession<'a, T>,
-    rt: &W,
-) -> (RwLockWriteGuard<'a, T, R>, Watch<Entry<T>>)
-    requires { IsLent Upgradable session }
-    ensures value { Some (write_value result.0) ≡ session.entry.permit.value }
-    ensures made { Grants Upgrade (spot session.entry) result.0 result.1 }
-{
-    let (held, after) = (Some(Hold::Upgradable), Some(Hold::Write));
-    let by = Strategy::<R>::named();
-    let session = wait_for(
-        session,
-        RwCall::Upgrade,
-        held,
-        Answer::Granted,
-        after,
-        by,
-        rt,
-    );
-    RwLockWriteGuard::written(session)
 }

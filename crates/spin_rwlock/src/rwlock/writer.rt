@@ -1,15 +1,16 @@
 //! The writer's guard, and its hold without a guard. Begin at [`RwLockWriteGuard`].
-ghost use Rattle.std.specs.Prelude.{◌≡◌, ◌⊎◌, ℕ, true, Some, None, []};
-ghost use Rattle.spin_core.specs.Cell.{use_of, writes};
-ghost use Rattle.spin_step_more.specs.declared.rw_calls.RwCall.TheVariants.{Downgrade, DowngradeToUpgradeable, Release};
-ghost use Rattle.spin_core.specs.Own.{what};
+ghost use Rattle.std.specs.Prelude.{◌≡◌, ◌≢◌, ℕ, Some};
+ghost use Rattle.spin_core.specs.Cell.{off, use_of, writes};
+ghost use Rattle.spin_step.specs.declared.answer.Answer.TheVariants.{Granted};
 ghost use Rattle.spin_step.specs.declared.place.Hold.TheVariants.{Write};
-ghost use Rattle.spin_step.specs.declared.place.Seat.TheVariants.{Idle};
-ghost use Rattle.spin_session.specs.Meaning.{seat_now};
-ghost use Rattle.spin_session.specs.Turns.{Stands, spot};
-ghost use Rattle.spin_rwlock.specs.Rw.{IsLent, downgrade_to, use_of_party};
+ghost use Rattle.spin_step.specs.Schedules.{resting};
+ghost use Rattle.spin_step_more.specs.declared.rw_calls.RwCall.{RwCall as ACall};
+ghost use Rattle.spin_step_more.specs.declared.rw_calls.RwCall.TheVariants.{Downgrade, DowngradeToUpgradeable};
+ghost use Rattle.spin_session.specs.Meaning.{use_at};
+ghost use Rattle.spin_session.specs.Turns.{SeesLast, Stands, spot};
+ghost use Rattle.spin_rwlock.specs.Rw.{MayLeave, downgrade_to, rw_meaning, use_of_party};
 
-use super::reader::{Lent, RwLockReadGuard, SharedGuard};
+use super::reader::{RwLockReadGuard, SharedGuard};
 use super::rule::{Entry, Kind, Party, RwRule, RwSession, Writer, downgrade_to};
 use super::upgradable::RwLockUpgradableGuard;
 use spin_core::cell::{Permit, WritePermit};
@@ -30,6 +31,7 @@ use std::ops::{Deref, DerefMut};
 #[must_use = "dropping the guard at once releases the lock: bind it, or write `drop(..)`"]
 pub struct RwLockWriteGuard<'a, T, R = Spin> {
     writer: WritePermit<'a, T, Party, RwRule<T>>,
+    seen: Watch<Entry<T>>,
     strategy: PhantomData<R>,
 }
 
@@ -43,31 +45,33 @@ pub struct RwLockWriteGuard<'a, T, R = Spin> {
 #[must_use = "dropping a hold does not release the lock: pass it to `force_write_unlock`"]
 pub struct WriteHeld<'a, T, R = Spin> {
     permit: Permit<'a, T, Party, RwRule<T>>,
+    seen: Watch<Entry<T>>,
     strategy: PhantomData<R>,
     ghost writing: { use_of use_of_party permit.view ≡ writes },
 }
 
 impl<'a, T, R> RwLockWriteGuard<'a, T, R> {
-    ghost use Rattle.spin_rwlock.specs.Guards.{shared_value, write_value, write_held_value, write_party, write_held_party, shared_spot, write_spot, ReadsWith, WritesWith};
-    ghost use Rattle.spin_rwlock.specs.RwPasses.{Leaves};
+    ghost use Rattle.spin_rwlock.specs.Guards.{RwSpot, shared_value, write_value, write_held_value, shared_spot, write_spot, write_held_spot, Holds};
+    ghost use Rattle.spin_rwlock.specs.RwPasses.{Calls, Grants, Unlocks};
 
-    pub(super) fn new(writer: Writer<'a, T>) -> Self
-        ensures { result.writer ≡ writer.entry }
+    fn new(writer: Writer<'a, T>, seen: Watch<Entry<T>>) -> Self
+        ensures { (result.writer ≡ writer.entry) × (result.seen ≡ seen) }
     {
         RwLockWriteGuard {
             writer,
+            seen,
             strategy: PhantomData,
         }
     }
 
-    // Returns the guard of this party, and what it knows.
-    pub(super) fn written(session: RwSession<'a, T>) -> (Self, Watch<Entry<T>>)
+    // Returns the guard of this party. A call by which the party came here has granted it.
+    pub(super) fn written(session: RwSession<'a, T>) -> Self
         requires { Stands (Some Write) session }
-        ensures same { write_spot result.0 result.1 ≡ spot session.entry }
-        ensures value { Some (write_value result.0) ≡ session.entry.permit.value }
+        ensures value { Some (write_value result) ≡ session.entry.permit.value }
+        ensures grants { SeesLast session.entry → (call : ACall) (before : RwSpot T) → Calls call Granted before (spot session.entry) → Grants call before result }
     {
         let (permit, seen) = writer(session, Hold::Write);
-        (Self::new(permit), seen)
+        Self::new(permit, seen)
     }
 
     /// Becomes a reader. Other readers are then admitted too. It never fails.
@@ -75,7 +79,9 @@ impl<'a, T, R> RwLockWriteGuard<'a, T, R> {
     /// It makes one atomic addition, so no other writer acquires the lock in between.
     ///
     /// # Contract
-    /// The reader's guard has the value that this one had. The call returns.
+    /// The reader's guard has the value that this one had (`value`). If this guard knows the history (`Holds`), which
+    /// each call that grants it says, its party writes the value into the history, and then makes one call, `Downgrade`
+    /// (`made`). The call returns.
     ///
     /// # Examples
     /// ```
@@ -89,31 +95,10 @@ impl<'a, T, R> RwLockWriteGuard<'a, T, R> {
     /// assert_eq!(rt; *reader, 4);
     /// ```
     pub fn downgrade(self) -> RwLockReadGuard<'a, T, R>
-        ensures { shared_value result ≡ Some (write_value self.entry) }
+        ensures value { shared_value result ≡ Some (write_value self.entry) }
+        ensures made { Holds self.entry → Unlocks Downgrade self.entry (shared_spot result) }
     {
-        let seen = watch_of(&self.writer);
-        self.lend(seen).0
-    }
-
-    /// Like [`downgrade`](Self::downgrade), for a guard that a [`Pass`](super::Pass) acquired.
-    ///
-    /// The call takes what the pass knows of the lock's history. It returns what the pass knows afterwards, its own
-    /// steps included.
-    ///
-    /// # Contract
-    /// `seen` has to be what the pass knew when it got this guard (`WritesWith`). The pass writes the guard's value
-    /// into the history, and then makes one call, `Downgrade` (`made`). The reader's guard has that value, which is the
-    /// one written last.
-    pub fn downgrade_seen(
-        self,
-        seen: Watch<Entry<T>>,
-    ) -> (RwLockReadGuard<'a, T, R>, Watch<Entry<T>>)
-        requires { WritesWith self seen }
-        ensures value { shared_value result.0 ≡ Some (write_value self.entry) }
-        ensures reads { ReadsWith result.0 result.1 }
-        ensures made { Leaves Downgrade self.entry seen (shared_spot result.0 result.1) }
-    {
-        self.lend(seen)
+        self.lend()
     }
 
     /// Becomes the upgradable reader. It never fails.
@@ -121,7 +106,9 @@ impl<'a, T, R> RwLockWriteGuard<'a, T, R> {
     /// It makes one atomic addition, so no other writer acquires the lock in between.
     ///
     /// # Contract
-    /// The upgradable reader's guard has the value that this one had. The call returns.
+    /// The upgradable reader's guard has the value that this one had (`value`). If this guard knows the history
+    /// (`Holds`), its party writes the value into the history, and then makes one call, `DowngradeToUpgradeable`
+    /// (`made`). The call returns.
     ///
     /// # Examples
     /// ```
@@ -133,55 +120,32 @@ impl<'a, T, R> RwLockWriteGuard<'a, T, R> {
     /// assert!(rt; guard.try_upgrade().is_ok());
     /// ```
     pub fn downgrade_to_upgradeable(self) -> RwLockUpgradableGuard<'a, T, R>
-        ensures { shared_value result ≡ Some (write_value self.entry) }
+        ensures value { shared_value result ≡ Some (write_value self.entry) }
+        ensures made { Holds self.entry → Unlocks DowngradeToUpgradeable self.entry (shared_spot result) }
     {
-        let seen = watch_of(&self.writer);
-        self.lend(seen).0
-    }
-
-    /// Like [`downgrade_to_upgradeable`](Self::downgrade_to_upgradeable), for a guard that a [`Pass`](super::Pass)
-    /// acquired.
-    ///
-    /// The call takes what the pass knows of the lock's history. It returns what the pass knows afterwards, its own
-    /// steps included.
-    ///
-    /// # Contract
-    /// `seen` has to be what the pass knew when it got this guard (`WritesWith`). The pass writes the guard's value
-    /// into the history, and then makes one call, `DowngradeToUpgradeable` (`made`). The upgradable reader's guard has
-    /// that value, which is the one written last.
-    pub fn downgrade_to_upgradeable_seen(
-        self,
-        seen: Watch<Entry<T>>,
-    ) -> (RwLockUpgradableGuard<'a, T, R>, Watch<Entry<T>>)
-        requires { WritesWith self seen }
-        ensures value { shared_value result.0 ≡ Some (write_value self.entry) }
-        ensures reads { ReadsWith result.0 result.1 }
-        ensures made { Leaves DowngradeToUpgradeable self.entry seen (shared_spot result.0 result.1) }
-    {
-        self.lend(seen)
+        self.lend()
     }
 
     // Becomes a reader of kind `K`.
-    #[tactic(auto, using(crate::proofs::RwCalls::lowers, crate::proofs::RwCalls::may_lower))]
-    fn lend<K: Kind>(self, seen: Watch<Entry<T>>) -> Lent<'a, T, K, R>
-        requires { (seen.entries ≡ [] ⊎ WritesWith self seen) × (self.writer.key.name ≡ seen.name) }
-        ensures value { shared_value result.0 ≡ Some (write_value self.entry) }
-        ensures reads { ReadsWith result.0 result.1 }
-        ensures made { WritesWith self.entry seen → Leaves (downgrade_to K.hold) self.entry seen (shared_spot result.0 result.1) }
+    #[tactic(auto, using(crate::proofs::RwCalls::may_lower))]
+    fn lend<K: Kind>(self) -> SharedGuard<'a, T, K, R>
+        ensures value { shared_value result ≡ Some (write_value self.entry) }
+        ensures made { Holds self.entry → Unlocks (downgrade_to K.hold) self.entry (shared_spot result) }
     {
         let (call, after) = (downgrade_to(K::hold()), Some(K::hold()));
-        let writer = self.into_writer();
-        SharedGuard::lent(give::<T, RwRule<T>>(writer, seen, call, Hold::Write, after))
+        SharedGuard::lent(self.leave(call, after))
     }
 
-    // Releases the exclusive access. The party is then in no call, and holds nothing.
-    pub(super) fn release(self, seen: Watch<Entry<T>>) -> RwSession<'a, T>
-        requires { seen.entries ≡ [] ⊎ (self.writer.key.name ≡ seen.name) }
-        ensures out { seat_now (what result.permit.view) ≡ Idle }
-        ensures made { WritesWith self.entry seen → Stands None result × Leaves Release self.entry seen (spot result) }
+    // Makes a call by which the party no longer writes.
+    pub(super) fn leave(self, call: RwCall, after: Option<Hold>) -> RwSession<'a, T>
+        requires { MayLeave call after self.writer.key }
+        ensures stands { Stands after result }
+        ensures made { Holds self.entry → Unlocks call self.entry (spot result) }
+        ensures same { use_at rw_meaning (resting after) ≢ off → result.permit.value ≡ Some (write_value self.entry) }
     {
-        let writer = self.into_writer();
-        give::<T, RwRule<T>>(writer, seen, RwCall::Release, Hold::Write, None)
+        let (writer, seen) = self.into_parts();
+        let seen = watch_of(&writer, &seen);
+        give::<T, RwRule<T>>(writer, seen, call, Hold::Write, after)
     }
 
     /// Consumes the guard and returns a mutable reference to the value.
@@ -193,14 +157,15 @@ impl<'a, T, R> RwLockWriteGuard<'a, T, R> {
     pub fn leak(this: Self) -> &'a mut T
         ensures { result.now ≡ write_value this.entry }
     {
-        this.into_writer().leak()
+        let (writer, _) = this.into_parts();
+        writer.leak()
     }
 
     /// Consumes the guard and keeps the lock held.
     ///
     /// # Contract
-    /// `write_held_value` of the hold is the value of the guard. The hold has the guard's party (`party`). The call
-    /// returns.
+    /// `write_held_value` of the hold is the value of the guard. The hold has the guard's party, and knows what the
+    /// guard knows (`party`). The call returns.
     ///
     /// # Examples
     /// ```
@@ -214,27 +179,30 @@ impl<'a, T, R> RwLockWriteGuard<'a, T, R> {
     /// ```
     pub fn hold(this: Self) -> WriteHeld<'a, T, R>
         ensures value { write_held_value result ≡ Some (write_value this.entry) }
-        ensures party { (write_held_party result ≡ write_party this.entry) × (result.permit.key ≡ this.entry.writer.key) }
+        ensures party { write_held_spot result ≡ write_spot this.entry }
     {
+        let (writer, seen) = this.into_parts();
         WriteHeld {
-            permit: this.into_writer().into_permit(),
+            permit: writer.into_permit(),
+            seen,
             strategy: PhantomData,
         }
     }
 
-    pub(super) fn into_writer(self) -> Writer<'a, T>
-        ensures { result ≡ self.entry.writer }
+    fn into_parts(self) -> (Writer<'a, T>, Watch<Entry<T>>)
+        ensures { (result.0 ≡ self.entry.writer) × (result.1 ≡ self.entry.seen) }
     {
         let Self {
             writer,
+            seen,
             strategy: _,
         } = self;
-        writer
+        (writer, seen)
     }
 }
 
 impl<'a, T, R> WriteHeld<'a, T, R> {
-    ghost use Rattle.spin_rwlock.specs.Guards.{write_value, write_held_value, write_party, write_held_party};
+    ghost use Rattle.spin_rwlock.specs.Guards.{write_value, write_held_value, write_spot, write_held_spot};
 
     /// Turns the hold into a guard again.
     ///
@@ -244,23 +212,24 @@ impl<'a, T, R> WriteHeld<'a, T, R> {
     /// The guard has the hold's value and its party (`value`, `party`). The call returns.
     pub fn into_guard(self) -> RwLockWriteGuard<'a, T, R>
         ensures value { Some (write_value result) ≡ write_held_value self.entry }
-        ensures party { (write_party result ≡ write_held_party self.entry) × (result.writer.key ≡ self.entry.permit.key) }
+        ensures party { write_spot result ≡ write_held_spot self.entry }
     {
         let Self {
             permit,
+            seen,
             strategy: _,
         } = self;
-        RwLockWriteGuard::new(permit.into_writer())
+        RwLockWriteGuard::new(permit.into_writer(), seen)
     }
 }
 
-// Returns a watch of the history of this writer's lock, which knows nothing yet, under the name that the caller chooses.
-fn watch_of<T>(writer: &Writer<'_, T>) -> Watch<Entry<T>>
+// Returns what this watch knows of the history of the writer's lock, under the name that the caller chooses.
+fn watch_of<T>(writer: &Writer<'_, T>, seen: &Watch<Entry<T>>) -> Watch<Entry<T>>
     ghost name: { ℕ }
-    ensures { (result.name ≡ name) × (result.entries ≡ []) }
+    ensures { (result.name ≡ name) × (seen.now.name ≡ name → result.entries ≡ seen.now.entries) }
 {
     let _ = writer;
-    Watch::start()
+    seen.under()
 }
 
 impl<T, R> Deref for RwLockWriteGuard<'_, T, R> {
@@ -296,8 +265,9 @@ impl<T, R> DerefMut for RwLockWriteGuard<'_, T, R> {
 }
 
 impl<T, R> Drop for RwLockWriteGuard<'_, T, R> {
+    #[tactic(auto, using(crate::proofs::RwCalls::may_release))]
     fn drop(self) {
-        finish(self.release(Watch::nothing()));
+        let _left = finish(self.leave(RwCall::Release, None));
     }
 }
 
@@ -305,6 +275,7 @@ impl<T, R> Drop for WriteHeld<'_, T, R> {
     fn drop(self) {
         let Self {
             permit,
+            seen: _,
             strategy: _,
         } = self;
         permit.leak();

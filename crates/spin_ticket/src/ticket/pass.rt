@@ -1,17 +1,18 @@
 //! The calls of a [`TicketMutex`] by a thread that keeps track of them. Begin at [`TicketMutex::pass`].
 ghost use Rattle.std.specs.Prelude.{◌≡◌, ◌⊎◌, None, IfOk, IfErr};
 ghost use mathlib.Core.List.{IsPrefix};
-ghost use Rattle.spin_session.specs.Turns.{IsNew, Stands, history, lock_of, spot};
-ghost use Rattle.spin_ticket.specs.TicketPasses.{Calls, TicketSpot, Grants, Holds, Unlocks, opening};
+ghost use Rattle.spin_session.specs.Turns.{Stands, history, lock_of, spot};
+ghost use Rattle.spin_ticket.specs.TicketPasses.{After, Calls, TicketSpot, Grants, Holds, Unlocks, new_in, opening};
+ghost use Rattle.spin_ticket.specs.TicketPasses.{Lock, TryLock, IsLocked};
 ghost use Rattle.spin_step.specs.declared.answer.Answer.TheVariants.{Refused, Is};
-ghost use Rattle.spin_step.specs.declared.ticket_calls.TicketCall.TheVariants.{Lock, TryLock, IsLocked};
 
-use super::rule::{Entry, TicketRule};
+use super::rule::TicketRule;
 use super::{TicketMutex, TicketMutexGuard};
 use spin_core::guard::Guard;
-use spin_core::relax::{RelaxStrategy, Strategy};
-use spin_core::trace::Watch;
-use spin_session::calls::{SessionOf, finish, first_round, give, guarded, in_three, peek, wait_on};
+use spin_core::relax::RelaxStrategy;
+use spin_session::calls::{
+    SessionOf, acquire, after, enter, finish, give, in_three, peek, try_to_acquire,
+};
 use spin_step::{Answer, Hold, TicketCall};
 use std::marker::{Model, PhantomData};
 use std::sync::Wait;
@@ -23,19 +24,19 @@ use std::sync::Wait;
 /// of others. A pass is as large as a reference to the lock. It can be sent, and a lock can have any number of passes.
 ///
 /// # Contract
-/// A call takes the pass, or a guard with what the pass knew when it acquired the guard. It returns the pass or a
-/// guard. The call ensures `Calls`: in the history the pass's new moves are those of exactly one call, and this
-/// call has the returned answer. (`unlock` also writes the guard's value: `Unlocks`.) The lock's model plays the moves of
-/// all threads in the order of the history. It skips no move, and gives this call the same answer.
+/// A call takes the pass, or a guard, which knows what its party knew when it acquired the lock. It returns the pass or
+/// a guard. The call ensures `Calls`: in the history the pass's new moves are those of exactly one call, and this
+/// call has the returned answer. (`unlock` also writes the guard's value: `Unlocks`.) The lock's model plays the moves
+/// of all threads in the order of the history. It skips no move, and gives this call the same answer.
 ///
 /// # Examples
 /// ```
 /// use spin::mutex::TicketMutex;
 ///
 /// let lock: TicketMutex<u64> = TicketMutex::new(4);
-/// let (guard, seen) = lock.pass().lock(&rt);
+/// let guard = lock.pass().lock(&rt);
 /// let pass = lock.pass().try_lock().err().expect(&rt, "it is held");
-/// drop(TicketMutex::unlock(guard, seen));
+/// drop(TicketMutex::unlock(guard));
 /// assert!(rt; pass.try_lock().is_ok());
 /// ```
 #[must_use = "a pass that is dropped ends: bind it, or write `drop(..)`"]
@@ -58,27 +59,28 @@ impl<T, R> TicketMutex<T, R> {
     /// # Contract
     /// The pass is of this lock, and knows nothing of its history yet (`new`).
     pub fn pass(&self) -> Pass<'_, T, R>
-        ensures new { IsNew (opening self.now) result }
+        ensures new { result ≡ new_in (opening self.now) }
     {
         Pass {
-            session: self.session(),
+            session: enter(&self.cell),
             strategy: PhantomData,
         }
     }
 
-    /// Releases the lock, and returns the pass by which it was acquired.
+    /// Releases the lock, and returns the pass of the party that held it.
     ///
     /// A guard that is dropped releases the lock too, and ends its pass.
     ///
     /// # Contract
-    /// `seen` has to be what [`Pass::lock`] or [`Pass::try_lock`] returned with the guard (`Holds`). The release is the
-    /// next call of the pass. Just before the release the pass writes the guard's value into the history, so this value
-    /// is the one written last (`Unlocks`).
-    pub fn unlock<'a>(guard: TicketMutexGuard<'a, T, R>, seen: Watch<Entry<T>>) -> Pass<'a, T, R>
-        requires { Holds guard seen }
-        ensures { Unlocks guard.entry seen result }
+    /// The guard has to be one that a call of this lock returned (`Holds`), with or without a pass. The release is the
+    /// next call of its party. Just before the release the party writes the guard's value into the history, so this
+    /// value is the one written last (`Unlocks`).
+    pub fn unlock<'a>(guard: TicketMutexGuard<'a, T, R>) -> Pass<'a, T, R>
+        requires { Holds guard }
+        ensures { Unlocks guard.entry result }
     {
-        let (number, writer, seen) = peek::<T, TicketRule>(Guard::into_writer(guard), seen);
+        let (writer, seen) = Guard::into_parts(guard);
+        let (number, writer, seen) = peek::<T, TicketRule>(writer, seen);
         let held = Hold::Ticket(number);
         Pass {
             session: give::<T, TicketRule>(writer, seen, TicketCall::Release, held, None),
@@ -88,26 +90,20 @@ impl<T, R> TicketMutex<T, R> {
 }
 
 impl<'a, T, R: RelaxStrategy> Pass<'a, T, R> {
-    /// Acquires the lock as [`TicketMutex::lock`] does. Returns the guard, and what the pass then knows.
+    /// Acquires the lock as [`TicketMutex::lock`] does.
     ///
     /// # Contract
     /// The call is one `Lock` with the answer `Granted`, however often it looked and tried. The guard belongs to a
     /// holder of the lock, and its value is the one written last in the history (`Grants`). Whether and when the call
     /// returns is not promised.
-    pub fn lock<W: Wait>(self, rt: &W) -> (TicketMutexGuard<'a, T, R>, Watch<Entry<T>>)
-        ensures { Grants Lock self.entry result.0 result.1 }
+    pub fn lock<W: Wait>(self, rt: &W) -> TicketMutexGuard<'a, T, R>
+        ensures { Grants Lock self.entry result }
     {
         let Self {
             session,
             strategy: _,
         } = self;
-        match first_round(session, TicketCall::Lock, None) {
-            Ok(session) => guarded(session),
-            Err(on) => {
-                let by = Strategy::<R>::named();
-                guarded(wait_on(on, TicketCall::Lock, None, by, rt))
-            }
-        }
+        acquire(session, TicketCall::Lock, None, rt)
     }
 }
 
@@ -117,15 +113,14 @@ impl<'a, T, R> Pass<'a, T, R> {
     /// # Contract
     /// The call is one `TryLock`. Its answer is `Granted` with a guard (`granted`), else `Refused` (`refused`). The
     /// guard's value is the one written last in the history.
-    pub fn try_lock(self) -> Result<(TicketMutexGuard<'a, T, R>, Watch<Entry<T>>), Pass<'a, T, R>>
-        ensures granted { IfOk result (λ held. Grants TryLock self.entry held.0 held.1) }
+    pub fn try_lock(self) -> Result<TicketMutexGuard<'a, T, R>, Pass<'a, T, R>>
+        ensures granted { IfOk result (Grants TryLock self.entry) }
         ensures refused { IfErr result (λ pass. Calls TryLock Refused self.entry pass) }
     {
         let Self { session, strategy } = self;
-        let (answer, _, session, _) = in_three(session, TicketCall::TryLock, None);
-        match answer {
-            Answer::Granted => Ok(guarded(session)),
-            _ => Err(Pass { session, strategy }),
+        match try_to_acquire(session, TicketCall::TryLock, None) {
+            Ok(guard) => Ok(guard),
+            Err(session) => Err(Pass { session, strategy }),
         }
     }
 
@@ -151,15 +146,45 @@ impl<'a, T, R> Pass<'a, T, R> {
             strategy: _,
         } = self;
         let (_, _, session, next) = in_three(session, TicketCall::IsLocked, None);
-        finish(session);
+        let _left = finish(session);
         next
+    }
+
+    /// Returns this pass, which then also knows what the other pass knows. It does nothing when it runs.
+    ///
+    /// So the next call of this pass comes after the calls of the other that are known by now.
+    ///
+    /// # Contract
+    /// The history that the returned pass knows is the longer of the two, of which the other is a prefix (`After`).
+    ///
+    /// # Examples
+    /// ```
+    /// use spin::mutex::TicketMutex;
+    ///
+    /// let lock: TicketMutex<u64> = TicketMutex::new(4);
+    /// let mut guard = lock.lock(&rt);
+    /// *guard = 5;
+    /// let writer = TicketMutex::unlock(guard);
+    /// let reader = lock.pass().after(&writer);
+    /// assert_eq!(rt; *reader.lock(&rt), 5);
+    /// drop(writer);
+    /// ```
+    pub fn after(self, earlier: &Pass<'_, T, R>) -> Pass<'a, T, R>
+        requires { lock_of self ≡ lock_of earlier.now }
+        ensures { After earlier.now self.entry result }
+    {
+        let Self { session, strategy } = self;
+        Pass {
+            session: after(session, &earlier.session),
+            strategy,
+        }
     }
 
     /// Compares what two passes of one lock know. It does nothing when it runs.
     ///
     /// # Contract
     /// The history that one of the passes knows is a prefix of the history that the other knows. The longer of the two
-    /// histories has the calls of both passes, each once, in the order in which each pass made them.
+    /// histories has the calls of both passes, in the order in which each pass made them.
     pub fn compare(&self, other: &Pass<'_, T, R>)
         requires { lock_of self.now ≡ lock_of other.now }
         ensures { IsPrefix (history self.now) (history other.now) ⊎ IsPrefix (history other.now) (history self.now) }
@@ -174,6 +199,6 @@ impl<T, R> Drop for Pass<'_, T, R> {
             session,
             strategy: _,
         } = self;
-        finish(session);
+        let _left = finish(session);
     }
 }

@@ -6,7 +6,7 @@ ghost use Rattle.spin_session.specs.Meaning.{ways_of};
 ghost use Rattle.spin_ticket.specs.Queue.{IsQueue, ticket_meaning, ticket_tables, use_of_party};
 
 use super::HINTS_EACH;
-use spin_core::cell::{Rule, WritePermit};
+use spin_core::cell::{Left, Rule, WritePermit};
 use spin_core::guard::{self, Uses};
 use spin_core::relax::MAX_BACK_OFF;
 use spin_core::tie::Opening;
@@ -96,11 +96,11 @@ impl Uses<Party> for TicketRule {
 impl<T> guard::Release<T, Party> for TicketRule {
     // The served number is that of the writer's ticket. A guard does not keep this number. If it did, and the number
     // were tied to the seat, `deref_mut` could not lend the guard's permit.
-    fn release(writer: WritePermit<'_, T, Party, TicketRule>) {
+    fn release(writer: WritePermit<'_, T, Party, TicketRule>) -> Left {
         let (number, writer, _) = peek::<T, TicketRule>(writer, Watch::nothing());
-        let release = TicketCall::Release;
+        let (seen, release) = (Watch::nothing(), TicketCall::Release);
         let held = Hold::Ticket(number);
-        finish(give::<T, TicketRule>(writer, Watch::nothing(), release, held, None));
+        finish(give::<T, TicketRule>(writer, seen, release, held, None))
     }
 
     ghost same = { λ key view. refl };

@@ -1,4 +1,4 @@
-use Rattle.std.proofs.Common.{◌≡◌, ℕ, Option, true, Some, None, sym, ap, ◌∙◌, subst}
+use Rattle.std.proofs.Common.{◌≡◌, ◌≤◌, ℕ, Option, true, Some, None, length, sym, ap, ◌∙◌, subst}
 use Rattle.spin_core.specs.Own.{what}
 use Rattle.spin_core.specs.Cell.{off, writes, use_of}
 use Rattle.spin_core.specs.Values.{IsLast}
@@ -102,7 +102,7 @@ returns-clause-releases g c named knew =
     (λ e e'. c.requires.stops (ap (use_of (use_at b)) (sym sits) ∙ e')) in
     let last : IsLast p.key f.result.2.entries w.value = subst (λ o. IfSome o (IsLast p.key f.result.2.entries)) it.ensures.same.1 (all_last.1 (λ e. absurd (let no : off ≡ writes = sym e ∙ writing in cc (no)))) in
     let all = releases t b call a.holds a.after from now is ends its f.result.0 (c.laws.ensures.named p.key a.seen.name (ap (λ k. k.name) it.ensures.key ∙ named)) f.ensures.key
-    (ap mark_of it.ensures.same.0 ∙ knew) w.value last moved in
+    (subst (λ v. mark_of v ≤ length a.seen.entries) (sym it.ensures.same.0) knew) w.value last moved in
     subst (λ (z : Spot g.row.T.Denot g.row.P-Call.Denot g.row.P-Point.Denot). Releases (model_at t) (λ o. o) call Done w.value z now) (λ i. (it.ensures.key i, it.ensures.same.0 i, a.seen)) all
 
 pub unreachable-requires : goal.unreachable-requires

@@ -7,5 +7,5 @@ use Rattle.spin_session.proofs.calls.guarded.Goals as goal
 pub returns : goal.returns
 returns g c =
     let it = c.args.session in let w = c.writing-writer in let new = c.new.ensures in let own = w.ensures in
-    let same : guard_spot c.new.result w.result.1 ≡ spot it = λ i. ((ap (λ x. x.key) new ∙ own.key) i, (ap (λ x. Some x.view) new ∙ own.same.0) i, own.seen i) in
-    record { grants = granted g.P.Runs.tables g.P.Runs.meaning (spot it) it.permit.value c.new.result w.result.1 same (ap (λ x. Some x.value) new ∙ own.same.1) c.requires.writes c.requires.last }
+    let same : guard_spot c.new.result ≡ spot it = λ i. ((ap (λ x. x.key) new.0 ∙ own.key) i, (ap (λ x. Some x.view) new.0 ∙ own.same.0) i, (new.1 ∙ own.seen) i) in
+    record { grants = granted g.P.Runs.tables g.P.Runs.meaning (spot it) it.permit.value c.new.result same (ap (λ x. Some x.value) new.0 ∙ own.same.1) c.requires.writes c.requires.last }

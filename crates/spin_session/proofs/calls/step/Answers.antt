@@ -1,6 +1,6 @@
 use Rattle.std.specs.Option.{IfSome}
 use Rattle.spin_core.specs.Values.{IsLast}
-use Rattle.std.proofs.Common.{◌≡◌, true, false, None, Some, ap, ◌∙◌, sym, subst}
+use Rattle.std.proofs.Common.{◌≡◌, true, false, None, Some, ap, ◌∙◌, sym, subst, le_of_eq}
 use Rattle.spin_core.specs.Own.{what}
 use Rattle.spin_core.specs.Spots.{Stepped}
 use Rattle.spin_core.specs.Traced.{Named}
@@ -30,7 +30,7 @@ returns-clause-knows g c =
     let all = turned (table_at t p.key) g.P.Runs.meaning p.view f.result.1.view it.seen f.result.2 c.requires.knows.1 a.call a.point a.holds c.requires.at named
     (c.laws.ensures.named p.key it.seen.name c.requires.knows.0) f.result.0 f.ensures.moved in (
       ap (λ k. k.name) f.ensures.key ∙ c.requires.knows.0 ∙ sym all.named,
-      all.knows,
+      le_of_eq all.knows,
       subst (λ o. rests_at g.P.Runs.meaning (seat_now o) ≡ true) (sym all.is)
           (c.laws.ensures.goes p.key (what p.view) a.call a.point a.holds f.result.0 c.requires.at c.requires.knows.2),
     )

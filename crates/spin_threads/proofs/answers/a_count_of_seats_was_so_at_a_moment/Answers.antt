@@ -6,5 +6,5 @@ use Rattle.spin_threads.proofs.Moments.{found}
 use Rattle.spin_threads.proofs.answers.a_count_of_seats_was_so_at_a_moment.Goals as goal
 
 pub returns : goal.returns
-returns g n count before now made =
-    found (seats_facts n) (λ p s. readers s == count) (λ h. refl) (λ p l h seen call is. eqb-true (readers seen.plain) count is) before.1 now.1 before.2.entries now.2.entries made.0
+returns g n count =
+    found (seats_facts n) (λ p s. readers s == count) (λ h. refl) (λ p l h seen call is. eqb-true (readers seen.plain) count is)

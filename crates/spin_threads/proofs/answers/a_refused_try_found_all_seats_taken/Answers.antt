@@ -10,5 +10,5 @@ all_taken : (n p : ℕ) (s : Plain) → Seating n s → not (is_open_to s p to_r
 all_taken n p s shape closed = grind (arith, open_is s n (length s.holders) shape.all_read shape.room refl, shape.few, closed)
 
 pub returns : goal.returns
-returns g n before now made =
-    found (seats_facts n) (λ p s. not (is_open_to s p to_read)) (λ h. refl) (λ p l h seen call closed. all_taken n p seen.plain call.shape closed) before.1 now.1 before.2.entries now.2.entries made.0
+returns g n =
+    found (seats_facts n) (λ p s. not (is_open_to s p to_read)) (λ h. refl) (λ p l h seen call closed. all_taken n p seen.plain call.shape closed)

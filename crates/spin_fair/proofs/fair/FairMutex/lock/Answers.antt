@@ -1,20 +1,7 @@
-use Rattle.std.proofs.Common.{Some, None, refl}
-use Rattle.spin_session.specs.Turns.{spot, Stands, SeesLast, Waits}
-use Rattle.spin_session.proofs.Granted.{of_ok, of_err, stands_writes}
-use Rattle.spin_step.specs.declared.answer.Answer.TheVariants.{Granted}
-use Rattle.spin_step.specs.declared.place.Hold.TheVariants.{Write}
+use Rattle.std.proofs.Common.{subst}
 use Rattle.spin_step_more.specs.declared.fair_calls.FairCall.TheVariants.{Lock}
-use Rattle.spin_fair.specs.Fair.{fair_meaning, fair_tables}
-use Rattle.spin_fair.specs.FairPasses.{Calls}
-use Rattle.spin_fair.proofs.FairRefines.{lock_answers}
+use Rattle.spin_fair.specs.FairPasses.{Grants}
 use Rattle.spin_fair.proofs.fair.FairMutex.lock.Goals as goal
-use Rattle.spin_fair.proofs.fair.FairMutex.lock.Goals.{in-Ok, in-Err}
 
-pub guarded-guard-requires-clause-writes : goal.guarded-guard-requires-clause-writes
-guarded-guard-requires-clause-writes g c =
-    let from = spot c.session.result in
-    elim c.match-begin.branch [
-      | in-Ok w ↦ rw w.session-is (stands_writes fair_meaning (spot w.in-Ok.session) Write refl (of_ok c.begin.result (λ x. Stands (Some Write) x × SeesLast x × Calls Lock Granted from (spot x)) w.in-Ok.session w.in-Ok.is c.begin.ensures.ended).0)
-      | in-Err w ↦ rw w.session-is (stands_writes fair_meaning (spot w.go_on-session.result) Write refl (w.go_on-session.ensures.calls from
-          (of_err c.begin.result (λ on. Waits fair_tables fair_meaning Lock on.0 None on.1 from (spot on.2)) w.in-Err.on w.in-Err.is c.begin.ensures.waits) (lock_answers c.session.result.permit.key)).0)
-    ]
+pub returns : goal.returns
+returns g c = subst (λ new. Grants Lock new c.acquire.result) c.enter.ensures c.acquire.ensures

@@ -21,3 +21,6 @@ watch-requires g c κs within =
       and κs.1.0 (just κs.1.0 first) (just κs.1.0 first),
       (⊑_static _, (entries_within _ _ rest.0, (⊑_static _, (stage _ rest.1.0 rest.1.1.0, and κ (and κ key.0 (just κ key.1)) (and κ (permit_within κ _ key.1) (just κ (permit_within κ _ (stage κ key.0 key.1)))))))),
     )
+
+pub returns : goal.returns
+returns g c = λ i. (c.enter.ensures.key i, c.enter.ensures.fresh.0 i, record { marker = record {}; name = c.watch.ensures.0 i; entries = c.watch.ensures.1 i })

@@ -1,4 +1,4 @@
 use Rattle.spin_rwlock.proofs.rwlock.writer.watch_of.Given as goal
 
-abbrev pub ghost-start : goal.ghost-start
-ghost-start g a = g.name
+abbrev pub ghost-under : goal.ghost-under
+ghost-under g a = g.name

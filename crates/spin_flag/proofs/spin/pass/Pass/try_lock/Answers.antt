@@ -1,14 +1,4 @@
-use Rattle.std.proofs.Common.{Some, subst}
-use Rattle.spin_session.specs.Turns.{spot, Stands, SeesLast}
-use Rattle.spin_session.proofs.Granted.{of_ok}
-use Rattle.spin_step.specs.declared.answer.Answer.TheVariants.{Granted}
-use Rattle.spin_step.specs.declared.flag_calls.FlagCall.TheVariants.{TryLock}
-use Rattle.spin_step.specs.declared.place.Hold.TheVariants.{Write}
-use Rattle.spin_flag.specs.Passes.{Calls, Grants}
 use Rattle.spin_flag.proofs.spin.pass.Pass.try_lock.Goals as goal
 
 pub returns-in-Ok-clause-granted : goal.returns-in-Ok-clause-granted
-returns-in-Ok-clause-granted g c =
-    let from = spot c.self.inside.session in let (guard, seen) = c.guarded.result in
-    let all = of_ok c.attempt.result (λ x. Stands (Some Write) x × SeesLast x × Calls TryLock Granted from (spot x)) c.in-Ok.session c.in-Ok.is c.attempt.ensures.granted in
-    subst (λ b. Grants TryLock b guard seen) c.self.view_is (c.guarded.ensures.grants TryLock from all.2)
+returns-in-Ok-clause-granted g c = rw (← c.self.view_is) (rw c.in-Ok.is at c.try_to_acquire.ensures.granted)

@@ -6,9 +6,9 @@ use Rattle.spin_once.proofs.Accounts.{comes_as}
 use Rattle.spin_once.proofs.once_core.account.Account.poll.Goals as goal
 
 pub returns-in-Answers : goal.returns-in-Answers
-returns-in-Answers g c = let p = here c.args.self in c.answer.ensures.tells p (c.step-next.ensures.comes p (inr (refl, c.requires)))
+returns-in-Answers g c = let p = here c.args.self in c.answer.ensures p (c.step-next.ensures.comes p (inr (refl, c.requires)))
 
 pub returns-in-Continue : goal.returns-in-Continue
 returns-in-Continue g c =
     let p = here c.args.self in let f = c.step-next in
-    c.answer-in-Continue.ensures.tells p (c.go_on-next.ensures.comes p (comes_as Poll p (here f.result.1) f.result.0 (Continue c.in-Continue.point) c.in-Continue.is (f.ensures.comes p (inr (refl, c.requires)))))
+    c.answer-in-Continue.ensures p (c.go_on-next.ensures.comes p (comes_as Poll p (here f.result.1) f.result.0 (Continue c.in-Continue.point) c.in-Continue.is (f.ensures.comes p (inr (refl, c.requires)))))

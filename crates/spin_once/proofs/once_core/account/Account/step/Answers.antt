@@ -24,7 +24,7 @@ returns g c =
     let a = c.args in let me = a.self in let f = c.operate-found in let now = spot f.result.1 f.result.2 in let makes = g.S.Seed.makes in
     let is = next_is a.call a.point f.result.0 c.next.result (c.next.ensures tt) in
     record {
-      comes = accounts.comes makes (here me) now f.result.0 me.knows me.named f.ensures.key a.call a.point c.requires.at f.ensures.moved c.next.result is;
+      comes = accounts.comes makes (here me) now f.result.0 me.knows me.named f.ensures.key a.call a.point c.requires.at f.ensures.moved c.next.result is c.requires.quiet;
       key = f.ensures.key;
       view = accounts.next_view makes (here me) now f.result.0 me.knows me.named f.ensures.key a.call a.point c.requires.at f.ensures.moved c.next.result is;
       goes = (f.result.0, is);

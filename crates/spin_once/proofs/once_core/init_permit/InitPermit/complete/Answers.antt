@@ -18,8 +18,8 @@ operate-party-requires-clause-keeps g c =
     rw (it.ensures.value, c.operation-store.ensures.operation tt)
     (ends g.S.Seed.makes p.key call may p.view (ap what it.ensures.same.1 ∙ is) (CallOnce tt) c.args.value (rw it.ensures.same.0 c.requires))
 
-pub returns : goal.returns
-returns g c call p is on =
+pub returns-clause-since : goal.returns-clause-since
+returns-clause-since g c call p is on =
     let me = c.args.self in let it = c.put-party in let f = c.operate-party in let so = it.ensures.same in let may : HasClosure call = rw is at me.runs in
     accounts.completes g.S.Seed.makes me (spot it.result me.account.seen) (spot f.result.1 f.result.2) f.result.0 (λ i. (so.0 i, so.1 i, me.account.seen)) f.ensures.key f.ensures.moved call may is p on
 

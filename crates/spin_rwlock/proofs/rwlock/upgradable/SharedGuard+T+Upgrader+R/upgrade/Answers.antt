@@ -5,4 +5,6 @@ use Rattle.spin_rwlock.specs.RwPasses.{Grants}
 use Rattle.spin_rwlock.proofs.rwlock.upgradable.SharedGuard+T+Upgrader+R.upgrade.Goals as goal
 
 pub returns-clause-made : goal.returns-clause-made
-returns-clause-made g c = let r = c.raise_waiting in (r.result.1, subst (λ s. Grants Upgrade (spot s) r.result.0 r.result.1) c.into_session.ensures.same r.ensures.made)
+returns-clause-made g c =
+    let from = c.into_session-session in let w = c.wait_for-session.ensures in
+    subst (λ s. Grants Upgrade (spot s) c.written.result) from.ensures.same (c.written.ensures.grants w.last Upgrade (spot from.result) w.calls)

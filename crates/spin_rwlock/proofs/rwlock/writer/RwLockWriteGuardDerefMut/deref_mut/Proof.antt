@@ -85,7 +85,7 @@ module _ (ℓ : NamedLft) (T S : RattleType) (LT : Laws T) (LS : Laws S) where
   Pen = Permit.the_row ℓ R Party (F.the_row R) (Key R) (Second R) (ghosts R)
 
   abbrev pub put : G.Denot → Pen.Denot → G.Denot
-  put h p = record { writer = p; strategy = h.strategy }
+  put h p = record { writer = p; seen = h.seen; strategy = h.strategy }
 
   module _ {M : Type 1} {𝓤 : Ura M} (𝓛 : Logic 𝓤) where
     pub hands : (h : G.Denot) → HandsTo 𝓛 G Pen (λ o. o + 0) h h.writer (put h)

@@ -1,8 +1,7 @@
 use Rattle.std.proofs.Common.{subst}
 use Rattle.spin_step.specs.declared.answer.Answer.TheVariants.{Is}
-use Rattle.spin_step.specs.declared.ticket_calls.TicketCall.TheVariants.{IsLocked}
 use Rattle.spin_session.specs.Turns.{spot}
-use Rattle.spin_ticket.specs.TicketPasses.{Calls}
+use Rattle.spin_ticket.specs.TicketPasses.{Calls, IsLocked}
 use Rattle.spin_ticket.proofs.ticket.pass.Pass.is_locked.Goals as goal
 
 pub returns : goal.returns

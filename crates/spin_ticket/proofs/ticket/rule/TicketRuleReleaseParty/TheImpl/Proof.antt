@@ -6,8 +6,9 @@ use denote.Param.{layouts}
 use denote.Triple.Spec.{triple_of}
 use denote.Triple.Table.{widened}
 use Rattle.spin_core.proofs.Released.{released}
+use Rattle.spin_core.proofs.TieLaws.{opened}
 use Rattle.spin_ticket.specs.contracts.ticket.rule.TicketRule as F
-use Rattle.spin_ticket.proofs.Rows.{Party, Key, Second}
+use Rattle.spin_ticket.proofs.Rows.{Party, Second}
 use Rattle.spin_ticket.specs.contracts.ticket.rule.TicketRuleRuleParty.TheImpl as rule
 use Rattle.spin_ticket.specs.contracts.ticket.rule.TicketRuleUsesParty.TheImpl as uses
 use Rattle.spin_ticket.proofs.ticket.rule.TicketRuleRuleParty.TheImpl.Met as rule_met
@@ -23,6 +24,6 @@ bound γ wired T LT M 𝓤 𝓛 𝓜 𝓡 = let at = layouts (a_type ∷ []) (T,
   same = same-law T;
   Self-Key-lives = (rule_met.bound γ T LT M 𝓤 𝓛 𝓜 𝓡).Self-Key-lives;
   Self-Second-lives = (rule_met.bound γ T LT M 𝓤 𝓛 𝓜 𝓡).Self-Second-lives;
-  release = released F.the_row Party (Key T) (Second T) T (rule.ghosts T) 𝓛 𝓜 𝓡 (γ called) (block.ghosts T) uses.ghosts (block.dict T) (rule.dict T) uses.dict
+  release = released F.the_row Party (opened T) (Second T) T (rule.ghosts T) 𝓛 𝓜 𝓡 (γ called) (block.ghosts T) uses.ghosts (block.dict T) (rule.dict T) uses.dict
       (widened 𝓤 𝓛.H (triple_of 𝓛 (own.signature T) (own.spec T 𝓛 𝓜.mem 𝓡.returns)) 𝓜 𝓡 γ (γ (name at)) (γ called) (as_method γ wired called refl) (met 𝓤 𝓛 𝓜 (within 𝓤 𝓛.H 𝓜 𝓡 γ) wired T LT));
 }

@@ -1,6 +1,0 @@
-//! The mutexes. Each has to pass the same tests.
-pub mod fair;
-pub mod patience;
-pub mod threads;
-mod ticket;
-mod values;

@@ -1,0 +1,74 @@
+-- What a pass of a `Once` or a `LazyLock` knows, and what its calls do. A pass in a contract is its place: what was fixed when its lock was
+-- made, its party, and all moves in the lock, at least up to the party's last step.
+use Rattle.std.specs.Prelude.{◌≡◌, ◌⊎◌, ℕ, true, Option, List, Result, Ok, Err}
+use Rattle.spin_core.specs.Logs.{KnowsBoth}
+use Rattle.spin_core.specs.Own.{Numbered}
+use Rattle.spin_core.specs.Passes.{IsCall}
+use Rattle.spin_step.specs.declared.answer.Answer.{Answer}
+use Rattle.spin_step.specs.declared.answer.Answer.TheVariants.{Value}
+use Rattle.spin_step.specs.declared.once_calls.OnceCall.TheVariants.{TryCallOnceOk}
+pub use Rattle.spin_session.specs.Passes.{◌⨾◌}
+use Rattle.spin_once.specs.Accounts.{Place, Since}
+pub use Rattle.spin_once.specs.Accounts.{Has, WroteNone, found_or_none, new_in}
+pub use Rattle.spin_once.specs.OnceValues.{OpensWith}
+use Rattle.spin_once.specs.OnceValues.{Valued, Made, bare, given_of}
+use Rattle.spin_once.specs.Once.{Call, View, IsFailedCall}
+use Rattle.spin_once.specs.declared.once_core.rule.Key.{Key}
+
+-- no value is given by a call without a closure
+abbrev pub Never : {T : Type 0} → T → Type 0
+Never value = ⊥
+
+module _ {T S : Type 0} where
+  -- all moves in the lock that the pass knows
+  abbrev pub history : Place T S → List (Valued T)
+  history pass = pass.2.entries
+
+  -- the same moves without the values, as the model has them
+  abbrev pub schedule : Place T S → List Made
+  schedule pass = bare (history pass)
+
+  -- the name of the history of the pass's lock
+  abbrev pub lock_of : Place T S → ℕ
+  lock_of pass = pass.2.name
+
+  -- what was fixed when the pass's lock was made
+  abbrev pub opening_of : Place T S → Key T S
+  opening_of pass = pass.0
+
+  -- the lock's owner has not borrowed the value
+  abbrev pub TellsValue : Place T S → Type 0
+  TellsValue pass = pass.0.opening.told ≡ true
+
+  -- whether the lock of a pass was made with a value
+  abbrev pub given : Place T S → Option (Unit {0})
+  given pass = given_of pass.0.opening.value
+
+  -- the party of the pass; there is none before its first call
+  abbrev pub party : Place T S → Option (Numbered View)
+  party pass = pass.1
+
+  -- the two passes are of one lock
+  abbrev pub AreOfOne : Place T S → Place T S → Type 0
+  AreOfOne mine other = (opening_of mine ≡ opening_of other) × (lock_of mine ≡ lock_of other)
+
+  -- The pass at `now` is the one at `before`. It also knows what the pass at `earlier` knows: the longer of the two histories.
+  abbrev pub After : Place T S → Place T S → Place T S → Type 0
+  After earlier before now = (now.0 ≡ before.0) × (now.1 ≡ before.1) × (lock_of now ≡ lock_of before) × KnowsBoth (history before) (history earlier) (history now)
+
+  -- from `before` to `now` the pass has made exactly this call, with this answer
+  abbrev pub Calls : Call → Answer (Unit {0}) → Place T S → Place T S → Type 0
+  Calls call answer before now = Since before (IsCall call answer) now
+
+  -- From `before` to `now` the pass has made one call with a closure that may fail. Either the call got the value, or its closure failed.
+  abbrev pub Tried : {X E : Type 0} → Result X E → Place T S → Place T S → Type 0
+  Tried (Ok value) before now = Calls (TryCallOnceOk tt) (Value tt) before now
+  Tried (Err e) before now = Since before IsFailedCall now
+
+  -- The pass has made this call, and has got this value, the only one in the history. If the pass wrote it in this call, it satisfies Q.
+  abbrev pub Gets : Call → (T → Type 0) → Place T S → T → Place T S → Type 0
+  Gets call Q before value now = Calls call (Value tt) before now × Has now value × (Q value ⊎ WroteNone before now)
+
+  -- a party at `before` has made this call, and has got this value
+  abbrev pub Gives : Call → (T → Type 0) → Place T S → T → Type 0
+  Gives call Q before value = (now : Place T S) × Gets call Q before value now
