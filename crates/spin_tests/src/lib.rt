@@ -3,6 +3,8 @@
 #![tactic(auto)]
 
 #[cfg(test)]
+mod agreed;
+#[cfg(test)]
 mod barrier;
 #[cfg(test)]
 mod barrier_kept;
