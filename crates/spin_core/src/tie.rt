@@ -36,11 +36,7 @@ impl<T> Opening<T> {
     pub const fn of<E, S>(trace: &Trace<E, S>, value: &T) -> Opening<T>
         ensures { (result.name ≡ trace.now.name) × (result.value ≡ value.now) × (result.told ≡ true) × (result.start ≡ 0) }
     {
-        let _ = trace;
-        let _ = value;
-        Opening {
-            marker: PhantomData,
-        }
+        Opening::starting_at(trace, value, &0)
     }
 
     /// Returns the opening of a lock with this trace and this value, whose words open with the number `start`.

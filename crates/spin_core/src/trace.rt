@@ -88,9 +88,7 @@ impl<E> Watch<E> {
     pub fn copy(&self) -> Watch<E>
         ensures { (result.name ≡ self.now.name) × (result.entries ≡ self.now.entries) }
     {
-        Watch {
-            marker: PhantomData,
-        }
+        self.later(self)
     }
 
     /// Returns a watch under the name that the caller chooses. It knows what this watch knows if this is its name too,
@@ -124,7 +122,9 @@ impl<E> Watch<E> {
     pub fn compare(&self, other: &Watch<E>)
         requires { self.now.name ≡ other.now.name }
         ensures { IsPrefix self.now.entries other.now.entries ⊎ IsPrefix other.now.entries self.now.entries }
-    {}
+    {
+        let _ = self.later(other);
+    }
 }
 
 impl<E, S> Drop for Trace<E, S> {
