@@ -21,13 +21,11 @@ pub mod CellWatchWalks
 pub mod CellTurns
 pub mod CellWays
 pub mod CellThrough
-pub mod CellViews
 pub mod Released
 pub mod TracePrefixes
 pub mod TraceSteps
 pub mod TraceTokens
 pub mod TraceWord
-pub mod TraceQuiet
 pub mod TraceWalk
 pub mod Runs
 pub mod Owns

@@ -212,10 +212,6 @@ module _ {X V S : Type 0} (holds : ℕ → S → List V → Type 0) (ways : Ways
   abbrev pub AllowsAt : Option V → Option X → (ℕ → ℕ) → (ℕ → V → Type 0) → Type 0
   AllowsAt view shown f then = AllowsTo view shown (by_first f) then
 
-  -- the same if the party is shown no value, as in the ways `alone` and `lends`
-  abbrev pub Allows : Option V → (ℕ → ℕ) → (ℕ → V → Type 0) → Type 0
-  Allows view f then = AllowsAt view None f then
-
 -- Where the rule held under the old key it holds under the new one. Each view uses the value as under the old key.
 -- Several parties may share the value only if they might do so under the old key.
 module _ {X V S : Type 0} (holds : ℕ → S → List V → Type 0) (ways : Ways X V S) (holds' : ℕ → S → List V → Type 0) (ways' : Ways X V S) where

@@ -28,10 +28,6 @@ Ending V = Outcome (Answer V) V
 abbrev pub Says : (V C A X : Type 0) → Type 1
 Says V C A X = List (Move C V) → List (Outcome A V) → ℕ → X → Type 0
 
--- a relation between what a party had before and what it has now: its view, and the entries that it knows
-abbrev pub Between : (V C X : Type 0) → Type 1
-Between V C X = Option (Numbered X) → List (Entry C V) → Option (Numbered X) → List (Entry C V) → Type 0
-
 -- which moves a party makes, and their outcomes
 abbrev pub Course : (V C A : Type 0) → Type 1
 Course V C A = List (Move C V) → List (Outcome A V) → Type 0

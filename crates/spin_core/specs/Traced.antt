@@ -57,11 +57,3 @@ module _ {X V E S : Type 0} (holds : ℕ → Trace E S → List V → Type 0) (w
 module _ {X V E : Type 0} (holds : ℕ → Trace E ℕ → List V → Type 0) (ways : Ways X V (Trace E ℕ)) where
   abbrev pub TracesSecond : Option V → Option X → (ℕ → ℕ) → (List E → List E → ℕ → V → Type 0) → Type 0
   TracesSecond view shown f told = TracesTo holds ways view shown (by_second f) told
-
--- A lock that does not use its trace: its rule ignores the trace, and its steps append nothing.
-module _ {V E : Type 0} where
-  abbrev pub Untraced : {S : Type 0} → (ℕ → S → List V → Type 0) → ℕ → Trace E S → List V → Type 0
-  Untraced holds n t vs = holds n t.word vs
-
-  abbrev pub quiet : (ℕ → V → Type 0) → List E → List E → ℕ → V → Type 0
-  quiet then log es n v = (es ≡ []) × then n v

@@ -45,6 +45,4 @@ mod sends;
 #[cfg(test)]
 mod settings;
 #[cfg(test)]
-mod small;
-#[cfg(test)]
 mod waiting;

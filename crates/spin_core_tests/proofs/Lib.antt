@@ -1,4 +1,0 @@
-pub mod Bystanders
-pub mod Making
-pub mod Sharing
-pub mod Writing

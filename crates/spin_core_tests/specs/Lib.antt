@@ -1,4 +1,0 @@
-pub mod Bystanders
-pub mod Once
-pub mod Pair
-pub mod Written
