@@ -33,7 +33,7 @@ use Rattle.spin_core.proofs.CellTurns as value
 use Rattle.spin_core.proofs.CellWays.{going_rest, going_map, carrying_rest, carrying_carries, learnt_of}
 use Rattle.spin_core.proofs.Signs.{signs}
 use Rattle.spin_core.proofs.WalkSteps.{knows}
-use Rattle.spin_core.proofs.TraceSteps.{appends, observes_whole, shows_whole}
+use Rattle.spin_core.proofs.TraceSteps.{appends, observes, shows as told_of}
 use Rattle.spin_core.proofs.TraceWord.{beside, with, Takes, word_apart}
 use Rattle.spin_core.proofs.Lemmas.{script, lemma, cite, updates, renew, settled}
 
@@ -59,7 +59,7 @@ module _ {M : Type 1} {𝓤 : Ura M} (𝓛 : Logic 𝓤) (Er Ur : RattleType) wh
   knew : (γ : ℕ) (k : List E) (m : Trace E U) → (k ≡ []) ⊎ (m.name ≡ γ) → ‵ (Log m) ⊛ ‵ (Known γ k) ⊩ given (IsPrefix k m.entries) (‵ (Log m))
   knew γ k m (inl none) = script ∵ move ! (1 ∷ []) $ drop ! $ check ! (rw none (m.entries, refl)) $ done !
   knew γ k m (inr is) = script ∵ rewrite ! 1 (λ (z : ℕ). ‵ (Known z k)) (sym is) refl $
-      cite _ (observes_whole 𝓛 Er.coded m.name m.entries k) $
+      cite _ (observes 𝓛 Er.coded m.name full_share m.entries k) $
       learn ! (λ p. check ! p $ split ! $ move ! (1 ∷ []) $ drop ! $ done !)
 
   -- a trace in memory grows; then the watch knows all of it
@@ -70,7 +70,7 @@ module _ {M : Type 1} {𝓤 : Ura M} (𝓛 : Logic 𝓤) (Er Ur : RattleType) wh
       let To : Item 𝓤 = given (IsPrefix k m.entries) (‵ (part_at S full_share m' b e) ⊛ ‵ Now) in updates ∵
       fpick ! (λ vs. fsplit ! $ move ! (1 ∷ []) $ fsplit ! $ move ! (1 ∷ 3 ∷ []) $ cite _ (knew γ k m may) $
       learn ! (λ p. renew To _ (appends 𝓛 Er.coded m.name m.entries es) $ settled ! _ $ check ! p $
-      cite _ (shows_whole 𝓛 Er.coded m.name (m.entries ++ es)) $ move ! (2 ∷ 0 ∷ []) $ fjoin ! $ move ! (2 ∷ 0 ∷ []) $
+      cite _ (told_of 𝓛 Er.coded m.name full_share (m.entries ++ es)) $ move ! (2 ∷ 0 ∷ []) $ fjoin ! $ move ! (2 ∷ 0 ∷ []) $
       fjoin ! $ fpack ! (List Val) (λ us. fsep (cell_at full_share S.mir us b e) (S.own_val m' us)) vs $ done !))
 
   module _ (R : RattleType) (L : RowLaws R) (b o : ℕ) (t : Id) {V : Type 0} (cv : Coded V) (holds : ℕ → Trace E U → List V → Type 0)

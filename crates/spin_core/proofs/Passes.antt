@@ -80,34 +80,12 @@ module _ {W V C L A : Type 0} (m : Machine W V C L A) where
         let same : q ≡ p = one_number p q v is may'.0 in
         (p, may, rw same at is', own ++ own', outs ++ outs', did_both p a b c own own' outs outs' did (rw same at did'), joins own own' outs outs' so so')
 
-  module _ {X S : Type 0} (seat_of : X → Seat C L) (words_of : W → ℕ × S) where
-    -- What a step tells a party that knew all entries up to its last step, and perhaps more: the party's moves, and that
-    -- it now knows all entries up to this step.
-    pub learns : (says : Says V C A X) (named : Type 0) (view : Option (Numbered X)) (before now : Watch (Entry C V)) (n : ℕ) (v : Numbered X)
-        → mark_of view ≤ length before.entries → Watches named before now (Tells m seat_of words_of says view) n v
-        → Made m view before.entries (Some v) now.entries (λ own outs. says own outs n v.0) × (mark_of (Some v) ≡ length now.entries)
-    learns says named view before now n v knew (same, (log, es, known, is, (own, outs, es_is, mark, none, mine, said))) =
-        let p : ℕ = v.1 in let old : Schedule = before.entries in let (between, here) = known in
-        let steps : Schedule = by_party p own in let whole = append_assoc old between steps in
-        -- the party has made no entry after its last step, neither in `old` nor since it knew `old`
-        let mine_before : List (Entry C V) = entries_by p (drop (mark_of view) old) in
-        let since : entries_by p (drop (mark_of view) (old ++ between)) ≡ [] = rw (here) none.1 in
-        let none_in : mine_before ++ entries_by p between ≡ [] = rw (← filter-append, ← drop-append-le (mark_of view) old between knew) since in
-        let apart : entries_by p between ≡ [] = none_behind mine_before (entries_by p between) none_in in
-        let came : (k : ℕ) → outcomes_by m p (after m (at_first m (mine.1 + k)) old) (between ++ steps) ≡ outs = λ k.
-        let start : State W V C L = at_first m (mine.1 + k) in
-        came_both p start old between steps [] outs (by-others p between apart (after m start old))
-        (rw (here, by-own p (after m start log) own, ← es_is) (mine.4 k)) in
-        let its : entries_by p (between ++ steps) ≡ steps = rw (filter-append, apart, by_of p p own, eq-eqb p p refl) in
-        let did : Did m p old now.entries own outs = (between ++ steps, mine.1, cc (whole), its, rw is mine.3, came) in
-        ((p, (none.0, none_before mine_before (entries_by p between) none_in), refl, own, outs, did, said), mark ∙ ap length (sym is))
-
 -- the rule says that the trace has this name
 pub may_know : {E S V R : Type 0} (holds : ℕ → Trace E S → List V → Type 0) (ways : Ways R V (Trace E S)) (name : ℕ) → ((n : ℕ) (t : Trace E S) (vs : List V) → holds n t vs → t.name ≡ name) → (known : ℕ) → name ≡ known → Named holds ways known
 may_know holds ways name says known same n t vs meets = says n t vs meets.0 ∙ same
 
--- What a step tells a party that knew all entries up to its last step: the party's course and its next view; that it
--- now knows all entries up to this step; and that its watch keeps the name.
+-- What a step tells a party that knew all entries up to its last step, and perhaps more: the party's course and its next
+-- view; that it now knows all entries up to this step; and that its watch keeps the name.
 pub record Learnt {W V C L A X : Type 0} (m : Machine W V C L A) (view view' : Option (Numbered X)) (before now : Watch (Entry C V)) (to : X) (course : Course V C A) : Type 0 where
   pub made : Made m view before.entries view' now.entries course
   pub knows : mark_of view' ≡ length now.entries
@@ -119,9 +97,26 @@ module _ {W V C L A X S : Type 0} (m : Machine W V C L A) (seat_of : X → Seat 
       → (named : Type 0) → named → (view view' : Option (Numbered X)) (before now : Watch (Entry C V)) (found : ℕ) → mark_of view ≤ length before.entries
       → Moved (Watches named before now (Tells m seat_of words_of says view) found) view' → Learnt m view view' before now (to found) (course found)
   learnt says to course means named is_named view None before now found knew moved = absurd moved
-  learnt says to course means named is_named view (Some v) before now found knew moved =
-      let all = learns m seat_of words_of says named view before now found v knew moved in let (p, may, is, own, outs, did, said) = all.0 in let so = means own outs found v.0 said in
-      record { made = (p, may, is, own, outs, did, so.1); knows = all.1; is = ap Some so.0; named = moved.0 is_named }
+  learnt says to course means named is_named view (Some v) before now found knew (same, (log, es, known, is, (own, outs, es_is, mark, none, mine, said))) =
+      let p : ℕ = v.1 in let old : List (Entry C V) = before.entries in let (between, here) = known in
+      let steps : List (Entry C V) = by_party p own in let whole = append_assoc old between steps in
+      -- the party has made no entry after its last step, neither in `old` nor since it knew `old`
+      let mine_before : List (Entry C V) = entries_by p (drop (mark_of view) old) in
+      let since : entries_by p (drop (mark_of view) (old ++ between)) ≡ [] = rw (here) none.1 in
+      let none_in : mine_before ++ entries_by p between ≡ [] = rw (← filter-append, ← drop-append-le (mark_of view) old between knew) since in
+      let apart : entries_by p between ≡ [] = none_behind mine_before (entries_by p between) none_in in
+      let came : (k : ℕ) → outcomes_by m p (after m (at_first m (mine.1 + k)) old) (between ++ steps) ≡ outs = λ k.
+      let start : State W V C L = at_first m (mine.1 + k) in
+      came_both m p start old between steps [] outs (by-others m p between apart (after m start old))
+      (rw (here, by-own m p (after m start log) own, ← es_is) (mine.4 k)) in
+      let its : entries_by p (between ++ steps) ≡ steps = rw (filter-append, apart, by_of p p own, eq-eqb p p refl) in
+      let did : Did m p old now.entries own outs = (between ++ steps, mine.1, cc (whole), its, rw is mine.3, came) in
+      let so = means own outs found v.0 said in record {
+        made = (p, (none.0, none_before mine_before (entries_by p between) none_in), refl, own, outs, did, so.1);
+        knows = mark ∙ ap length (sym is);
+        is = ap Some so.0;
+        named = same is_named;
+      }
 
 -- How one course of a call follows another.
 

@@ -25,11 +25,6 @@ module _ {K W V C L A X S : Type 0} (model : K → Machine W V C L A) (seat_of :
       let told = passes.learnt (model p.0) seat_of words_of says to course means named is_named p.1 q.1 p.2 q.2 found knew moved in
       ((told.made, told.named, same), told.is)
 
-  pub stepped : {named : Type 0} → named → (found : ℕ) (goes_on : Bool) (c : C) (end : ℕ → Outcome A V) (to : ℕ → X)
-      → Moved (Watches named p.2 q.2 (Tells (model p.0) seat_of words_of (step_by goes_on c end to) p.1) found) q.1
-      → Stepped model goes_on c (end found) (to found) p q
-  stepped is_named found goes_on c end to = took is_named found (step_by goes_on c end to) to (λ n. IsStep goes_on c (end n)) (λ own outs n v said. said)
-
 module _ {K W V C L A X : Type 0} (model : K → Machine W V C L A) (p q : Spot K X (Entry C V)) where
   pub weaker : (P Q : Course V C A) → ((own : List (Move C V)) (outs : List (Outcome A V)) → P own outs → Q own outs) → Since model P p q → Since model Q p q
   weaker P Q so (made, named, same) = (passes.weaker (model p.0) p.1 q.1 p.2.entries q.2.entries P Q so made, named, same)

@@ -85,13 +85,6 @@ module _ {M : Type 1} {𝓤 : Ura M} (𝓛 : Logic 𝓤) where
         script ∵ use2 𝓛 (given (IsPrefix (map cv.code k) (map cv.code l)) (‵ top ⊛ ‵ had)) (latest_bounds logs 𝓛 q γ (map cv.code l) (map cv.code k)) $
         learn ! (λ p. check ! (prefix_uncoded cv k l p) $ split ! $ keep ! (0 ∷ []) $ cite _ (shows q l) $ done !)
 
-    -- the owner of the whole right learns that what a watch knows is a prefix of the log
-    pub observes_whole : (l k : List T) → ‵ (Log l) ⊛ ‵ (Known k) ⊩ given (IsPrefix k l) (‵ (Log l) ⊛ ‵ (Known l))
-    observes_whole l k = observes full_share l k
-
-    pub shows_whole : (l : List T) → ‵ (Log l) ⊩ ‵ (Log l) ⊛ ‵ (Known l)
-    shows_whole l = shows full_share l
-
     -- two owners of shares of one right agree on the log
     pub same_log : (q r : Share) (l k : List T) → ‵ (Right l q) ⊛ ‵ (Right k r) ⊩ given (l ≡ k) (‵ (Right l q) ⊛ ‵ (Right k r))
     same_log q r l k = let a = map cv.code l in let b = map cv.code k in let x : Fml = Right l q in let y : Fml = Right k r in

@@ -55,11 +55,7 @@ module _ {C V : Type 0} where
       pub read_last : {S : Type 0} → Tells S → u ≡ reads → u' ≡ off → IfSome before Last
       read_last learnt is is' = rw (is, is') at (learns learnt)
 
-      -- A party that begins to use the value finds the value written last. When a party stops writing, the value that
-      -- it leaves is the value written last.
-      pub found : {S : Type 0} (x : V) → Tells S → u ≡ off → after ≡ Some x → Last x
-      found x learnt is some = rw (is, some) at (learns learnt)
-
+      -- when a party stops writing, the value that it leaves is the value written last
       pub gave : {S : Type 0} (x : V) → Tells S → u ≡ writes → u' ≡ off → before ≡ Some x → Last x
       gave x learnt is is' some = rw (is, is', some) at (learns learnt)
 
