@@ -22,13 +22,9 @@ use Rattle.spin_core.specs.declared.trace.Trace.{Trace}
 use Rattle.spin_step.proofs.Schedules.{after-append}
 use Rattle.spin_core.proofs.Owns.{by_of}
 
-none_before : {X : Type 0} (xs ys : List X) → xs ++ ys ≡ [] → xs ≡ []
-none_before [] ys none = refl
-none_before (x ∷ xs) ys none = absurd (cc none)
-
-none_behind : {X : Type 0} (xs ys : List X) → xs ++ ys ≡ [] → ys ≡ []
-none_behind [] ys none = none
-none_behind (x ∷ xs) ys none = absurd (cc none)
+both_empty : {X : Type 0} (xs ys : List X) → xs ++ ys ≡ [] → (xs ≡ []) × (ys ≡ [])
+both_empty [] ys none = (refl, none)
+both_empty (x ∷ xs) ys none = absurd (cc none)
 
 -- a party with a view has one number
 pub one_number : {X : Type 0} (p q : ℕ) (view : Option (Numbered X)) → IsNumber p view → MayBe q view → q ≡ p
@@ -103,8 +99,8 @@ module _ {W V C L A X S : Type 0} (m : Machine W V C L A) (seat_of : X → Seat 
       -- the party has made no entry after its last step, neither in `old` nor since it knew `old`
       let mine_before : List (Entry C V) = entries_by p (drop (mark_of view) old) in
       let since : entries_by p (drop (mark_of view) (old ++ between)) ≡ [] = rw (here) none.1 in
-      let none_in : mine_before ++ entries_by p between ≡ [] = rw (← filter-append, ← drop-append-le (mark_of view) old between knew) since in
-      let apart : entries_by p between ≡ [] = none_behind mine_before (entries_by p between) none_in in
+      let (none_before, apart) = both_empty mine_before (entries_by p between)
+      (rw (← filter-append, ← drop-append-le (mark_of view) old between knew) since) in
       let came : (k : ℕ) → outcomes_by m p (after m (at_first m (mine.1 + k)) old) (between ++ steps) ≡ outs = λ k.
       let start : State W V C L = at_first m (mine.1 + k) in
       came_both m p start old between steps [] outs (by-others m p between apart (after m start old))
@@ -112,7 +108,7 @@ module _ {W V C L A X S : Type 0} (m : Machine W V C L A) (seat_of : X → Seat 
       let its : entries_by p (between ++ steps) ≡ steps = rw (filter-append, apart, by_of p p own, eq-eqb p p refl) in
       let did : Did m p old now.entries own outs = (between ++ steps, mine.1, cc (whole), its, rw is mine.3, came) in
       let so = means own outs found v.0 said in record {
-        made = (p, (none.0, none_before mine_before (entries_by p between) none_in), refl, own, outs, did, so.1);
+        made = (p, (none.0, none_before), refl, own, outs, did, so.1);
         knows = mark ∙ ap length (sym is);
         is = ap Some so.0;
         named = same is_named;
