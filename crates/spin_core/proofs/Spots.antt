@@ -1,9 +1,9 @@
 -- What a step tells a party that knows the lock's history, and what follows from all steps of a call.
-use Rattle.std.proofs.Common.{◌≡◌, ◌≤◌, ℕ, Bool, true, false, Some, None, List, [], ◌∷◌, length, refl, ◌∙◌}
+use Rattle.std.proofs.Common.{◌≡◌, ◌≤◌, ℕ, true, false, Some, None, List, [], ◌∷◌, length, refl, ◌∙◌}
 use Rattle.spin_core.specs.Cell.{Moved}
 use Rattle.spin_core.specs.Own.{Tells, what}
-use Rattle.spin_core.specs.Passes.{Course, Says, IsStep, IsCall, Begins, Waits, Ends, step_by, mark_of}
-use Rattle.spin_core.specs.Spots.{Spot, Since, Stepped, IsIn, HasCalled}
+use Rattle.spin_core.specs.Passes.{Course, Says, IsStep, IsCall, Begins, Waits, Ends, mark_of}
+use Rattle.spin_core.specs.Spots.{Spot, Since, IsIn, HasCalled}
 use Rattle.spin_core.specs.Traced.{Watches}
 use Rattle.spin_core.proofs.Passes as passes
 use Rattle.spin_core.proofs.Passes.{Joins}

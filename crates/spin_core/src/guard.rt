@@ -140,7 +140,11 @@ impl<'a, T, V, E, P: Release<T, V>, R> Held<'a, T, V, E, P, R> {
         ensures value { Some (guard_value result) ≡ held_value self.entry }
         ensures party { (Some (guard_view result) ≡ held_view self.entry) × (guard_key result ≡ held_key self.entry) × (guard_seen result ≡ held_seen self.entry) }
     {
-        let (permit, seen) = self.into_parts();
+        let Self {
+            permit,
+            seen,
+            strategy: _,
+        } = self;
         Guard::new(permit.into_writer(), seen)
     }
 
@@ -149,20 +153,7 @@ impl<'a, T, V, E, P: Release<T, V>, R> Held<'a, T, V, E, P, R> {
     /// # Contract
     /// Only that the call returns.
     pub fn release(self) {
-        let (permit, _) = self.into_parts();
-        let _left = P::release(permit.into_writer());
-    }
-
-    fn into_parts(self) -> (Permit<'a, T, V, P>, Watch<E>)
-        ensures writes { use_of (P.ways result.0.key).1 result.0.view ≡ writes }
-        ensures same { (result.0 ≡ self.entry.permit) × (result.1 ≡ held_seen self.entry) }
-    {
-        let Self {
-            permit,
-            seen,
-            strategy: _,
-        } = self;
-        (permit, seen)
+        drop(self.into_guard());
     }
 }
 
@@ -207,8 +198,7 @@ impl<T, V, E, P: Release<T, V>, R> Drop for Guard<'_, T, V, E, P, R> {
 
 impl<T, V, E, P: Release<T, V>, R> Drop for Held<'_, T, V, E, P, R> {
     fn drop(self) {
-        let (permit, _) = self.into_parts();
-        permit.leak();
+        Guard::leak(self.into_guard());
     }
 }
 
