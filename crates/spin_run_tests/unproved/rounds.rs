@@ -1,5 +1,5 @@
-//! Schedules in rounds. Each satisfies the premises of a law of `spin_world_progress`, and reaches the bound of this
-//! law. Begin with [`in_rounds`].
+//! Schedules in rounds. Each satisfies the premises of a law of `spin_laws`, and reaches the bound of this law. Begin
+//! with [`in_rounds`].
 
 use super::objects::OfHeader;
 use super::rows::world;

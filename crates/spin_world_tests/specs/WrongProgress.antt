@@ -17,7 +17,7 @@ use Rattle.spin_step.specs.declared.ticket_calls.TicketWords.{TicketWords}
 use Rattle.spin_step.specs.declared.answer.Answer.TheVariants.{Done}
 use Rattle.spin_step.specs.declared.stepped.Next.TheVariants.{Continue, Answers}
 use Rattle.spin_step.specs.declared.table.Operation.TheVariants as op
-use Rattle.spin_world_progress.specs.Ticket.{TicketMachine}
+use Rattle.spin_laws.specs.Ticket.{TicketMachine}
 use Rattle.spin_step.specs.declared.flag_calls.FlagCall.TheVariants as flag
 use Rattle.spin_step.specs.declared.flag_calls.FlagPoint.TheVariants as flag_point
 use Rattle.spin_step.specs.FlagCalls as flags

@@ -1,8 +1,8 @@
 //! Each function here states that a wrong lock breaks a law of progress on a named schedule. So they show what the laws
 //! keep out. Begin with [`a_waiting_party_looks_again`].
-ghost use Rattle.spin_world_progress.specs.Flag.{LocksInFour};
-ghost use Rattle.spin_world_progress.specs.Rw.{UpgradesInThree};
-ghost use Rattle.spin_world_progress.specs.Ticket.{EntersInRounds};
+ghost use Rattle.spin_laws.specs.Flag.{LocksInFour};
+ghost use Rattle.spin_laws.specs.Rw.{UpgradesInThree};
+ghost use Rattle.spin_laws.specs.Ticket.{EntersInRounds};
 ghost use Rattle.spin_world_tests.specs.WrongProgress.{never_looks, set_before_it, four_looks, serves_twice, one_before_it, four_turns, gives_up, asked, three_steps};
 
 /// A flag whose waiting party looks for ever after its exchange has failed, and never tries again. Nobody acquires the

@@ -3,7 +3,7 @@ use Rattle.std.proofs.lemmas.Bool.{false≢true}
 use Rattle.spin_step.specs.declared.flag_calls.FlagCall.TheVariants.{Lock}
 use Rattle.spin_step.specs.declared.flag_calls.FlagPoint.TheVariants.{First}
 use Rattle.spin_step.specs.Schedules.{after, at_first}
-use Rattle.spin_world_progress.proofs.Around.{rounds_are}
+use Rattle.spin_laws.proofs.Around.{rounds_are}
 use Rattle.spin_world_tests.specs.WrongProgress.{never_looks, set_before_it, four_looks}
 use Rattle.spin_world_tests.proofs.wrong.progress.a_waiting_party_looks_again.Goals as goal
 

@@ -4,7 +4,7 @@ use Rattle.spin_step.specs.declared.place.Hold.TheVariants.{Upgradable}
 use Rattle.spin_step_more.specs.declared.rw_calls.RwCall.TheVariants.{Upgrade}
 use Rattle.spin_step_more.specs.declared.rw_calls.RwPoint.TheVariants.{Asking}
 use Rattle.spin_step.specs.Schedules.{after, at_first}
-use Rattle.spin_world_progress.proofs.Around.{rounds_are}
+use Rattle.spin_laws.proofs.Around.{rounds_are}
 use Rattle.spin_world_tests.specs.WrongProgress.{gives_up, asked, three_steps}
 use Rattle.spin_world_tests.proofs.wrong.progress.an_upgrade_asks_until_it_is_granted.Goals as goal
 

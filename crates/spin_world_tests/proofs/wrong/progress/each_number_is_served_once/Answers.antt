@@ -3,7 +3,7 @@ use Rattle.std.proofs.lemmas.Bool.{false≢true}
 use Rattle.spin_step.specs.declared.ticket_calls.TicketCall.TheVariants.{Lock}
 use Rattle.spin_step.specs.declared.ticket_calls.TicketPoint.TheVariants.{Await}
 use Rattle.spin_step.specs.Schedules.{after, at_first}
-use Rattle.spin_world_progress.proofs.Around.{rounds_are}
+use Rattle.spin_laws.proofs.Around.{rounds_are}
 use Rattle.spin_world_tests.specs.WrongProgress.{serves_twice, one_before_it, four_turns}
 use Rattle.spin_world_tests.proofs.wrong.progress.each_number_is_served_once.Goals as goal
 

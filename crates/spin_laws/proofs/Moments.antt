@@ -1,0 +1,68 @@
+-- The moment of an answer. What the model's laws say of a state before a step of the call holds of a state of the
+-- history during the call.
+use Rattle.std.proofs.Common.{◌≡◌, ℕ, Bool, true, Option, List, subst, arith}
+use Rattle.std.specs.List.{All, list_any}
+use Rattle.std.proofs.lemmas.List.Folds.{Any-from_list_any}
+use Rattle.spin_step.specs.Plain.{Plain}
+use Rattle.spin_core.specs.Own.{Numbered}
+use Rattle.spin_step.specs.Calls.{HasMoment, Mark, moment}
+use Rattle.spin_step.specs.Calls as meaning
+use Rattle.spin_step.specs.Asks.{same}
+use Rattle.spin_step.specs.declared.place.Hold.{Hold}
+use Rattle.spin_step.specs.declared.schedule.Move.TheVariants.{Step}
+use Rattle.spin_step.specs.Acts.{Table}
+use Rattle.spin_step.specs.Machines.{Machine}
+use Rattle.spin_step.specs.Schedules.{Entry}
+use Rattle.spin_world_core.specs.Runs.{Seen, opening}
+use Rattle.spin_world_core.specs.Users.{seen_after}
+use Rattle.spin_world_core.proofs.Shapes.{Notes}
+use Rattle.spin_world_core.proofs.Steps.{played, Plays}
+use Rattle.spin_world_core.proofs.Shapes.{InCall}
+use Rattle.spin_world_core.proofs.Preserved.{in_call}
+use Rattle.spin_world_core.proofs.Every.{kept}
+use Rattle.spin_world_core.proofs.Reached.{good}
+use Rattle.spin_laws.specs.Moments.{AtAMoment, Found}
+use Rattle.spin_laws.proofs.Calls.{span_of, IsBetween, IsAnswered, Call, call_of}
+
+pub same_is : (there said : Bool) → same said there ≡ true → there ≡ said
+same_is there said is = grind (arith, is)
+
+-- some mark passes the test, and Q holds of this mark
+pick : (test : Mark → Bool) (Q : Mark → Type 0) (span : List Mark) → All Q span → list_any test span ≡ true → (mark : Mark) × (test mark ≡ true) × Q mark
+pick test Q span all some = let found = Any-from_list_any test span some in (found.1, found.4, subst Q found.3 (all found.0 found.1 found.2))
+
+module _ {W V C L A B : Type 0} {t : Table W V C L B} {by : Machine W V C L A} {k : Notes t} (facts : Plays by k) where
+  abbrev m : Machine W V C L A
+  m = played t by
+
+  module _ {c : C} {a : A} where
+    right : (p : ℕ) (start : Seen W V C L) (old new : List (Entry C V)) (h : Option Hold) (n : ℕ) (it : IsAnswered facts p start old new c h a n) → HasMoment (m.asks c h) (m.says a) p (span_of facts p it.seen)
+    right p start old new h n it = grind (arith, it.there, it.comes, (kept facts it.seen p Step it.fine).right)
+
+    -- By `says` the answer means that some state of the call passed this test. If Q follows from the test for a party
+    -- in this call, that state satisfied Q too.
+    module _ (test : ℕ → Plain → Bool) (says : (h : Option Hold) → (m.asks c h).answers (m.says a) ≡ meaning.found test) where
+      right_so : (p : ℕ) (h : Option Hold) (span : List Mark) → HasMoment (m.asks c h) (m.says a) p span → list_any (λ mark. test p mark.before) span ≡ true
+      right_so p h span is = subst (λ what. moment what p span ≡ true) (says h) is
+
+      module _ {Q : Plain → Type 0}
+          (so : (p : ℕ) (l : L) (h : Option Hold) (seen : Seen W V C L) → InCall k p c l h seen.plain seen.state.words (seen.span p)
+          → test p seen.plain ≡ true → Q seen.plain) where
+        of_call : {X : Type 0} (view : Option (Numbered X)) (old new : List (Entry C V)) → Call facts c a view old new → AtAMoment m c view old new Q
+        of_call view old new call =
+            let it = call.answered in let p = call.party in let h = call.held in let start = opening m call.parties in
+            let (mark, found, (past, from, to, before, (l, there))) = pick (λ mark. test p mark.before) (IsBetween facts p start old new c h) (span_of facts p it.seen) it.span (right_so p h (span_of facts p it.seen) (right p start old new h call.steps it)) in
+            record {
+              party = p;
+              is_number = call.is_number;
+              parties = call.parties;
+              played = call.played;
+              moment = past;
+              behind = from;
+              before = to;
+              in_call = (l, h, there);
+              so = so p l h (seen_after m start past) (in_call facts p (good facts call.parties past) there) (subst (λ s. test p s ≡ true) before found);
+            }
+
+        pub found : {X : Type 0} → Found m X c a Q
+        found view now old new made = of_call now old new (call_of facts c a view now old new made)

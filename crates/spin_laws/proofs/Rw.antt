@@ -1,0 +1,139 @@
+-- A party that has asked to upgrade gets its upgrade in three rounds. All other readers leave within the first two
+-- rounds.
+use Rattle.spin_step.specs.Plain.{comes, given}
+use Rattle.spin_laws.proofs.Names.{Plays, seat_of, ◌≡◌, ℕ, ◌≤◌, ◌==◌, Bool, true, false, Option, Some, None, List, [], ◌∷◌, slice_get, refl, sym, ◌∙◌, arith, Plain, Kind, reading, upgradable, asking, writing, Holder, Change, gets, releases, turns, is_holder, with_kind, count_kind, weight, rw_word, entries, apply_some, IsOpenStep, IsExclusive, ◌-◌, ◌⊎◌, ◌||◌, filter, sum_by-cons, list_any, same_kind, without_holder, effect, apply, is_open, is_open_to, Ask, entries_after, entries-own, against, one_of, by_kinds, all_kinds, sum-less, Answer, Done, Hold, Seat, Calling, Next, Answers, Move, Step, Weak, Machine, after, at_first, goes_on, Seen, Scene, scene_at, opening, seen_after, get-set_same, eqb_self, Invariant, in_call, StandsSo, calls_so, RwCall, Upgrade, RwPoint, Asking, rw_machine, rw_notes, rw_facts, holder_by, Test, grants, refuses_weakly, UpgradesInThree, UpgradesAtLast}
+use Rattle.spin_step.proofs.Exclusive.{Lets, lets}
+use Rattle.spin_world.proofs.RwNames.{Entries, one_of_each, only_asking-word, Release}
+use Rattle.spin_step_more.proofs.Readers.{beside_asking}
+use Rattle.spin_step_more.proofs.Upgrading.{alone_when_gone}
+use Rattle.std.proofs.Common.{true≢false}
+use Rattle.spin_laws.proofs.Endless.{at_last}
+use Rattle.spin_step.specs.declared.place.Hold.TheVariants as hold
+use Rattle.spin_laws.proofs.Leaving as leaving
+
+-- While a party asks to upgrade, no other party begins to read.
+
+without_other : (q r : ℕ) (k : Kind) (hs : List Holder) → is_holder q reading hs ≡ false → is_holder q reading (without_holder r k hs) ≡ false
+without_other q r k [] none = none
+without_other q r k (h ∷ hs) none = grind (arith, none, without_other q r k hs)
+
+with_other : (q r : ℕ) (j k : Kind) (hs : List Holder) → same_kind reading k ≡ false → is_holder q reading hs ≡ false → is_holder q reading (with_kind r j k hs) ≡ false
+with_other q r j k [] other none = none
+with_other q r j k (h ∷ hs) other none = grind (arith, other, none, with_other q r j k hs)
+
+nobody_comes : (s : Plain) (p q : ℕ) (k : Kind) → IsExclusive s → is_holder p asking s.holders ≡ true → Lets s q (comes k) → ⊥
+nobody_comes s p q k alone found let_in = grind (arith, beside_asking s p alone found, all_kinds s.holders, by_kinds (against k) s.holders)
+
+none_gets : (s : Plain) (p q r : ℕ) (ask : Ask) → IsExclusive s → is_holder p asking s.holders ≡ true → is_holder q reading s.holders ≡ false → is_open_to s r ask ≡ true
+    → is_holder q reading (given s r (effect ask)).holders ≡ false
+none_gets s p q r ask alone asks none may =
+    grind (arith, none, lets s r ask may, nobody_comes s p r reading alone asks, nobody_comes s p r upgradable alone asks, nobody_comes s p r writing alone asks, with_other q r upgradable writing s.holders refl none, with_other q r asking writing s.holders refl none)
+
+not_reading : (s : Plain) (p q : ℕ) (c : Change) → IsExclusive s → is_holder p asking s.holders ≡ true → is_holder q reading s.holders ≡ false → is_open s c ≡ true → is_holder q reading (apply s c).holders ≡ false
+not_reading s p q (gets r ask) alone asks none may = none_gets s p q r ask alone asks none may
+not_reading s p q (releases r k) alone asks none may = without_other q r k s.holders none
+not_reading s p q (turns r j k) alone asks none may =
+    absurd (grind (arith, beside_asking s p alone asks, sum-less (one_of writing) r writing s.holders, sum-less (one_of upgradable) r upgradable s.holders, may))
+not_reading s p q _ alone asks none may = none
+
+not_reading_some : (s : Plain) (p q r : ℕ) (step : Option Change) → IsExclusive s → is_holder p asking s.holders ≡ true → is_holder q reading s.holders ≡ false → IsOpenStep s r step
+    → is_holder q reading (apply_some s step).holders ≡ false
+not_reading_some s p q r step alone asks none may = grind (arith, not_reading)
+
+no_readers : (hs : List Holder) → ((q : ℕ) → is_holder q reading hs ≡ false) → count_kind reading hs ≡ 0
+no_readers [] none = refl
+no_readers (h ∷ hs) none =
+    grind (arith, none h.party, eqb_self h.party, sum_by-cons (λ (g : Holder). one_of reading g.kind) h hs, no_readers hs (λ q. grind (arith, none q)))
+
+abbrev pub any_of : Kind → Entries → Bool
+any_of kind e = list_any (λ h. same_kind kind h.kind) e.holders
+
+pub any_own : (kind : Kind) (q : ℕ) (hs : List Holder) → list_any (λ h. same_kind kind h.kind) (filter (λ h. h.party == q) hs) ≡ is_holder q kind hs
+any_own kind q [] = refl
+any_own kind q (h ∷ hs) = grind (arith, any_own kind q hs)
+
+abbrev at_upgrade : RwPoint → Type 0
+at_upgrade Asking = Unit {0}
+at_upgrade _ = ⊥
+
+module _ {V : Type 0} (v : V) (cap : ℕ) where
+  abbrev m : Machine ℕ V RwCall RwPoint (Answer V)
+  m = rw_machine v cap
+
+  abbrev f : Plays m (rw_notes v cap)
+  f = rw_facts v cap
+
+  abbrev World : Type 0
+  World = Seen ℕ V RwCall RwPoint
+
+  module _ (p : ℕ) where
+    abbrev goal : Test V RwCall RwPoint (Answer V)
+    goal q move o x = grants m p q move o x || refuses_weakly p q move o x
+
+    weak : (seen : World) (next : Next RwPoint (Answer V)) → let n = goes_on seen.state p Upgrade (Some hold.Upgradable) next in goal p Weak n.outcome (slice_get n.next.seats p) ≡ true
+    weak seen next = grind (arith, eqb_self)
+
+    abbrev its : Option (Seat RwCall RwPoint)
+    its = Some (Calling Upgrade Asking (Some hold.Upgradable))
+
+    module _ (seen : World) (good : Invariant f seen) (there : seat_of seen p ≡ its) where
+      abbrev x : Scene ℕ V RwCall RwPoint (Answer V)
+      x = scene_at m seen p Step its
+
+      own : (b : Bool) → (seen.state.words == weight asking) ≡ b → (goal p Step x.outcome (seat_of x.after p) ≡ true) ⊎ ((seat_of x.after p ≡ its) × (b ≡ false))
+      own b is = grind (arith, eqb_self, get-set_same, there)
+
+      asks : is_holder p asking seen.plain.holders ≡ true
+      asks = holder_by p asking seen.plain (in_call f p good there).knows.0.stand
+
+      -- a step makes nobody a reader
+      no_reader : (q : ℕ) (step : Option Change) → any_of reading (entries q seen.plain) ≡ false → IsOpenStep seen.plain q step → any_of reading (entries_after seen.plain step (entries q seen.plain)) ≡ false
+      no_reader q step none opens = grind (arith, entries-own, any_own, not_reading_some, good, asks)
+
+      -- if nobody reads, the word is that of one reader that asks to upgrade
+      open_now : ((q : ℕ) → any_of reading (entries q seen.plain) ≡ false) → (seen.state.words == weight asking) ≡ true
+      open_now none =
+          let word : rw_word seen.plain ≡ seen.state.words = cc (good.encodes) in
+          let nobody : (q : ℕ) → is_holder q reading seen.plain.holders ≡ false = λ q. sym (any_own reading q seen.plain.holders) ∙ none q in
+          sym (only_asking-word seen.plain p seen.state.words (one_of_each seen.plain good.exclusive) asks word) ∙ (alone_when_gone seen.plain p good.exclusive asks).1 (no_readers seen.plain.holders nobody)
+
+    leaves : leaving.Leaves f goal p Upgrade (Some hold.Upgradable) at_upgrade (any_of reading) (λ l. 1) 1
+    leaves =
+        record {
+          none = refl;
+          not_its = λ l at so. grind (arith, at, so);
+          reads = λ q h is. grind (arith, is);
+          own = own_at;
+          weak = λ seen l next at may. weak seen next;
+          comes = comes_at;
+          releases = releases_at;
+          strong = λ q d i j next so may. grind (arith, so, may);
+          few = λ l. omega arith;
+          some = λ l. omega arith;
+        }
+      where
+        own_at : (seen : World) (l : RwPoint) → Invariant f seen → seat_of seen p ≡ Some (Calling Upgrade l (Some hold.Upgradable)) → at_upgrade l → let x = scene_at m seen p Step (Some (Calling Upgrade l (Some hold.Upgradable))) in
+            (goal p Step x.outcome (seat_of x.after p) ≡ true) ⊎ ((i : RwPoint) × (seat_of x.after p ≡ Some (Calling Upgrade i (Some hold.Upgradable))) × at_upgrade i × (((q : ℕ) → any_of reading (entries q seen.plain) ≡ false) → 1 ≤ 1 - 1))
+        own_at seen l good there at = grind (arith, true≢false, open_now, own)
+
+        comes_at : (seen : World) (l : RwPoint) (q : ℕ) (d : RwCall) (i : RwPoint) (j : Option Hold) → leaving.Waits f goal p Upgrade (Some hold.Upgradable) at_upgrade (any_of reading) (λ l. 1) 1 seen l
+            → seat_of seen q ≡ Some (Calling d i j) → any_of reading (entries q seen.plain) ≡ false → let y = scene_at m seen q Step (Some (Calling d i j)) in IsOpenStep seen.plain q y.change
+            → (goal q Step y.outcome (seat_of y.after q) ≡ true) ⊎ (any_of reading (entries_after seen.plain y.change (entries q seen.plain)) ≡ false)
+        comes_at seen l q d i j w there none opens = grind (arith, no_reader)
+
+        releases_at : (q : ℕ) (c : RwCall) (l : RwPoint) (h : Option Hold) (w : ℕ) (u : Option V) → StandsSo (rw_notes v cap) (any_of reading) q c l h → (a : Answer V) × ((m.step w u c l h).next ≡ Answers a None)
+        releases_at q Release l (Some hold.Read) w u so = (Done, refl)
+        releases_at q c l h w u so = absurd (grind (arith, so))
+
+  asking_at : (p : ℕ) (c : RwCall) (l : RwPoint) (h : Option Hold) → StandsSo (rw_notes v cap) (any_of asking) p c l h → Some (Calling c l h) ≡ Some (Calling Upgrade Asking (Some hold.Upgradable))
+  asking_at p c l h stands = grind (arith, stands)
+
+  pub upgrades_in_three : (n : ℕ) (past : List (ℕ × Move RwCall V)) (rounds : List (List (ℕ × Move RwCall V))) → UpgradesInThree m n past rounds
+  upgrades_in_three n past rounds p c l h there found are long =
+      let seen = seen_after m (opening m n) past in
+      let at = asking_at p c l h (calls_so f n past (any_of asking) p there (any_own asking p seen.plain.holders ∙ found)) in
+      leaving.two_rounds f (goal p) p Upgrade (Some hold.Upgradable) at_upgrade (any_of reading) (λ l. 1) 1 (leaves p) n past rounds Asking (there ∙ at) tt are long
+
+  pub upgrades_at_last : (n : ℕ) (past : List (ℕ × Move RwCall V)) (schedule : ℕ → ℕ × Move RwCall V) → UpgradesAtLast m n past schedule
+  upgrades_at_last n past schedule p c l h there found fair =
+      at_last m (goal p) (after m (at_first m n) past) 3 (λ rounds are long. upgrades_in_three n past rounds p c l h there found are (omega (arith, long))) schedule fair

@@ -1,0 +1,15 @@
+use Rattle.std.proofs.Common.{◌≡◌, ◌⊎◌, ◌<◌, ℕ, length, arith, not, refl, true}
+use Rattle.spin_step.specs.Plain.{Plain, upgradable, upgraders, is_open_to, to_read_upgradable}
+use Rattle.spin_step.proofs.Sums.{upgrader, against, by_kinds}
+use Rattle.spin_step.specs.Calls.{writers}
+use Rattle.spin_step_more.specs.Readers.{reader_limit}
+use Rattle.spin_world.proofs.RwOwed.{Within, rw_facts}
+use Rattle.spin_laws.proofs.Moments.{found}
+use Rattle.spin_laws.proofs.answers.a_refused_try_upgradeable_read_was_kept_out_at_a_moment.Goals as goal
+
+kept_out : (s : Plain) (p : ℕ) → Within reader_limit s → not (is_open_to s p to_read_upgradable) ≡ true → (0 < writers s) ⊎ (0 < upgraders s.holders) ⊎ (length s.holders ≡ reader_limit)
+kept_out s p shape closed = grind (arith, shape, by_kinds (against upgradable) s.holders, by_kinds upgrader s.holders, closed)
+
+pub returns : goal.returns
+returns g c = λ opening.
+    found (rw_facts opening reader_limit) (λ p s. not (is_open_to s p to_read_upgradable)) (λ h. refl) (λ p l h seen call closed. kept_out seen.plain p call.shape closed)

@@ -1,0 +1,27 @@
+use Rattle.std.proofs.Common.{ℕ, Bool, List, [], ◌∷◌, length, map, take, refl}
+use Rattle.spin_step.specs.declared.schedule.Move.TheVariants.{Weak}
+use Rattle.spin_step.specs.OnceCalls.{once_machine}
+use Rattle.spin_once.specs.Foretold.{foretold, counted, place_of, told_of, will_fail}
+use Rattle.spin_once.specs.Once.{OneMove, words_of, IsOnce}
+use Rattle.spin_once.specs.OnceValues.{Made, bare, given_of}
+use Rattle.spin_once.proofs.Foretold.{is_run}
+use Rattle.spin_world.proofs.OnceOwed.{once_facts}
+use Rattle.spin_laws.proofs.Between.{between, of_counted}
+use Rattle.spin_laws.specs.Between.{NoneFailsSpuriously}
+use Rattle.spin_laws.proofs.laws.between_any_two_steps_of_a_once.Goals as goal
+
+-- in the object's schedule no exchange fails spuriously: it leaves out each move `Weak`, by which a closure fails
+none_told : (log : List Made) → NoneFailsSpuriously (foretold log)
+none_told [] = refl
+none_told (e ∷ es) = by_move e.0 e.1 (will_fail es e.0) (foretold es) (none_told es)
+  where
+    by_move : (p : ℕ) (move : OneMove) (fails : Bool) (later : List Made) → NoneFailsSpuriously later → NoneFailsSpuriously (told_of p move fails later)
+    by_move p Weak fails later sure = sure
+    by_move p _ fails later sure = sure
+
+pub returns : goal.returns
+unfolding IsOnce
+returns g c = λ opening word trace parties is.
+    let given = given_of opening.value in let log = bare trace.entries in let run = is_run given log (word, trace.word) parties is.0.2 in
+    of_counted (once_machine given) place_of words_of (foretold log) (word, trace.word) (λ v. length (foretold (take v.2 log))) parties
+    (between place_of words_of (once_facts given) (foretold log) (word, trace.word) (map (counted log) parties) (none_told log) run)

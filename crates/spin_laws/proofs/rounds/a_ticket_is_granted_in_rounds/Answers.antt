@@ -1,0 +1,5 @@
+use Rattle.spin_laws.proofs.Ticket.{enters_in_rounds}
+use Rattle.spin_laws.proofs.rounds.a_ticket_is_granted_in_rounds.Goals as goal
+
+pub returns : goal.returns
+returns g c = λ object n past rounds. enters_in_rounds object.value object.first n past rounds

@@ -1,0 +1,41 @@
+-- Progress that every object makes: a waiting call whose request is open is answered, or its exchange fails spuriously,
+-- or another party changes a word.
+use Rattle.std.specs.Prelude.{◌≡◌, ℕ, ◌≤◌, ◌==◌, ◌&&◌, ◌||◌, Bool, true, false, not, Option, Some, List, [], ◌∷◌, ◌⊎◌, length, slice_get}
+use Rattle.spin_step.specs.Machines.{Machine}
+use Rattle.spin_step.specs.Schedules.{State, happens, after, at_first}
+use Rattle.spin_step.specs.declared.place.Hold.{Hold}
+use Rattle.spin_step.specs.declared.place.Seat.TheVariants.{Calling}
+use Rattle.spin_step.specs.declared.schedule.Move.{Move}
+use Rattle.spin_world_core.specs.Joined.{joined}
+use Rattle.spin_world_core.specs.Runs.{opening}
+use Rattle.spin_world_core.specs.Users.{seen_after}
+use Rattle.spin_world_core.specs.Undisturbed.{is_open_now, steps_alone}
+use Rattle.spin_laws.specs.Rounds.{Test, occurs, AreRounds, refuses_weakly}
+use Rattle.spin_step.specs.declared.schedule.Outcome.TheVariants as outcome
+
+abbrev pub same_numbers : List ℕ → List ℕ → Bool
+same_numbers [] [] = true
+same_numbers (x ∷ xs) (y ∷ ys) = (x == y) && same_numbers xs ys
+same_numbers _ _ = false
+
+-- an event of another party changes a word
+abbrev pub disturbs : {W V C L A : Type 0} → Machine W V C L A → ℕ → State W V C L → List (ℕ × Move C V) → Bool
+disturbs m p s [] = false
+disturbs m p s (e ∷ es) =
+    let next = (happens m s e.0 e.1).next in (not (e.0 == p) && not (same_numbers (m.numbers next.words) (m.numbers s.words))) || disturbs m p next es
+
+-- the party's call is answered, or its exchange fails spuriously
+abbrev pub ends_or_fails : {V C L A : Type 0} → ℕ → Test V C L A
+ends_or_fails p q move (outcome.Answered a b) x = q == p
+ends_or_fails p q move o x = refuses_weakly p q move o x
+
+-- Suppose that a party's call waits, and that what the call asks is open. Take as many rounds as an undisturbed call
+-- takes steps (`steps_alone`), at least one. In them the call is answered, or another party changes a word, or the
+-- call's own exchange fails spuriously.
+abbrev pub AnsweredOrDisturbed : {W V C L A : Type 0} → Machine W V C L A → ℕ → List (ℕ × Move C V) → List (List (ℕ × Move C V)) → Type 0
+AnsweredOrDisturbed {C = C} {L = L} m n past rounds =
+    let seen = seen_after m (opening m n) past in
+    let s = after m (at_first m n) past in
+    (p : ℕ) (c : C) (l : L) (h : Option Hold) → slice_get s.seats p ≡ Some (Calling c l h) → is_open_now p (m.asks c h) (seen.span p) seen.plain ≡ true
+    → AreRounds m s rounds → 1 ≤ length rounds → steps_alone (m.asks c h) ≤ length rounds
+    → (occurs m (ends_or_fails p) s (joined rounds) ≡ true) ⊎ (disturbs m p s (joined rounds) ≡ true)

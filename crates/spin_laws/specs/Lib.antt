@@ -1,0 +1,15 @@
+pub mod Rounds
+pub mod Ticket
+pub mod Flag
+pub mod Rw
+pub mod Once
+pub mod Alone
+pub mod Starving
+pub mod Seats
+pub mod Fair
+pub mod Between
+pub mod Counts
+pub mod Moments
+pub mod Onces
+pub mod Progress
+pub mod Turns

@@ -1,5 +1,0 @@
-use Rattle.spin_world_progress.proofs.Once.{answers_in_one}
-use Rattle.spin_world_progress.proofs.laws.a_call_is_answered_in_one_round_where_there_is_a_value.Goals as goal
-
-pub returns : goal.returns
-returns g c = λ object n past rounds. answers_in_one object.value n past rounds

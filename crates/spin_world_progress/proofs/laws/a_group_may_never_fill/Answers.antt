@@ -1,5 +1,0 @@
-use Rattle.spin_world_progress.proofs.Starving.{barrier_starves}
-use Rattle.spin_world_progress.proofs.laws.a_group_may_never_fill.Goals as goal
-
-pub returns : goal.returns
-returns g = λ object two. barrier_starves object.n two

@@ -1,5 +1,0 @@
-use Rattle.spin_world_progress.proofs.Passed.{may_be_passed_over}
-use Rattle.spin_world_progress.proofs.laws.a_lock_may_be_passed_over.Goals as goal
-
-pub returns : goal.returns
-returns g c = λ t. may_be_passed_over t.value t.first

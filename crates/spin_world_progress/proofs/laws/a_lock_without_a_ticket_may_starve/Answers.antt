@@ -1,5 +1,0 @@
-use Rattle.spin_world_progress.proofs.Passed.{lock_starves}
-use Rattle.spin_world_progress.proofs.laws.a_lock_without_a_ticket_may_starve.Goals as goal
-
-pub returns : goal.returns
-returns g c = λ t. lock_starves t.value t.first

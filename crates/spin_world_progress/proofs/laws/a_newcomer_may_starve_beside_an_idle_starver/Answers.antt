@@ -1,5 +1,0 @@
-use Rattle.spin_world_progress.proofs.Starving.{newcomer_starves}
-use Rattle.spin_world_progress.proofs.laws.a_newcomer_may_starve_beside_an_idle_starver.Goals as goal
-
-pub returns : goal.returns
-returns g c = λ object some. newcomer_starves object.value object.cap object.patience some

@@ -1,5 +1,0 @@
-use Rattle.spin_world_progress.proofs.RwFree.{deadlock_free}
-use Rattle.spin_world_progress.proofs.laws.a_read_write_lock_is_free_of_deadlock.Goals as goal
-
-pub returns : goal.returns
-returns g c = λ object n past schedule some. deadlock_free object.value object.cap some n past schedule

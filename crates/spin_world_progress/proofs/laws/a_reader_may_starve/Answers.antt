@@ -1,5 +1,0 @@
-use Rattle.spin_world_progress.proofs.Starving.{read_starves}
-use Rattle.spin_world_progress.proofs.laws.a_reader_may_starve.Goals as goal
-
-pub returns : goal.returns
-returns g c = λ object. read_starves object.value object.cap

@@ -1,5 +1,0 @@
-use Rattle.spin_world_progress.proofs.Registered.{registered_starves}
-use Rattle.spin_world_progress.proofs.laws.a_registered_lock_may_starve.Goals as goal
-
-pub returns : goal.returns
-returns g c = λ object two. registered_starves object.value object.cap object.patience two

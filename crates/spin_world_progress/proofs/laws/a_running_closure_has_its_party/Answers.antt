@@ -1,5 +1,0 @@
-use Rattle.spin_world_progress.proofs.Once.{somebody_runs}
-use Rattle.spin_world_progress.proofs.laws.a_running_closure_has_its_party.Goals as goal
-
-pub returns : goal.returns
-returns g c = λ object n past. somebody_runs object.value n past

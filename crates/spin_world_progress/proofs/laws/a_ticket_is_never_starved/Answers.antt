@@ -1,5 +1,0 @@
-use Rattle.spin_world_progress.proofs.Ticket.{never_starved}
-use Rattle.spin_world_progress.proofs.laws.a_ticket_is_never_starved.Goals as goal
-
-pub returns : goal.returns
-returns g c = λ object n past schedule. never_starved object.value object.first n past schedule

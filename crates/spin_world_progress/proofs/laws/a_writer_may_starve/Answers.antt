@@ -1,5 +1,0 @@
-use Rattle.spin_world_progress.proofs.Starving.{write_starves}
-use Rattle.spin_world_progress.proofs.laws.a_writer_may_starve.Goals as goal
-
-pub returns : goal.returns
-returns g c = λ object some. write_starves object.value object.cap some

@@ -1,5 +1,0 @@
-use Rattle.spin_world_progress.proofs.Alone.{answered_or_disturbed}
-use Rattle.spin_world_progress.proofs.laws.an_open_call_is_answered_or_disturbed.Goals as goal
-
-pub returns : goal.returns
-returns g c = λ object n past rounds. answered_or_disturbed (g.O.Object.machine object) (c.laws.ensures object) n past rounds

@@ -1,5 +1,0 @@
-use Rattle.spin_world_progress.proofs.Starving.{upgradable_read_starves}
-use Rattle.spin_world_progress.proofs.laws.an_upgradable_reader_may_starve.Goals as goal
-
-pub returns : goal.returns
-returns g c = λ object. upgradable_read_starves object.value object.cap

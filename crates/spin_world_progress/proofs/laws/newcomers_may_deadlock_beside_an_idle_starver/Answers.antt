@@ -1,5 +1,0 @@
-use Rattle.spin_world_progress.proofs.Starving.{newcomers_deadlock}
-use Rattle.spin_world_progress.proofs.laws.newcomers_may_deadlock_beside_an_idle_starver.Goals as goal
-
-pub returns : goal.returns
-returns g c = λ object some. newcomers_deadlock object.value object.cap object.patience some

@@ -1,5 +1,0 @@
-use Rattle.spin_world_progress.proofs.Seats.{deadlock_free}
-use Rattle.spin_world_progress.proofs.laws.seats_are_free_of_deadlock.Goals as goal
-
-pub returns : goal.returns
-returns g = λ object n past schedule some. deadlock_free object.seats some n past schedule

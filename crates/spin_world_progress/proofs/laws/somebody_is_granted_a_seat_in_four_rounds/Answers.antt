@@ -1,5 +1,0 @@
-use Rattle.spin_world_progress.proofs.Seats.{enters_in_four}
-use Rattle.spin_world_progress.proofs.laws.somebody_is_granted_a_seat_in_four_rounds.Goals as goal
-
-pub returns : goal.returns
-returns g = λ object n past rounds some. enters_in_four object.seats some n past rounds

@@ -1,9 +1,0 @@
-pub mod Rounds
-pub mod Ticket
-pub mod Flag
-pub mod Rw
-pub mod Once
-pub mod Alone
-pub mod Starving
-pub mod Seats
-pub mod Fair
