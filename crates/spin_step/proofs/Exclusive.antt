@@ -1,6 +1,5 @@
 -- Open steps keep a lock exclusive: a writer gets no second holder beside it, and there is no second upgrader and no second entered ticket.
-use Rattle.std.proofs.Common.{◌≡◌, ℕ, ◌<◌, ◌⊎◌, inl, inr, true, false, Option, Some, None, List, [], ◌∷◌, ◌++◌, length, refl, arith, length-append}
-use Rattle.std.proofs.lemmas.Bool.{and_parts}
+use Rattle.std.proofs.Common.{◌≡◌, ℕ, ◌<◌, ◌⊎◌, inl, inr, true, false, Option, List, [], ◌∷◌, ◌++◌, length, refl, arith, length-append}
 use Rattle.spin_step.specs.Plain.{Plain, Kind, writing, Holder, Ticket, Ask, Effect, comes, becomes, queues, enters, starves, runs, effect, given, Change, gets, releases, turns, apply, is_open, is_open_to, is_holder, is_only, is_first, is_empty, is_nothing, may_turn, may_come, count_against, holder, ticket, ticket_limit, without_holder, with_kind}
 use Rattle.spin_step.specs.Parties.{apply_some, IsOpenStep, IsExclusive, none_entered, first_alone_entered}
 use Rattle.spin_step.proofs.Holders.{length-without_holder}
@@ -79,13 +78,12 @@ exclusive-applied : (s : Plain) (c : Change) → IsExclusive s → is_open s c �
 exclusive-applied s (gets p ask) x may =
     exclusive-given s p (effect ask) x (lets s p ask may) (tickets-kept s (gets p ask) x may)
 exclusive-applied s (releases p k) x may = released s p k x may
-exclusive-applied s (turns p j k) x may = let parts = and_parts (is_holder p j s.holders) (may_turn j k) may in turned s p j k x parts.0 parts.1
+exclusive-applied s (turns p j k) x may = grind (arith, turned s p j k x)
 exclusive-applied s c x may = exclusive-like s (apply s c) (λ f. refl) (tickets-kept s c x may) x
 
 -- an open step, or none, keeps the lock exclusive
 pub exclusive-kept : (s : Plain) (p : ℕ) (step : Option Change) → IsExclusive s → IsOpenStep s p step → IsExclusive (apply_some s step)
-exclusive-kept s p None x may = x
-exclusive-kept s p (Some c) x may = exclusive-applied s c x may.1
+exclusive-kept s p step x may = grind (arith, exclusive-applied s)
 
 -- a party that writes is the only holder
 pub writes_alone : (s : Plain) (p : ℕ) → IsExclusive s → is_holder p writing s.holders ≡ true → length s.holders ≡ 1

@@ -1,35 +1,22 @@
 -- A step of a table on words: its operation on one number, and what follows the number found.
-use Rattle.std.proofs.Common.{◌≡◌, ℕ, ◌<◌, ◌≤◌, ◌^◌, true, false, Option, refl, sym, ap, ◌∙◌, subst, arith}
+use Rattle.std.proofs.Common.{◌≡◌, ℕ, ◌<◌, ◌≤◌, ◌^◌, true, false, Option, sym, ap, ◌∙◌, subst, arith}
 use Rattle.spin_step.specs.declared.place.Hold.{Hold}
 use Rattle.spin_step.specs.declared.stepped.Next.{Next}
 use Rattle.spin_step.specs.declared.table.Operation.{Operation}
-use Rattle.spin_step.specs.declared.table.Operation.TheVariants as op
 use Rattle.spin_step.specs.Operations.{performed, wrapped}
 use Rattle.spin_step.specs.Words.{WorksOn, can_at}
-use Rattle.spin_step.specs.Acts.{Memory, Table, number_at, Act, load, load_if, load_for, enter, exchange, weak_exchange, attempt, retry, store, section, is_section, stays, step_at, step_by, can_by, next_of, operation_by}
+use Rattle.spin_step.specs.Acts.{Memory, Table, number_at, Act, is_section, stays, step_at, step_by, can_by, next_of, operation_by}
 
 module _ {W L A : Type 0} (V : Type 0) (m : Memory W) (i : ℕ) (w opening : W) where
   step_is : (act : Act W L A) (n : ℕ) → is_section act ≡ false → m.put i n w ≡ w
       → step_at {V = V} m i n act w ≡ stays (m.put i (performed (operation_by act) n) w) (step_at {V = Unit {0}} m 0 n act opening).next
-  step_is (load a) n one kept = grind (arith, kept)
-  step_is (load_if test a b) n one kept = grind (arith, kept)
-  step_is (load_for f step a b) n one kept = grind (arith, kept)
-  step_is (enter test step a b) n one kept = grind (arith, kept)
-  step_is (exchange o step a b) n one kept = grind (arith, kept)
-  step_is (weak_exchange k f step a b) n one kept = grind (arith, kept)
-  step_is (attempt k f step a b) n one kept = grind (arith, kept)
-  step_is (retry k f step a b c) n one kept = grind (arith, kept)
-  step_is (store can o step a) n one kept = grind (arith, kept)
-  step_is (section can f step a b) n one kept = absurd (cc one)
+  step_is act n one kept = grind (arith, kept)
 
 can_is : {W L A : Type 0} (m : Memory W) (i : ℕ) (act : Act W L A) (w : W) → is_section act ≡ false → can_by m i act w ≡ true → can_at act (number_at m i w) ≡ true
-can_is m i (store can o step a) w one can-it = can-it
-can_is m i (section can f step a b) w one can-it = absurd (cc one)
 can_is m i act w one can-it = grind arith
 
 same : (o : Operation) (limit n : ℕ) → limit ≤ 2 ^ 64 → performed o n < limit → performed (wrapped o) n ≡ performed o n
-same (op.Store k) limit n fits small = grind (arith, fits, small)
-same o limit n fits small = refl
+same o limit n fits small = grind (arith, fits, small)
 
 module _ {W T C L A : Type 0} (V : Type 0) (m : Memory W) (places limit : ℕ) (fits : limit ≤ 2 ^ 64) (kept : (i : ℕ) (w : W) → i < places → m.put i (number_at m i w) w ≡ w)
     (t : Table W T C L A) (c : C) (l : L) (h : Option Hold) (w : W) (works : WorksOn m places limit t c l h) (can : can_by t.memory (t.word l) (t.act c l h) w ≡ true)

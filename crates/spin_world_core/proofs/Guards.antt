@@ -99,9 +99,10 @@ module _ {W V C L A B : Type 0} {t : Table W V C L A} {by : Machine W V C L B} {
 
       owner_wrote : (v : V) (y : Seat C L) (o : Option V) → list_all yields_to_owner seen.state.seats ≡ true
           → After (scene_of seen q (OwnerSet v) (Some y) (owner_writes seen.state v o) None plain None)
-      owner_wrote v y None away = let_go_all
-      owner_wrote v y (Some old) away = rw (slice_get-map seen_by_owner seen.state.seats p)
-          (gone_for r seen.written (Some v) (seat_of seen p) (λ x e. all-get yields_to_owner seen.state.seats p x away e) guard)
+      owner_wrote v y o away =
+          let gone = λ (x : Seat C L). all-get yields_to_owner seen.state.seats p x away in
+          let held = gone_for r seen.written (Some v) (seat_of seen p) gone guard in
+          grind (arith, let_go_all, slice_get-map seen_by_owner seen.state.seats p, held)
 
       stepped : (c : C) (l : L) (h : Option Hold) → seat_of seen q ≡ Some (Calling c l h) → After (scene_at m seen q Step (Some (Calling c l h)))
       stepped c l h there =

@@ -1,7 +1,7 @@
 -- What has been played of a schedule, at the beginning of a turn of the loop.
 use Rattle.std.proofs.Math.Bool.{Bool-set}
 use Rattle.spin_world_core.specs.Runs.{Always, CanGoOn, Schedule}
-use Rattle.spin_world_core.proofs.Names.{slice_get-map, ◌≡◌, ℕ, map, ◌+◌, ◌<◌, ◌≤◌, ◌==◌, ◌&&◌, true, Option, Some, None, List, [], ◌∷◌, ◌++◌, length, if◌then◌else◌, ap, sym, ◌∙◌, arith, subst, length-set, take, get_or, length-take-le, zero-add, ∥∥₁_elim, ∥∥₁_map, CanStep, length-map, take_all, Move, Outcome, Event, Machine, State, Happened, happens, after, events_of, with_begins, last_begin, is_begun, at_first, IsReached}
+use Rattle.spin_world_core.proofs.Names.{slice_get-map, ◌≡◌, ℕ, map, ◌+◌, ◌<◌, ◌==◌, ◌&&◌, true, Option, Some, None, List, [], ◌∷◌, ◌++◌, length, if◌then◌else◌, ap, sym, ◌∙◌, arith, subst, length-set, take, get_or, length-take-le, zero-add, ∥∥₁_elim, ∥∥₁_map, CanStep, length-map, Move, Outcome, Event, Machine, State, Happened, happens, after, events_of, with_begins, last_begin, is_begun, at_first, IsReached}
 use Rattle.spin_step.specs.Schedules.{begin_of, begins_after, with_begin}
 use Rattle.spin_step.proofs.Lists.{get-set_within}
 use Rattle.spin_world_core.proofs.Lists.{get-set_other}

@@ -1,5 +1,4 @@
-use Rattle.std.proofs.Common.{rules, refl}
-use Rattle.spin_world_core.proofs.Names.{◌≡◌, ℕ, List, ◌++◌, length, take, subst, arith, length-take-le, length-append, IsReached, TellsAfterAnyPast}
+use Rattle.spin_world_core.proofs.Names.{◌≡◌, ℕ, List, ◌++◌, length, take, subst, arith, length-take-le, length-append, IsReached}
 use Rattle.spin_world_core.proofs.Transcripts.{tells_after}
 use Rattle.spin_world_core.proofs.Playing.{can_reached, further}
 use Rattle.spin_world_core.proofs.Begins.{begins_told}
@@ -15,38 +14,38 @@ kept_length n xs ys is = grind (arith, length-take-le, length-append)
 pub invariant_of-self : goal.invariant_of-self
 invariant_of-self g c = grind (arith, further, kept_length)
 
-pub returns-in_err-events : goal.returns-in_err-events
-returns-in_err-events g c = let lawful = c.laws.ensures c.args.self.now.object in
-    record {
-      state = search rules;
-      events = search rules;
-      err = search rules;
-      tells = search rules;
-      begins = search rules;
-      object = refl;
-      reached = subst (λ w. IsReached (g.O.Object.machine w.object) w.state) c.self.view_is c.self.invariant.0;
-      keeps = λ n past reached. lawful.keeps n (past ++ c.args.schedule.now);
-      moments = λ n past reached. lawful.moments n (past ++ c.args.schedule.now);
-      counts = λ n past reached. lawful.counts n (past ++ c.args.schedule.now);
-      values = λ n past reached. lawful.values n (past ++ c.args.schedule.now);
-    }
+pub returns-in_err-events-clause-reached : goal.returns-in_err-events-clause-reached
+returns-in_err-events-clause-reached g c =
+    subst (λ w. IsReached (g.O.Object.machine w.object) w.state) c.self.view_is c.self.invariant.0
 
-pub returns : goal.returns
-returns g c =
-    let m = g.O.Object.machine c.self.inside.object in
-    let lawful = c.laws.ensures c.args.self.now.object in
-    record {
-      state = search rules;
-      object = search rules;
-      events = search rules;
-      err = tt;
-      reached = further m c.self.inside.table c.play.new.table c.args.schedule.now c.play.ensures.table c.self.invariant.0;
-      keeps = λ n past reached. lawful.keeps n (past ++ c.args.schedule.now);
-      moments = λ n past reached. lawful.moments n (past ++ c.args.schedule.now);
-      counts = λ n past reached. lawful.counts n (past ++ c.args.schedule.now);
-      values = λ n past reached. lawful.values n (past ++ c.args.schedule.now);
-      tells =
-          subst (λ w. TellsAfterAnyPast (g.O.Object.machine w.object) w.state c.args.schedule.now c.play.new.events.items) {x = record { object = c.self.inside.object; state = c.self.inside.table }} c.self.view_is
-          (tells_after m c.self.inside.table c.args.schedule.now c.play.new.events.items c.play.ensures.events);
-      begins = begins_told _ c.play.new.events.items c.play.ensures.events;
-    }
+pub returns-in_err-events-clause-keeps : goal.returns-in_err-events-clause-keeps
+returns-in_err-events-clause-keeps g c =
+    λ n past reached. (c.laws.ensures c.args.self.now.object).keeps n (past ++ c.args.schedule.now)
+
+pub returns-clause-reached : goal.returns-clause-reached
+returns-clause-reached g c =
+    further (g.O.Object.machine c.self.inside.object) c.self.inside.table c.play.new.table c.args.schedule.now
+    c.play.ensures.table c.self.invariant.0
+
+pub returns-clause-keeps : goal.returns-clause-keeps
+returns-clause-keeps g c =
+    λ n past reached. (c.laws.ensures c.args.self.now.object).keeps n (past ++ c.args.schedule.now)
+
+pub returns-clause-moments : goal.returns-clause-moments
+returns-clause-moments g c =
+    λ n past reached. (c.laws.ensures c.args.self.now.object).moments n (past ++ c.args.schedule.now)
+
+pub returns-clause-counts : goal.returns-clause-counts
+returns-clause-counts g c =
+    λ n past reached. (c.laws.ensures c.args.self.now.object).counts n (past ++ c.args.schedule.now)
+
+pub returns-clause-values : goal.returns-clause-values
+returns-clause-values g c =
+    λ n past reached. (c.laws.ensures c.args.self.now.object).values n (past ++ c.args.schedule.now)
+
+pub returns-clause-tells : goal.returns-clause-tells
+returns-clause-tells g c =
+    rw (← c.self.view_is) (tells_after (g.O.Object.machine c.self.inside.object) _ _ _ c.play.ensures.events)
+
+pub returns-clause-begins : goal.returns-clause-begins
+returns-clause-begins g c = begins_told _ c.play.new.events.items c.play.ensures.events
