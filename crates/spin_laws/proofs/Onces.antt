@@ -20,15 +20,12 @@ use Rattle.spin_step.specs.declared.place.Hold.{Hold}
 use Rattle.spin_step.specs.declared.place.Seat.{Seat}
 use Rattle.spin_step.specs.declared.place.Seat.TheVariants.{Idle, Calling}
 use Rattle.spin_step.specs.declared.schedule.Move.TheVariants.{Begin, Step, Weak}
-use Rattle.spin_step.specs.declared.schedule.Outcome.{Outcome}
-use Rattle.spin_step.specs.declared.schedule.Outcome.TheVariants.{GoingOn, Answered}
+use Rattle.spin_step.specs.declared.schedule.Outcome.TheVariants.{Answered}
 use Rattle.spin_step.specs.declared.stepped.Next.{Next}
-use Rattle.spin_step.specs.declared.stepped.Next.TheVariants.{Continue, Answers}
-use Rattle.spin_step.specs.Machines.{Machine}
-use Rattle.spin_step.specs.Schedules.{State, Entry, after, at_first, happens, moves, moves_at, begun, goes_on}
+use Rattle.spin_step.specs.Schedules.{Happened, after, at_first, happens, moves_at}
 use Rattle.spin_step.proofs.Schedules.{after-append}
 use Rattle.spin_once.specs.Foretold.{will_fail, foretold}
-use Rattle.spin_once.specs.Model.{Point, at, onward}
+use Rattle.spin_once.specs.Model.{Point}
 use Rattle.spin_once.specs.Once.{OneMove, View}
 use Rattle.spin_once.specs.OnceValues.{Made}
 use Rattle.spin_once.proofs.Foretold.{split, quiet, leads_on, all_alike, happens_alike, weak_alike, named_later, first_named, named_kept}
@@ -38,6 +35,7 @@ use Rattle.spin_world.proofs.Keeping.{a_value_stays}
 use Rattle.spin_world.proofs.Unread.{looks_where_complete}
 use Rattle.spin_world_core.specs.Runs.{seat_of, Seen, opening}
 use Rattle.spin_world_core.specs.Users.{seen_after}
+use Rattle.spin_world_core.specs.Values.{GivesAt}
 use Rattle.spin_world_core.proofs.Preserved.{Invariant}
 use Rattle.spin_world_core.proofs.Reached.{numbers_are}
 use Rattle.spin_world_core.proofs.Values.{keeps_value}
@@ -66,7 +64,7 @@ later_plain p e es is = grind (arith, is)
 
 own_kept : (p : ℕ) (es : List Made) → are_plain (entries_by p es) ≡ true → entries_by p (foretold es) ≡ entries_by p es
 own_kept p [] is = refl
-own_kept p (e ∷ es) is = grind (arith, is, own_kept p es, later_plain p e es is, none_fails p es, named_kept, eqb-true)
+own_kept p (e ∷ es) is = grind (arith, is, own_kept p es, none_fails p es, named_kept, eqb-true e.0 p)
 
 made_plain : (p : ℕ) (c : OnceCall (Unit {0})) (i : ℕ) → are_plain (by_party p (Begin c ∷ (replicate i Step ++ Step ∷ []))) ≡ true
 made_plain p c zero = refl
@@ -75,12 +73,6 @@ made_plain p c (suc i) = made_plain p c i
 abbrev Ending : Type 0
 Ending = Next OncePoint (Answer (Unit {0}))
 
--- if no move of a schedule is skipped, none of its two parts is
-both_played : {W V C L A : Type 0} (m : Machine W V C L A) (es later : List (Entry C V)) (s : State W V C L) → list_all is_played (outcomes m s (es ++ later)) ≡ true
-    → (list_all is_played (outcomes m s es) ≡ true) × (list_all is_played (outcomes m (after m s es) later) ≡ true)
-both_played m [] later s is = (refl, is)
-both_played m (e ∷ es) later s is = grind (arith, is, both_played m es later (happens m s e.0 e.1).next)
-
 module _ (given : Option (Unit {0})) where
   -- if the word says that there is a value, there is one
   abbrev HasIt : World → Type 0
@@ -88,36 +80,22 @@ module _ (given : Option (Unit {0})) where
 
   -- so a step has the same outcome with the present value as with the value `tt`
   step_same : (s : World) → HasIt s → (c : OnceCall (Unit {0})) (l : OncePoint) (h : Option Hold) → (t given).step s.words (Some tt) c l h ≡ (t given).step s.words s.value c l h
-  step_same s has c l h = grind (arith, has, looks_where_complete given s.words (Some tt) s.value c l h, eqb-false, eqb-true)
-
-  -- the outcome of a step with this ending
-  abbrev out : Ending → Outcome (Answer (Unit {0})) (Unit {0})
-  out (Continue l) = GoingOn
-  out (Answers a after) = Answered a None
-
-  in_object : (o : Object) (p : ℕ) (c : OnceCall (Unit {0})) (h : Option Hold) (next : Ending) → (goes_on o p c h next).outcome ≡ out next
-  in_object o p c h next = grind arith
-
-  in_history : (s : World) (p : ℕ) (c : OnceCall (Unit {0})) (h : Option Hold) (next : Ending) → (goes_on s p c h (onward next)).outcome ≡ out next
-  in_history s p c h next = grind arith
-
-  begun_same : (s : World) (o : Object) (p : ℕ) (c d : OnceCall (Unit {0})) (h : Option Hold) (l : Option OncePoint) → (begun {A = Answer (Unit {0})} o p d h l).outcome ≡ (begun s p c h (option_map (λ k. at k) l)).outcome
-  begun_same s o p c d h l = grind arith
+  step_same s has c l h = by_word (s.words == 2) refl
+    where
+      by_word : (b : Bool) → (s.words == 2) ≡ b → (t given).step s.words (Some tt) c l h ≡ (t given).step s.words s.value c l h
+      by_word true is = ap (λ v. (t given).step s.words v c l h) (sym (has (eqb-true s.words 2 is)))
+      by_word false other = looks_where_complete given s.words (Some tt) s.value c l h (λ e. eqb-false s.words 2 other e)
 
   -- a move of a party whose closure does not fail has the same outcome in the object's schedule
-  own_same : (f : ℕ → Bool) (s : World) (p : ℕ) (move : OneMove) (y : Seat (OnceCall (Unit {0})) Point) → HasIt s → is_plain move ≡ true
-      → (moves (t given) (object f s) p (renamed move false) (seat_named y false)).outcome ≡ (moves (m given) s p move y).outcome
-  own_same f s p move y has plain = grind (arith, plain, named_kept, begun_same, in_object, step_same, in_history)
-
-  same_at : (f : ℕ → Bool) (s : World) (p : ℕ) (move : OneMove) (o : Option (Seat (OnceCall (Unit {0})) Point)) → HasIt s → is_plain move ≡ true
+  own_same : (f : ℕ → Bool) (s : World) (p : ℕ) (move : OneMove) (o : Option (Seat (OnceCall (Unit {0})) Point)) → HasIt s → is_plain move ≡ true
       → (moves_at (t given) (object f s) p (renamed move false) (option_map (λ y. seat_named y false) o)).outcome ≡ (moves_at (m given) s p move o).outcome
-  same_at f s p move None has plain = refl
-  same_at f s p move (Some y) has plain = own_same f s p move y has plain
+  own_same f s p Step (Some (Calling c l h)) has plain = grind (arith, step_same s has, named_kept c)
+  own_same f s p move o has plain = grind (arith, plain, named_kept)
 
   happens_same : (f : ℕ → Bool) (s : World) (p : ℕ) (move : OneMove) → f p ≡ false → HasIt s → is_plain move ≡ true → (happens (t given) (object f s) p (renamed move (f p))).outcome ≡ (happens (m given) s p move).outcome
   happens_same f s p move fine has plain =
       ap (λ o. (moves_at (t given) (object f s) p (renamed move (f p)) o).outcome) (named_get f s.seats p)
-      ∙ ap (λ b. (moves_at (t given) (object f s) p (renamed move b) (option_map (λ y. seat_named y b) (slice_get s.seats p))).outcome) fine ∙ same_at f s p move (slice_get s.seats p) has plain
+      ∙ ap (λ b. (moves_at (t given) (object f s) p (renamed move b) (option_map (λ y. seat_named y b) (slice_get s.seats p))).outcome) fine ∙ own_same f s p move (slice_get s.seats p) has plain
 
   -- after each beginning of these entries, if the word says that there is a value, there is one
   abbrev HasAlways : World → List Made → Type 0
@@ -132,33 +110,22 @@ module _ (given : Option (Unit {0})) where
       let each = and_parts (is_played (happens (m given) s e.0 e.1).outcome) (list_all is_played (outcomes (m given) s' es)) played in
       one_more e.0 e.1 (has [] (e ∷ es) refl) each.0 each.1 plain (outs_same p es s' each.1 (λ ys zs is. has (e ∷ ys) zs (ap (λ l. e ∷ l) is)) (later_plain p e es plain))
     where
-      by_weak : (q : ℕ) (b : Bool) → are_plain (if b then (q, Weak) ∷ entries_by p es else entries_by p es) ≡ true
-          → outcomes_by (m given) p (happens (m given) s q Weak).next es ≡ (if b then (happens (m given) s q Weak).outcome ∷ outcomes_by (m given) p (happens (m given) s q Weak).next es else outcomes_by (m given) p (happens (m given) s q Weak).next es)
-      by_weak q b plain = grind (arith, plain)
-
-      by_turn : (q : ℕ) (move : OneMove) (b : Bool) → (q == p) ≡ b → HasIt s → (happens (t given) (object (will_fail es) s) q (renamed move (will_fail es q))).next ≡ object (will_fail es) (happens (m given) s q move).next
-          → are_plain (if b then (q, move) ∷ entries_by p es else entries_by p es) ≡ true → outcomes_by (t given) p (object (will_fail es) (happens (m given) s q move).next) (foretold es) ≡ outcomes_by (m given) p (happens (m given) s q move).next es
-          → (let h = happens (t given) (object (will_fail es) s) q (renamed move (will_fail es q)) in if b then h.outcome ∷ outcomes_by (t given) p h.next (foretold es) else outcomes_by (t given) p h.next (foretold es))
-          ≡ (let h = happens (m given) s q move in if b then h.outcome ∷ outcomes_by (m given) p h.next es else outcomes_by (m given) p h.next es)
-      by_turn q move false other has next plain later = ap (λ o. outcomes_by (t given) p o (foretold es)) next ∙ later
-      by_turn q move true same has next plain later =
-          let parts = and_parts (is_plain move) (are_plain (entries_by p es)) plain in
-          let fine : will_fail es q ≡ false = ap (will_fail es) (eqb-true q p same) ∙ none_fails p es parts.1 in
-          ap (λ o. o ∷ outcomes_by (t given) p (happens (t given) (object (will_fail es) s) q (renamed move (will_fail es q))).next (foretold es)) (happens_same (will_fail es) s q move fine has parts.0)
-          ∙ ap (λ l. (happens (m given) s q move).outcome ∷ l) (ap (λ o. outcomes_by (t given) p o (foretold es)) next ∙ later)
-
-      other : (q : ℕ) (move : OneMove) → HasIt s → is_played (happens (m given) s q move).outcome ≡ true → list_all is_played (outcomes (m given) (happens (m given) s q move).next es) ≡ true → (move ≡ Weak → ⊥)
-          → are_plain (entries_by p ((q, move) ∷ es)) ≡ true → outcomes_by (t given) p (object (will_fail es) (happens (m given) s q move).next) (foretold es) ≡ outcomes_by (m given) p (happens (m given) s q move).next es
-          → outcomes_by (t given) p (object (will_fail ((q, move) ∷ es)) s) ((q, renamed move (will_fail es q)) ∷ foretold es) ≡ outcomes_by (m given) p s ((q, move) ∷ es)
-      other q move has head tail ne plain later =
-          ap (λ o. outcomes_by (t given) p o ((q, renamed move (will_fail es q)) ∷ foretold es)) (named_later given s q move es (slice_get s.seats q) refl head ne)
-          ∙ by_turn q move (q == p) refl has (happens_alike given (will_fail es) s q move (λ still. quiet given es (happens (m given) s q move).next q tail still) ne).0 plain later
+      by_turn : (b : Bool) (h : Happened ℕ (Unit {0}) (OnceCall (Unit {0})) OncePoint (Answer (Unit {0}))) (k : Happened ℕ (Unit {0}) (OnceCall (Unit {0})) Point (Answer (Unit {0}))) → h.next ≡ object (will_fail es) k.next → (b ≡ true → h.outcome ≡ k.outcome) → outcomes_by (t given) p (object (will_fail es) k.next) (foretold es) ≡ outcomes_by (m given) p k.next es
+          → (if b then h.outcome ∷ outcomes_by (t given) p h.next (foretold es) else outcomes_by (t given) p h.next (foretold es)) ≡ (if b then k.outcome ∷ outcomes_by (m given) p k.next es else outcomes_by (m given) p k.next es)
+      by_turn true h k next own later = rw (own refl, next, later) refl
+      by_turn false h k next own later = rw (next, later) refl
 
       one_more : (q : ℕ) (move : OneMove) → HasIt s → is_played (happens (m given) s q move).outcome ≡ true → list_all is_played (outcomes (m given) (happens (m given) s q move).next es) ≡ true
           → are_plain (entries_by p ((q, move) ∷ es)) ≡ true → outcomes_by (t given) p (object (will_fail es) (happens (m given) s q move).next) (foretold es) ≡ outcomes_by (m given) p (happens (m given) s q move).next es
           → outcomes_by (t given) p (object (will_fail ((q, move) ∷ es)) s) (foretold ((q, move) ∷ es)) ≡ outcomes_by (m given) p s ((q, move) ∷ es)
-      one_more q Weak has head tail plain later = ap (λ o. outcomes_by (t given) p o (foretold es)) (weak_alike given s q es (slice_get s.seats q) refl head) ∙ later ∙ by_weak q (q == p) plain
-      one_more q move has head tail plain later = other q move has head tail (λ e. absurd (cc e)) plain later
+      one_more q Weak has head tail plain later = rw (weak_alike given s q es (slice_get s.seats q) refl head) (grind (arith, plain, later))
+      one_more q move has head tail plain later =
+          let h = happens (t given) (object (will_fail es) s) q (renamed move (will_fail es q)) in let k = happens (m given) s q move in
+          let next = (happens_alike given (will_fail es) s q move (λ still. quiet given es k.next q tail still) (λ e. absurd (cc e))).0 in
+          let own : (q == p) ≡ true → h.outcome ≡ k.outcome = λ e. let parts = and_parts (is_plain move) (are_plain (entries_by p es)) (rw e at plain) in
+          happens_same (will_fail es) s q move (ap (will_fail es) (eqb-true q p e) ∙ none_fails p es parts.1) has parts.0 in
+          subst (λ o. outcomes_by (t given) p o ((q, renamed move (will_fail es q)) ∷ foretold es) ≡ outcomes_by (m given) p s ((q, move) ∷ es)) (sym (named_later given s q move es head (λ e. absurd (cc e))))
+          (by_turn (q == p) h k next own later)
 
   -- the world of n parties before any move
   abbrev From : ℕ → World
@@ -168,7 +135,8 @@ module _ (given : Option (Unit {0})) where
   as_object n es played = ap (λ o. after (t given) o (foretold es)) (sym (first_named given (will_fail es) n)) ∙ (all_alike given es (From n) played).0
 
   lies : (o : Option (Unit {0})) → is_some o ≡ true → o ≡ Some tt
-  lies o is = grind (arith, is)
+  lies None is = absurd (let d : false ≡ true = is in cc)
+  lies (Some v) is = refl
 
   complete_by : (s : Plain) → once_word s ≡ 2 → is_complete s.phase ≡ true
   complete_by s is = grind (arith, is)
@@ -185,10 +153,16 @@ module _ (given : Option (Unit {0})) where
       let there = as_object n es played in
       ap (λ (o : Object). o.value) (sym there) ∙ told_there n (foretold es) (ap (λ (o : Object). o.words) there ∙ is)
 
+  -- each part of a schedule without skipped moves has none
+  played_parts : (es later : List Made) (s : World) → list_all is_played (outcomes (m given) s (es ++ later)) ≡ true
+      → (list_all is_played (outcomes (m given) s es) ≡ true) × (list_all is_played (outcomes (m given) (after (m given) s es) later) ≡ true)
+  played_parts [] later s is = (refl, is)
+  played_parts (e ∷ es) later s is = grind (arith, is, played_parts es later (happens (m given) s e.0 e.1).next)
+
   has_always : (n : ℕ) (old more : List Made) → list_all is_played (outcomes (m given) (From n) (old ++ more)) ≡ true → HasAlways (after (m given) (From n) old) more
   has_always n old more played ys zs is =
       subst HasIt (after-append (m given) (From n) old ys)
-      (has_it n (old ++ ys) (both_played (m given) (old ++ ys) zs (From n) (subst (λ l. list_all is_played (outcomes (m given) (From n) l) ≡ true) (ap (λ l. old ++ l) is ∙ sym (append_assoc old ys zs)) played)).0)
+      (has_it n (old ++ ys) (played_parts (old ++ ys) zs (From n) (subst (λ l. list_all is_played (outcomes (m given) (From n) l) ≡ true) (ap (λ l. old ++ l) is ∙ sym (append_assoc old ys zs)) played)).0)
 
   -- a party that has made its last step at the end of this schedule
   abbrev at_end : ℕ → List Made → Option (Numbered View)
@@ -216,8 +190,8 @@ module _ (given : Option (Unit {0})) where
             λ k. ap (λ o. list_all is_played (outcomes (t given) o (foretold new))) (sym (first_named given (will_fail new) (least + k))) ∙ (all_alike given new (From (least + k)) (played k)).1,
             λ k.
                 ap (λ o. outcomes_by (t given) p o (foretold more))
-                (ap (λ l. after (t given) (at_first (t given) (least + k)) (foretold_till old l)) new_is ∙ ap (λ o. after (t given) o (foretold_till old (old ++ more))) (sym (first_named given (will_fail (old ++ more)) (least + k))) ∙ leads_on given old more (From (least + k)) (all k))
-                ∙ outs_same p more (after (m given) (From (least + k)) old) (both_played (m given) old more (From (least + k)) (all k)).1 (has_always (least + k) old more (all k)) plain ∙ came k,
+                (ap (λ l. after (t given) (at_first (t given) (least + k)) (foretold_till old l)) new_is ∙ ap (λ o. after (t given) o (foretold_till old (old ++ more))) (sym (first_named given (will_fail (old ++ more)) (least + k))) ∙ (leads_on given old more (From (least + k)) (all k)).0)
+                ∙ outs_same p more (after (m given) (From (least + k)) old) (played_parts old more (From (least + k)) (all k)).1 (has_always (least + k) old more (all k)) plain ∙ came k,
           ),
           (rest, comes, own_is, outs_is, (i, rest_is, comes_are)),
         ),
@@ -233,7 +207,10 @@ module _ (given : Option (Unit {0})) where
   -- after a step that answers with a value, there is a value
   given_there : (seen : Seen ℕ (Unit {0}) (OnceCall (Unit {0})) OncePoint) (p : ℕ) → Invariant (once_facts given) seen → (event (once_facts given) seen (p, Step)).outcome ≡ Answered (Value tt) None
       → is_complete (event (once_facts given) seen (p, Step)).after.plain.phase ≡ true
-  given_there seen p good comes = grind (arith, comes, keeps_value (once_facts given) seen p Step good, lies)
+  given_there seen p good comes =
+      let s = event (once_facts given) seen (p, Step) in let keeps = keeps_value (once_facts given) seen p Step good in
+      let lies : s.after.state.value ≡ Some tt = subst (λ o. GivesAt (t given) Step o s.after.state.value) comes keeps.gives in
+      keeps.phase ∙ ap is_some lies
 
   gave_in : (c : OnceCall (Unit {0})) (before now : Option (Numbered View)) (old new : List Made) → Called given c (Value tt) before old now new → AsAnswered (t given) c (Value tt) now (foretold_till old new) (foretold new) (λ s. has_value s ≡ true)
   gave_in c before now old new made =

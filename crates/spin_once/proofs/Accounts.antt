@@ -1,7 +1,7 @@
 -- What a step tells a party that keeps a record of its calls, and how the party's steps add up to its calls.
-use Rattle.std.proofs.Common.{◌≡◌, ◌≢◌, ◌≤◌, le_of_eq, ◌++◌, ℕ, ◌+◌, true, false, Option, Some, None, List, [], ◌∷◌, length, arith, refl, sym, ap, ◌∙◌, subst}
+use Rattle.std.proofs.Common.{◌≡◌, ◌≢◌, ◌≤◌, le_of_eq, ◌++◌, ℕ, ◌+◌, true, false, Option, Some, None, List, [], ◌∷◌, length, arith, sym, ap, ◌∙◌, subst}
 use mathlib.Core.Logic.{◌⊎◌, inl, inr}
-use Rattle.spin_core.specs.Cell.{Use, Moved, Keeps, Preserves, Rests, use_of, off, reads, writes}
+use Rattle.spin_core.specs.Cell.{Use, Moved, Keeps, Preserves, Rests, use_of, off, writes}
 use Rattle.spin_core.specs.Own.{Numbered, what}
 use Rattle.spin_core.specs.Passes.{mark_of, IsCall, Begins as BeginsWith, IsStep, Waits}
 use Rattle.spin_core.specs.Spots as spots
@@ -20,20 +20,19 @@ use Rattle.spin_session.specs.Turns.{outcome_of, has_begun}
 use Rattle.spin_step.specs.declared.answer.Answer.TheVariants.{Failed, Value}
 use Rattle.spin_step.specs.declared.once_calls.OnceCall.TheVariants.{CallOnce, TryCallOnceOk}
 use Rattle.spin_step.specs.declared.once_calls.OncePoint.{OncePoint}
-use Rattle.spin_step.specs.declared.once_calls.OncePoint.TheVariants.{Look, TryBegin, Run}
-use Rattle.spin_step.specs.declared.place.Seat.TheVariants.{Calling, Holding}
+use Rattle.spin_step.specs.declared.once_calls.OncePoint.TheVariants.{Run}
+use Rattle.spin_step.specs.declared.place.Seat.TheVariants.{Idle}
 use Rattle.spin_step.specs.declared.schedule.Move.TheVariants.{Step, Weak}
 use Rattle.spin_step.specs.declared.schedule.Outcome.TheVariants.{GoingOn, Answered}
 use Rattle.spin_step.specs.declared.stepped.Next.TheVariants.{Continue, Answers}
-use Rattle.spin_once.specs.Accounts.{Place, here, bare_place, model_of, Moves, Since, WroteNone, Entered, Comes, Under}
+use Rattle.spin_once.specs.Accounts.{Place, bare_place, model_of, Moves, Since, WroteNone, Entered, Comes, Under}
 use Rattle.spin_once.specs.OnceValues.{Valued, bare_watch, Sees}
 use Rattle.spin_once.specs.OnceValues.{made as made_in}
 use Rattle.spin_once.specs.Once.{is_run, is_running, HasClosure, reader, in_call, Call, View, Onward, Moving, Says, OneMove, IsAt, IsFailure, Fails, IsFailedCall, IsOnce, Told, once_ways, seat_of, words_of, use_of_view, use_of_party, next_at, view_of, turn, turn_by}
-use Rattle.spin_once.specs.declared.once_core.init_permit.InitPermit.{InitPermit}
 use Rattle.spin_once.specs.declared.once_core.rule.Key.{Key}
 use Rattle.spin_once.specs.declared.once_core.rule.Stage.{Stage}
 use Rattle.spin_once.specs.declared.once_core.rule.Stage.TheVariants.{Seed}
-use Rattle.spin_once.proofs.Kept.{leaves, quiet_use, by_turn, any_call, writes_at}
+use Rattle.spin_once.proofs.Kept.{leaves, turn_is, any_call}
 use Rattle.spin_once.proofs.Moves.{begins_at, ends_at}
 use Rattle.spin_once.proofs.Valued.{as_long, bared, both_none, grows, stays, sees_on, writes_none_by}
 
@@ -86,6 +85,10 @@ module _ {T S : Type 0} (makes : S → T → Type 0) (key : Key T S) where
       → u' ≡ writes → after ≡ Some (maybe_stable (Seed key.seed.value))
   finds_seed u u' before after none kept runs = grind (arith, none, kept, runs)
 
+-- the party does not write any more after the step that ends its closure
+pub stops_writing : (view view' : Option (Numbered View)) (c : Call) → what view ≡ Some (in_call c Run) → (what view' ≡ Some Idle) ⊎ (what view' ≡ Some reader) → use_of use_of_party view ≡ use_of use_of_party view' → ⊥
+stops_writing view view' c runs ended same = grind (arith, runs, ended, same)
+
 -- ---- one step
 module _ {T S : Type 0} (makes : S → T → Type 0) where
   abbrev pub Of : Key T S → ℕ → Type 0
@@ -137,19 +140,13 @@ module _ {T S : Type 0} (makes : S → T → Type 0) where
             (use_of use_of_party q.1) shown shown' sees kept.0 learnt);
       }
 
-      -- the same for a party that wrote before the step, and does not write after it
-      pub keeps_end : (shown shown' : Option (MaybeStable (Stage T S))) → Keeps (once_ways makes p.0) p.1 q.1 shown shown' → Found (once_ways makes p.0) p.1 q.1 shown shown' q.2
-          → use_of use_of_party p.1 ≡ writes → use_of_view (to found) ≢ writes → Knows shown'
-      keeps_end shown shown' kept learnt wrote not =
-          keeps shown shown' kept learnt (λ e. absurd (not (ap (use_of use_of_view) (sym told.is) ∙ tie.same_use use_of_view q.1 ∙ sym e ∙ wrote)))
-
     -- the step of a call at a point
     module _ (c : Call) (l : OncePoint) (at : IsAt c l (what p.1)) (moved : Took (turn_by (Some c) (what p.1))) where
       abbrev pub says : Says
       says = turn (has_begun (what p.1)) c l
 
       pub turned : Took says
-      turned = by_turn c l (what p.1) at (λ x. Took x → Took says) (λ m. m) moved
+      turned = subst Took (turn_is c l (what p.1) at) moved
 
       abbrev pub ends : ℕ → View
       ends n = view_of c (next_at c l n)
@@ -171,62 +168,35 @@ module _ {T S : Type 0} (makes : S → T → Type 0) where
         comes quiet r under = comes_by r p q c under next since (silent says ends steps (λ own outs n v said. said) turned (not_running c l (what p.1) at quiet))
 
       module _ (shown shown' : Option (MaybeStable (Stage T S))) (kept : Keeps (once_ways makes p.0) p.1 q.1 shown shown') where
-        pub knows : Found (once_ways makes p.0) p.1 q.1 shown shown' q.2 → Sees p.0.opening p.2.entries (use_of use_of_party p.1) shown
+        pub knows : Found (once_ways makes p.0) p.1 q.1 shown shown' q.2 → (use_of use_of_party p.1 ≡ use_of use_of_party q.1 → Sees p.0.opening p.2.entries (use_of use_of_party p.1) shown)
             → Knows says ends steps (λ own outs n v said. said) turned shown'
-        knows learnt sees = keeps says ends steps (λ own outs n v said. said) turned shown shown' kept learnt (λ e. sees)
-
-        pub knows_end : Found (once_ways makes p.0) p.1 q.1 shown shown' q.2 → use_of use_of_party p.1 ≡ writes → use_of_view (ends found) ≢ writes
-            → Knows says ends steps (λ own outs n v said. said) turned shown'
-        knows_end learnt = keeps_end says ends steps (λ own outs n v said. said) turned shown shown' kept learnt
+        knows = keeps says ends steps (λ own outs n v said. said) turned shown shown' kept
 
         -- a party that begins to run its closure finds the seed
         pub seed : is_run l ≡ false → use_of use_of_party q.1 ≡ writes → shown' ≡ Some (maybe_stable (Seed q.0.seed.value))
         seed quiet runs =
-            let leads = begins_at c l quiet found (sym (ap (use_of use_of_view) made.1) ∙ tie.same_use use_of_view q.1 ∙ runs) in
-            let none : use_of use_of_party p.1 ≡ off = elim (quiet_use c l (what p.1) at quiet) [ inl none ↦ sym (tie.same_use use_of_view p.1) ∙ none | inr reading ↦ absurd (let d : Look ≡ TryBegin = sym reading.1 ∙ leads in cc) ] in
-            finds_seed makes p.0 (use_of use_of_party p.1) (use_of use_of_party q.1) shown shown' none kept runs ∙ ap (λ k. Some (maybe_stable (Seed k.seed.value))) (sym same)
+            let none : use_of use_of_party p.1 ≡ off = sym (tie.same_use use_of_view p.1) ∙ begins_at c l (what p.1) at quiet found (sym (ap (use_of use_of_view) made.1) ∙ tie.same_use use_of_view q.1 ∙ runs) in
+            rw same (finds_seed makes p.0 (use_of use_of_party p.1) (use_of use_of_party q.1) shown shown' none kept runs)
 
--- The permit's party has put a value into the cell, and is still at the point `p`. The store that ends its call leads it to the point `q`.
-module _ {T S : Type 0} (makes : S → T → Type 0) (me : InitPermit T S) (p q : Place T S) (found : ℕ) (at : p ≡ here me.account) (same : q.0 ≡ p.0)
-    (moved : Moved (Watches (Of makes p.0 p.2.name) p.2 q.2 (Told p.0.opening (turn_by (Some (CallOnce tt)) (what p.1)) p.1) found) q.1) where
-  abbrev knew : mark_of p.1 ≤ length p.2.entries
-  knew = subst (λ (z : Place T S). mark_of z.1 ≤ length z.2.entries) (sym at) me.account.knows
+-- The party runs its closure at the point `p`. The store that ends its call leads it to the point `q`.
+module _ {T S : Type 0} (makes : S → T → Type 0) (p q : Place T S) (found : ℕ) (knew : mark_of p.1 ≤ length p.2.entries) (named : p.0.opening.name ≡ p.2.name) (same : q.0 ≡ p.0)
+    (moved : Took makes p q found knew named same (turn_by (Some (CallOnce tt)) (what p.1))) (c : Call) (may : HasClosure c) (runs : what p.1 ≡ Some (in_call c Run)) where
+  abbrev ended : Took makes p q found knew named same (turn_by (Some c) (what p.1))
+  ended = subst (Took makes p q found knew named same) (any_call (CallOnce tt) c Run (what p.1) runs) moved
 
-  abbrev named : p.0.opening.name ≡ p.2.name
-  named = subst (λ (z : Place T S). z.0.opening.name ≡ z.2.name) (sym at) me.account.named
+  pub completes : (r : Place T S) → Entered c r p → Since r (IsCall c (Value tt)) q
+  completes r (is_in, none) =
+      let step = since makes p q found knew named same c Run (inl runs) ended (Answers (Value tt) None) (sym (ends_at c may found).0) in
+      sealed r q (IsCall c (Value tt)) (is_answered model_of c (bare_place r) (bare_place p) (bare_place q) (opened r p (BeginsWith c Waits) is_in) (Value tt)
+      (opened p q (IsStep true c (Answered (Value tt) None)) (rw runs at step)))
 
-  module _ (c : Call) (may : HasClosure c) (is : what me.account.party.view ≡ Some (in_call c Run)) where
-    abbrev runs : what p.1 ≡ Some (in_call c Run)
-    runs = ap (λ (z : Place T S). what z.1) at ∙ is
+  pub reads_value : what q.1 ≡ Some reader
+  reads_value = next_view makes p q found knew named same c Run (inl runs) ended (Answers (Value tt) None) (sym (ends_at c may found).0)
 
-    abbrev ended : Took makes p q found knew named same (turn_by (Some c) (what p.1))
-    ended = any_call (CallOnce tt) c Run (what p.1) runs (Took makes p q found knew named same) moved
-
-    pub completes : (r : Place T S) → Entered c r (here me.account) → Since r (IsCall c (Value tt)) q
-    completes r on =
-        let is_in = (subst (Entered c r) (sym at) on).0 in let step = since makes p q found knew named same c Run (inl runs) ended (Answers (Value tt) None) (sym (ends_at c may found).0) in
-        sealed r q (IsCall c (Value tt)) (is_answered model_of c (bare_place r) (bare_place p) (bare_place q) (opened r p (BeginsWith c Waits) is_in) (Value tt)
-        (opened p q (IsStep true c (Answered (Value tt) None)) (subst (λ b. Since p (IsStep b c (Answered (Value tt) None)) q) (ap has_begun runs) step)))
-
-    pub reads_value : what q.1 ≡ Some reader
-    reads_value = next_view makes p q found knew named same c Run (inl runs) ended (Answers (Value tt) None) (sym (ends_at c may found).0)
-
-    pub knows_value : (shown shown' : Option (MaybeStable (Stage T S))) (kept : Keeps (once_ways makes p.0) p.1 q.1 shown shown') → Found (once_ways makes p.0) p.1 q.1 shown shown' q.2
-        → Knows makes p q found knew named same (says makes p q found knew named same c Run (inl runs) ended) (ends makes p q found knew named same c Run (inl runs) ended) (steps makes p q found knew named same c Run (inl runs) ended)
-        (λ own outs n v said. said) (turned makes p q found knew named same c Run (inl runs) ended) shown'
-    knows_value shown shown' kept learnt =
-        knows_end makes p q found knew named same c Run (inl runs) ended shown shown' kept learnt (writes_at p.1 c runs)
-        (λ e. absurd (let d : reads ≡ writes = sym (ap (λ x. use_of_view (view_of c x)) (ends_at c may found).0) ∙ e in cc))
+  pub knows_value : (shown shown' : Option (MaybeStable (Stage T S))) (kept : Keeps (once_ways makes p.0) p.1 q.1 shown shown') → Found (once_ways makes p.0) p.1 q.1 shown shown' q.2
+      → Knows makes p q found knew named same (says makes p q found knew named same c Run (inl runs) ended) (ends makes p q found knew named same c Run (inl runs) ended) (steps makes p q found knew named same c Run (inl runs) ended)
+      (λ own outs n v said. said) (turned makes p q found knew named same c Run (inl runs) ended) shown'
+  knows_value shown shown' kept learnt = knows makes p q found knew named same c Run (inl runs) ended shown shown' kept learnt (λ on. absurd (stops_writing p.1 q.1 c runs (inr reads_value) on))
 
 pub may_finish : {T S : Type 0} (opening : Opening (Stage T S)) (view : Option (Numbered View)) → has_begun (what view) ≡ false → Rests (IsOnce opening) use_of_party view ⊎ (use_of use_of_party view ≢ off)
-may_finish opening None out = inl tt
-may_finish opening (Some v) out = at v.0 refl
-  where
-    at : (x : View) → v.0 ≡ x → Rests (IsOnce opening) use_of_party (Some v) ⊎ (use_of_view v.0 ≢ off)
-    at (Holding h) e = inr (λ no. absurd (let d : reads ≡ off = sym (ap use_of_view e) ∙ no in cc))
-    at (Calling c l h) e = absurd (let d : true ≡ false = sym (ap (λ x. has_begun (Some x)) e) ∙ out in cc)
-    at _ e = inl (leaves opening v (ap seat_of e) (ap use_of_view e))
-
--- a step of a call, by what is known of how the call goes on
-pub comes_as : {T S : Type 0} (c : Call) (p q : Place T S) (next other : Onward) → next ≡ other → Comes c next p q → Comes c other p q
-comes_as c p q next other is = subst (λ x. Comes c x p q) is
+may_finish opening view out = grind (arith, out, leaves opening)

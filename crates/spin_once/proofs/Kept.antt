@@ -1,7 +1,7 @@
 -- Each step keeps the rule of a value that is made once, and appends its moves to the trace.
 use Rattle.std.proofs.Common.{◌≡◌, ◌≢◌, Bool, true, false, ℕ, zero, suc, ◌+◌, replicate, ◌<◌, List, [], ◌∷◌, Option, Some, None, refl, sym, ap, ◌∙◌, subst, arith}
 use mathlib.Core.Logic.{◌⊎◌, inl, inr}
-use Rattle.spin_core.specs.Cell.{Use, off, reads, writes, use_of, alone, Fixed, Opens, Rests, Lends, Knowing, readers_of, writers_of, no_fact}
+use Rattle.spin_core.specs.Cell.{off, reads, writes, use_of, alone, Fixed, Opens, Rests, Lends, Knowing, readers_of, writers_of, no_fact}
 use Rattle.spin_core.specs.Own.{Numbered, what, IsRun, Runs, Tells}
 use Rattle.spin_core.specs.Passes.{IsStep, Ending}
 use Rattle.spin_core.specs.Stable.{maybe_stable, StableAt}
@@ -19,7 +19,7 @@ use Rattle.spin_step.specs.Acts.{operation_by}
 use Rattle.spin_step.specs.OnceCalls.{act_of}
 use Rattle.spin_step.specs.Operations.{wrapped}
 use Rattle.spin_step.specs.Schedules.{Entry, State}
-use Rattle.spin_step.specs.declared.once_calls.OnceCall.TheVariants.{TryCallOnceOk, Wait, Poll, Get, IsCompleted}
+use Rattle.spin_step.specs.declared.once_calls.OnceCall.TheVariants.{TryCallOnceOk, Wait}
 use Rattle.spin_step.specs.declared.once_calls.OncePoint.{OncePoint}
 use Rattle.spin_step.specs.declared.once_calls.OncePoint.TheVariants.{Look, Run}
 use Rattle.spin_step.specs.declared.place.Seat.TheVariants.{Idle, Calling}
@@ -32,7 +32,7 @@ use Rattle.spin_once.specs.declared.once_core.rule.Stage.{Stage}
 use Rattle.spin_once.specs.declared.once_core.rule.Stage.TheVariants.{Seed, Done}
 use Rattle.spin_once.proofs.Steps as steps
 use Rattle.spin_once.proofs.Steps.{ComesTo, May, Fits}
-use Rattle.spin_once.proofs.Moves.{Moves, after_word, finding, turn_moves, fail_moves, words_at, free_at, fits_at, reads_at, ends_at}
+use Rattle.spin_once.proofs.Moves.{Moves, after_word, finding, turn_moves, fail_moves, words_at, free_at, fits_at, ends_at}
 use Rattle.spin_once.proofs.Valued.{valued, writes_none, none_written, plainly, bare_moves, Leaving}
 
 -- while a closure runs the word is 1, and the history has no value
@@ -43,24 +43,15 @@ none_yet n vs few one = grind (arith, few, one)
 pub quiet_use : (c : Call) (l : OncePoint) (view : Option View) → IsAt c l view → is_run l ≡ false → (use_of use_of_view view ≡ off) ⊎ ((use_of use_of_view view ≡ reads) × (l ≡ Look))
 quiet_use c l view at quiet = grind (arith, at, quiet)
 
--- what such a party's next step does with the word
-quiet_fits : (c : Call) (l : OncePoint) → is_run l ≡ false → (u : Use) → (u ≡ off) ⊎ ((u ≡ reads) × (l ≡ Look)) → (n : ℕ) → May u n
-    → Fits u (use_of_view (view_of c (next_at c l n))) n (after_word c l n)
-quiet_fits c l quiet u (inl none) n may = rw none (fits_at c l quiet n (rw none at may))
-quiet_fits c l quiet u (inr (reading, look)) n may = let two : n ≡ 2 = rw reading at may in rw (reading, look, two) (reads_at c)
-
 -- the play of a step is that of its point
-pub by_turn : (c : Call) (l : OncePoint) (view : Option View) → IsAt c l view → (P : Says → Type 0) → P (turn (has_begun view) c l) → P (turn_by (Some c) view)
-by_turn c l view (inl is) P so = rw is (rw is at so)
-by_turn c l view (inr (look, out)) P so = first view out (rw (out, look) at so)
-  where
-    first : (view : Option View) → has_begun view ≡ false → P (turn false c Look) → P (turn_by (Some c) view)
-    first (Some (Calling d k h)) out so = absurd (cc out)
-    first _ out so = so
+pub turn_is : (c : Call) (l : OncePoint) (view : Option View) → IsAt c l view → turn_by (Some c) view ≡ turn (has_begun view) c l
+turn_is c l view (inl is) = rw is refl
+turn_is c l (Some (Calling d k h)) (inr (look, out)) = absurd (cc out)
+turn_is c l _ (inr (look, out)) = rw look refl
 
 -- a party in a call makes the step of this call, whichever call it may begin
-pub any_call : (first c : Call) (l : OncePoint) (view : Option View) → view ≡ Some (in_call c l) → (P : Says → Type 0) → P (turn_by (Some first) view) → P (turn_by (Some c) view)
-any_call first c l view is P so = rw is (rw is at so)
+pub any_call : (first c : Call) (l : OncePoint) (view : Option View) → view ≡ Some (in_call c l) → turn_by (Some first) view ≡ turn_by (Some c) view
+any_call first c l view is = rw is refl
 
 pub running_call : (view : Option View) → is_running view ≡ true → (c : Call) × HasClosure c × (view ≡ Some (in_call c Run))
 running_call view is = grind (arith, is)
@@ -118,22 +109,19 @@ module _ {T S : Type 0} (makes : S → T → Type 0) (key : Key T S) where
         (λ own outs n u said. lifts (has_begun was) c (outcome_of (next_at c l n)) own outs said.0.1)
         (writes_none makes key view shown (after_word c l) (finding found says) (λ e. silent (tie.same_use use_of_view view ∙ e)) (stays l quiet)) (λ idle. none_written)
         (traces view shown (after_word c l) _ (finding found says) moving
-        (steps.steps makes key was shown (λ n. view_of c (next_at c l n)) (after_word c l) (quiet_fits c l quiet (use_of use_of_view was) used) (λ n r e. absurd (silent e))))
+        (steps.steps makes key was shown (λ n. view_of c (next_at c l n)) (after_word c l) (fits_at c l quiet (use_of use_of_view was) used) (λ n r e. absurd (silent e))))
       where
         stays : (l : OncePoint) → is_run l ≡ false → (n : ℕ) → n ≡ 2 → after_word c l n ≡ 2
         stays l quiet n two = grind (arith, quiet, two)
 
     pub turns : is_run l ≡ false → Operates just_one (IsOnce key.opening) (once_ways makes key) view shown 0 (wrapped (operation_by (act_of c l None))) (Told key.opening (turn_by (Some c) was) view)
-    turns quiet = by_turn c l was at (λ x. Operates just_one (IsOnce key.opening) (once_ways makes key) view shown 0 (wrapped (operation_by (act_of c l None))) (Told key.opening x view)) (operates c l quiet (Told key.opening says view) (keeps quiet))
+    turns quiet = rw (turn_is c l was at) (operates c l quiet (Told key.opening says view) (keeps quiet))
       where
         operates : (c : Call) (l : OncePoint) → is_run l ≡ false → (told : List (Entry Call T) → List (Entry Call T) → ℕ → Numbered View → Type 0) → Traces (IsOnce key.opening) (once_ways makes key) view shown (after_word c l) told
             → Operates just_one (IsOnce key.opening) (once_ways makes key) view shown 0 (wrapped (operation_by (act_of c l None))) told
+        operates c Run quiet told so = absurd (cc quiet)
         operates Wait l quiet told so = so
-        operates Poll l quiet told so = so
-        operates Get l quiet told so = so
-        operates IsCompleted l quiet told so = so
-        operates _ Run quiet told so = absurd (cc quiet)
-        operates _ _ quiet told so = so
+        operates c l quiet told so = so
 
   -- the last step of a call whose closure gave a value is a write of that value
   pub ends : (c : Call) → HasClosure c → (view : Option (Numbered View)) → what view ≡ Some (in_call c Run) → (first : Call) (value : T) → makes key.seed.value value

@@ -1,16 +1,16 @@
 -- The moves of each step of a value that is made once. Either the step begins a call of the model and makes its first step, or it is the
 -- next step of a call under way. The model's table has each of these steps.
-use Rattle.std.proofs.Common.{◌≡◌, ◌≤◌, true, false, ℕ, [], ◌∷◌, Option, Some, None, refl, sym, ap, ◌∙◌, arith}
+use Rattle.std.proofs.Common.{◌≡◌, true, false, ℕ, [], ◌∷◌, Option, Some, None, refl, sym, ap, ◌∙◌, arith}
 use mathlib.Core.Logic.{◌⊎◌, inl, inr}
 use Rattle.std.specs.List.{list_all}
 use Rattle.spin_core.specs.Run.{AreMoves, is_played, by_first}
-use Rattle.spin_core.specs.Cell.{off, reads, writes}
+use Rattle.spin_core.specs.Cell.{Use, off, reads, writes, use_of}
 use Rattle.spin_session.specs.Turns.{outcome_of, has_begun}
 use Rattle.spin_step.specs.declared.answer.Answer.{Answer}
 use Rattle.spin_step.specs.declared.answer.Answer.TheVariants.{Value, Failed}
 use Rattle.spin_step.specs.declared.once_calls.OnceCall.TheVariants.{TryCallOnceOk, Get}
 use Rattle.spin_step.specs.declared.once_calls.OncePoint.{OncePoint}
-use Rattle.spin_step.specs.declared.once_calls.OncePoint.TheVariants.{Look, TryBegin, Run}
+use Rattle.spin_step.specs.declared.once_calls.OncePoint.TheVariants.{Look, Run}
 use Rattle.spin_step.specs.declared.place.Seat.TheVariants.{Idle, Calling}
 use Rattle.spin_step.specs.declared.schedule.Move.TheVariants.{Begin, Step, Weak}
 use Rattle.spin_step.specs.declared.schedule.Outcome.TheVariants.{Begun, GoingOn, Answered}
@@ -19,10 +19,10 @@ use Rattle.spin_step.specs.declared.stepped.Stepped.{Stepped}
 use Rattle.spin_step.specs.Acts.{filled, operation_by, next_of}
 use Rattle.spin_step.specs.OnceCalls.{OnceMachine, once_machine, once_table_of, act_of}
 use Rattle.spin_step.specs.Operations.{performed}
-use Rattle.spin_step.specs.Schedules.{State, begun, goes_on, happens, placed}
-use Rattle.spin_once.specs.Model.{Point, at, onward, model}
-use Rattle.spin_once.specs.Once.{Call, View, Onward, Says, HasClosure, IsAt, seat_of, words_of, use_of_view, in_call, is_run, next_at, answered, view_of, turn, fails_by, stops, IsTold}
-use Rattle.spin_once.proofs.Steps.{ComesTo, Fits}
+use Rattle.spin_step.specs.Schedules.{State, placed}
+use Rattle.spin_once.specs.Model.{Point, at, model}
+use Rattle.spin_once.specs.Once.{Call, View, Onward, Says, HasClosure, IsAt, seat_of, words_of, use_of_view, in_call, is_run, next_at, view_of, turn, fails_by, stops, IsTold}
+use Rattle.spin_once.proofs.Steps.{ComesTo, May, Fits}
 
 -- the table's step of a call
 abbrev pub table : Call → OncePoint → ℕ → Stepped ℕ (Unit {0}) OncePoint (Answer (Unit {0}))
@@ -47,23 +47,8 @@ World = State ℕ (Unit {0}) Call Point
 abbrev at_point : Call → OncePoint → ℕ → Option (Unit {0}) → World
 at_point c l n value = record { words = n; value = value; seats = Calling c (at l) None ∷ [] }
 
-answers_idle : (a : Answer (Unit {0})) → seat_of (answered a) ≡ Idle
-answers_idle a = grind arith
-
--- where the step of a call leads the model, if it finds the word `n`
-record Led (c : Call) (l : OncePoint) (n : ℕ) (value : Option (Unit {0})) (next : Onward) : Type 0 where
-  is : (goes_on (at_point c l n value) 0 c None (onward next)).next ≡ record { words = n; value = value; seats = seat_of (view_of c next) ∷ [] }
-  outcome : (goes_on (at_point c l n value) 0 c None (onward next)).outcome ≡ outcome_of next
-  played : list_all is_played (outcome_of next ∷ []) ≡ true
-
-leads : (c : Call) (l : OncePoint) (n : ℕ) (value : Option (Unit {0})) (next : Onward) → IsFree next → Led c l n value next
-leads c l n value (Continue k) free = record { is = refl; outcome = refl; played = refl }
-leads c l n value (Answers a None) free = record {
-  is = ap (λ x. let s : World = record { words = n; value = value; seats = x ∷ [] } in s) (sym (answers_idle a));
-  outcome = refl;
-  played = refl;
-}
-leads c l n value (Answers a (Some h)) free = absurd (cc free)
+ends : (next : Onward) → IsFree next → list_all is_played (outcome_of next ∷ []) ≡ true
+ends next free = grind (arith, free)
 
 starts : (c : Call) → (model None).begin c None ≡ Some (at Look)
 starts c = grind arith
@@ -83,35 +68,31 @@ module _ (given : Option (Unit {0})) where
 
     next_moves : Moves (Some (in_call c l)) f (ComesTo to Q) (finding Q (turn true c l))
     next_moves n value v is =
-        let st = table c l n in let now : Option (Unit {0}) = placed st.placed value in let led = leads c l st.words now st.next (free n is.1) in (
+        let st = table c l n in let now : Option (Unit {0}) = placed st.placed value in let none = free n is.1 in (
           Step ∷ [],
           outcome_of st.next ∷ [],
           ((is.0, (refl, refl)), is.1),
           refl,
-          led.played,
+          ends st.next none,
           st.words,
           now,
-          led.is ∙ ap (λ x. let s : World = record { words = st.words; value = now; seats = seat_of x ∷ [] } in s) (sym is.0),
-          ap (λ o. o ∷ []) led.outcome,
+          grind (arith, is.0, none),
+          grind (arith, none),
           ap words_of (words n is.1),
         )
 
     first_moves : l ≡ Look → Moves None f (ComesTo to Q) (finding Q (turn false c l))
     first_moves look n value v is =
-        let st = table c l n in let m = model given in let now : Option (Unit {0}) = placed st.placed value in
-        let led = leads c l st.words now st.next (free n is.1) in let out = outcome_of st.next in
-        let idle : World = record { words = n; value = value; seats = Idle ∷ [] } in let begin : m.begin c None ≡ Some (at l) = rw look (starts c) in (
+        let st = table c l n in let now : Option (Unit {0}) = placed st.placed value in let none = free n is.1 in let begin : (model given).begin c None ≡ Some (at l) = rw look (starts c) in (
           Begin c ∷ Step ∷ [],
-          Begun ∷ out ∷ [],
+          Begun ∷ outcome_of st.next ∷ [],
           ((is.0, (refl, refl)), is.1),
           refl,
-          led.played,
+          ends st.next none,
           st.words,
           now,
-          ap (λ o. (happens m (begun {A = Answer (Unit {0})} idle 0 c None o).next 0 Step).next) begin ∙ led.is
-              ∙ ap (λ x. let s : World = record { words = st.words; value = now; seats = seat_of x ∷ [] } in s) (sym is.0),
-          ap (λ o. let h = begun {A = Answer (Unit {0})} idle 0 c None o in
-              h.outcome ∷ (happens m h.next 0 Step).outcome ∷ []) begin ∙ ap (λ o. Begun ∷ o ∷ []) led.outcome,
+          grind (arith, is.0, none, begin),
+          grind (arith, none, begin),
           ap words_of (words n is.1),
         )
 
@@ -140,13 +121,9 @@ free_at c l n = grind arith
 pub words_at : (c : Call) (l : OncePoint) (n : ℕ) → (table c l n).words ≡ after_word c l n
 words_at c l n = grind arith
 
--- the step of a party that does not use the content
-pub fits_at : (c : Call) (l : OncePoint) → is_run l ≡ false → (n : ℕ) → n ≤ 2 → Fits off (use_of_view (view_of c (next_at c l n))) n (after_word c l n)
-fits_at c l quiet n small = grind (arith, quiet, small)
-
--- the first step of a party that reads finds the value
-pub reads_at : (c : Call) → Fits reads (use_of_view (view_of c (next_at c Look 2))) 2 (after_word c Look 2)
-reads_at c = grind arith
+-- the step of a party that does not use the content, or reads it and begins a call
+pub fits_at : (c : Call) (l : OncePoint) → is_run l ≡ false → (u : Use) → (u ≡ off) ⊎ ((u ≡ reads) × (l ≡ Look)) → (n : ℕ) → May u n → Fits u (use_of_view (view_of c (next_at c l n))) n (after_word c l n)
+fits_at c l quiet u used n may = grind (arith, quiet, used, may)
 
 -- the step that ends a closure which gives a value
 pub ends_at : (c : Call) → HasClosure c → (n : ℕ) → (next_at c Run n ≡ Answers (Value tt) None) × (after_word c Run n ≡ 2)
@@ -159,6 +136,6 @@ closure_stops c may l n stopped = grind (arith, may, stopped)
 pub get_stops : (n : ℕ) → IsTold (next_at Get Look n)
 get_stops n = grind arith
 
--- only an exchange begins a closure
-pub begins_at : (c : Call) (l : OncePoint) → is_run l ≡ false → (n : ℕ) → use_of_view (view_of c (next_at c l n)) ≡ writes → l ≡ TryBegin
-begins_at c l quiet n runs = grind (arith, quiet, runs)
+-- only an exchange begins a closure, of a party that does not use the content
+pub begins_at : (c : Call) (l : OncePoint) (view : Option View) → IsAt c l view → is_run l ≡ false → (n : ℕ) → use_of_view (view_of c (next_at c l n)) ≡ writes → use_of use_of_view view ≡ off
+begins_at c l view is quiet n runs = grind (arith, is, quiet, runs)

@@ -5,7 +5,7 @@ use Rattle.spin_step.specs.declared.once_calls.OnceCall.{OnceCall}
 use Rattle.spin_step.specs.declared.place.Hold.{Hold}
 use Rattle.spin_step.specs.declared.place.Seat.{Seat}
 use Rattle.spin_step.specs.declared.place.Seat.TheVariants.{Calling}
-use Rattle.spin_step.specs.declared.schedule.Move.TheVariants.{Begin, Step, Weak, Read, Write, Leak, OwnerGet, OwnerSet}
+use Rattle.spin_step.specs.declared.schedule.Move.TheVariants.{Begin, Step, Weak}
 use Rattle.spin_step.specs.declared.stepped.Next.{Next}
 use Rattle.spin_step.specs.Schedules.{State, Happened, after, moves_at, goes_on, placed, seen_by_owner}
 use Rattle.spin_once.specs.Model.{Point, model}
@@ -44,12 +44,5 @@ module _ (given : Option (Unit {0})) (s : World) (q p : ℕ) (is : rests (slice_
   rests_on w value c h next ne = grind (arith, is, ne, rests_set s.seats q p)
 
   pub rests_after : (move : OneMove) (o : Option (Seat Call Point)) → (is_step move ≡ true → q ≡ p → ⊥) → RestsAfter (moves_at (model given) s q move o)
-  rests_after (Begin c) o ne = grind (arith, is, ne, rests_set s.seats q p)
   rests_after Step (Some (Calling c l h)) ne = let st = (model given).step s.words s.value c l h in rests_on st.words (placed st.placed s.value) c h st.next (ne refl)
-  rests_after Step _ ne = is
-  rests_after Weak o ne = grind (arith, is, ne, rests_set s.seats q p)
-  rests_after Read o ne = grind (arith, is)
-  rests_after (Write v) o ne = grind (arith, is)
-  rests_after Leak o ne = grind (arith, is, rests_set s.seats q p)
-  rests_after OwnerGet o ne = grind (arith, is, rests_seen s.seats p)
-  rests_after (OwnerSet v) o ne = grind (arith, is, rests_seen s.seats p)
+  rests_after move o ne = grind (arith, is, ne, rests_set s.seats q p, rests_seen s.seats p)

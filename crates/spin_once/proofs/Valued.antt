@@ -1,14 +1,19 @@
 -- What a step that makes moves of the model appends to the history with the values. In this history the last step of a
 -- call whose closure gave a value is a write of that value. Each step keeps what is known of the value.
-use Rattle.std.proofs.Common.{◌≡◌, ◌≢◌, ℕ, suc, ◌≤◌, Bool, true, false, Option, Some, None, is_some, List, [], ◌∷◌, ◌++◌, map, length, length-append, drop, refl, sym, ap, ◌∙◌, subst, arith}
+use Rattle.std.proofs.Common.{◌≡◌, ◌≢◌, ℕ, ◌≤◌, Bool, true, false, Option, Some, None, List, [], ◌∷◌, ◌++◌, map, length, length-append, drop, refl, sym, ap, ◌∙◌, subst, arith}
 use Rattle.std.proofs.lemmas.List.{append_assoc, append-nil, map-append, drop-append-le}
+use Rattle.std.specs.List.{flat_map}
+use Rattle.std.proofs.lemmas.Grind.{flat_map-append}
+use Rattle.std.proofs.lemmas.List.{length-map}
+use Rattle.std.proofs.lemmas.List.Folds.{flat_map-map}
+use Rattle.std.proofs.lemmas.List.Elements.{filter-append}
+use Rattle.std.proofs.lemmas.Simd.{map-map}
 use mathlib.Core.List.{IsPrefix}
 use mathlib.Core.Logic.{◌⊎◌, inl, inr}
-use Rattle.spin_core.specs.Cell.{Use, off, reads, writes, use_of, Way, no_fact, Carries, Carrying, Meets, Moved, Shows, SameValue, Learns, readers_of, after as views_after}
+use Rattle.spin_core.specs.Cell.{Use, writes, use_of, Way, no_fact, Carries, Carrying, Meets, Moved, Shows, readers_of, after as views_after}
 use Rattle.spin_core.specs.Own.{Numbered, what, mark_of, Runs, IsRun, Tells, by_party, entries_by}
 use Rattle.spin_core.specs.Passes.{Ending}
 use Rattle.spin_core.specs.Traced.{Traces, Watches, Learnt, grown}
-use Rattle.spin_core.specs.Stable.{maybe_stable}
 use Rattle.spin_core.specs.declared.cell.stable.MaybeStable.{MaybeStable}
 use Rattle.spin_core.specs.declared.tie.Opening.{Opening}
 use Rattle.spin_core.specs.declared.trace.Trace.{Trace}
@@ -20,10 +25,9 @@ use Rattle.spin_step.specs.declared.schedule.Move.TheVariants.{Begin, Step, Weak
 use Rattle.spin_once.specs.Accounts.{WroteNone}
 use Rattle.spin_once.specs.Model.{model}
 use Rattle.spin_once.specs.Once.{OneMove, View, Says, Word, use_of_view, use_of_party, once_ways, seat_of, words_of, IsOnce, Told, is_running}
-use Rattle.spin_once.specs.OnceValues.{Valued, Made, bare_move, bare, bare_trace, bare_watch, value_of, values_of, values, written_by, lies_in, given_of, made, AtMostOne, IsMade, IsValue, uses, Sees}
+use Rattle.spin_once.specs.OnceValues.{Valued, Made, bare_move, bare, bare_trace, bare_watch, value_of, values, written_by, given_of, made, AtMostOne, IsMade, IsValue, Sees}
 use Rattle.spin_once.specs.declared.once_core.rule.Key.{Key}
 use Rattle.spin_once.specs.declared.once_core.rule.Stage.{Stage}
-use Rattle.spin_once.specs.declared.once_core.rule.Stage.TheVariants.{Done}
 
 abbrev pub ValueMove : Type 0 → Type 0
 ValueMove T = Move (OnceCall (Unit {0})) T
@@ -36,20 +40,13 @@ module _ {T : Type 0} where
   bare_append xs ys = map-append (λ (e : Valued T). (e.0, bare_move e.1)) xs ys
 
   bare_by : (p : ℕ) (own : List (ValueMove T)) → bare (by_party p own) ≡ by_party p (bare_moves own)
-  bare_by p [] = refl
-  bare_by p (move ∷ own) = ap (λ l. (p, bare_move move) ∷ l) (bare_by p own)
+  bare_by p own = simp map-map
 
   pub as_long : (es : List (Valued T)) → length (bare es) ≡ length es
-  as_long [] = refl
-  as_long (e ∷ es) = ap suc (as_long es)
+  as_long es = simp length-map
 
-  values-append : (xs ys : List (Valued T)) → values (xs ++ ys) ≡ values xs ++ values ys
-  values-append [] ys = refl
-  values-append (x ∷ xs) ys = ap (λ l. value_of x.1 ++ l) (values-append xs ys) ∙ sym (append_assoc (value_of x.1) (values xs) (values ys))
-
-  values_by : (p : ℕ) (own : List (ValueMove T)) → values (by_party p own) ≡ values_of own
-  values_by p [] = refl
-  values_by p (move ∷ own) = ap (λ l. value_of move ++ l) (values_by p own)
+  abbrev pub values_of : List (ValueMove T) → List T
+  values_of own = flat_map value_of own
 
   -- a party that makes none of the model's entries `xs ++ bare ys` writes nothing by `ys`
   behind : (p : ℕ) (xs : List Made) (ys : List (Valued T)) → entries_by p (xs ++ bare ys) ≡ [] → written_by p ys ≡ []
@@ -62,8 +59,7 @@ module _ {T : Type 0} where
   by_none p (e ∷ es) none = grind (arith, none, by_none p es)
 
   pub both_none : (p : ℕ) (xs ys : List (Valued T)) → written_by p xs ≡ [] → written_by p ys ≡ [] → written_by p (xs ++ ys) ≡ []
-  both_none p [] ys first next = next
-  both_none p (x ∷ xs) ys first next = grind (arith, first, next, both_none p xs ys)
+  both_none p xs ys first next = rw (filter-append, flat_map-append, first, next) refl
 
   -- the moves of the history for moves of the model that write nothing
   abbrev plain_move : OneMove → ValueMove T
@@ -80,10 +76,10 @@ module _ {T : Type 0} where
 
   module _ {S : Type 0} (first : Stage T S) where
     made-append : (xs ys : List (Valued T)) → made first (xs ++ ys) ≡ made first xs ++ values ys
-    made-append xs ys = ap (λ l. lies_in first ++ l) (values-append xs ys) ∙ sym (append_assoc (lies_in first) (values xs) (values ys))
+    made-append xs ys = rw (flat_map-append, append_assoc) refl
 
     made_by : (log : List (Valued T)) (p : ℕ) (own : List (ValueMove T)) → made first (log ++ by_party p own) ≡ made first log ++ values_of own
-    made_by log p own = made-append log (by_party p own) ∙ ap (λ l. made first log ++ l) (values_by p own)
+    made_by log p own = made-append log (by_party p own) ∙ rw flat_map-map refl
 
   -- a list with at most one value, which begins with `v`, has only `v`
   only : (v : T) (more : List T) → length (v ∷ more) ≤ 1 → v ∷ more ≡ v ∷ []
@@ -168,7 +164,7 @@ module _ {T S : Type 0} (makes : S → T → Type 0) (key : Key T S) where
           w,
           es',
           going_map way (use_of use_of_party view) (use_of_party w) shown (readers_of use_of_party vs) keeps going,
-          (subst (λ l. Tells m seat_of words_of says view (bare t.entries) l n w) (sym same) (own, outs, is, mark, none, mine, less own outs n w.0 said), few.1, λ quiet. values_by w.1 (put own) ∙ hushes quiet own),
+          (subst (λ l. Tells m seat_of words_of says view (bare t.entries) l n w) (sym same) (own, outs, is, mark, none, mine, less own outs n w.0 said), few.1, λ quiet. flat_map-map (λ (e : Valued T). value_of e.1) (λ (move : ValueMove T). (w.1, move)) (put own) ∙ hushes quiet own),
         )
 
   -- the condition holds for moves that write nothing, of a party that does not write
@@ -217,28 +213,9 @@ module _ {T S : Type 0} (makes : S → T → Type 0) (key : Key T S) where
   -- What a party that uses the content sees after a step. If it had the same use before, it sees what it saw before. If not, it sees what
   -- it finds.
   module _ (old new : List (Valued T)) (stays_on : (v : T) → IsValue key.opening old v → IsValue key.opening new v) where
-    some_is : (before after : Option Content) → SameValue before after → is_some after ≡ true
-    some_is before after same = grind (arith, same)
-
-    same_value : (before after : Option Content) → is_some before ≡ true → SameValue before after → before ≡ after
-    same_value before after is same = grind (arith, is, same)
-
-    kept_on : (u : Use) (before after : Option Content) → Sees key.opening old u before → uses u ≡ true → SameValue before after
-        → (v : T) → after ≡ Some (maybe_stable (Done v)) → IsValue key.opening new v
-    kept_on u before after had used same v is = let h = had used in stays_on v (h.1 v (same_value before after h.0 same ∙ is))
-
     abbrev Learning : Use → Use → Option Content → Option Content → Type 0
     Learning u u' before after = Learnt {S = Unit {0}} (once_ways makes key).2 u u' before after new
 
-    found_by : (u u' : Use) (before after : Option Content) → ((φ : Content → Type 0) (x : Content) → Learns φ u u' before (Some x) → φ x)
-        → Learning u u' before after → (v : T) → after ≡ Some (maybe_stable (Done v)) → IsValue key.opening new v
-    found_by u u' before after says learnt v is =
-        let l = subst (Learning u u' before) is learnt in
-        subst (λ vs. IsMade {S = S} told vs (Done v)) (ap (made first) l.1) (says (λ x. Is (made first l.0.entries) x) (maybe_stable (Done v)) l.2)
-
     pub sees_on : (u u' : Use) (before after : Option Content) → (u ≡ u' → Sees key.opening old u before) → Shows u' before after
         → Learning u u' before after → Sees key.opening new u' after
-    sees_on u off before after had shows learnt used = absurd (let d : false ≡ true = used in cc)
-    sees_on reads reads before after had shows learnt used = (some_is before after shows, kept_on reads before after (had refl) refl shows)
-    sees_on writes writes before after had shows learnt used = (some_is before after shows, kept_on writes before after (had refl) refl shows)
-    sees_on u u' before after had shows learnt used = (some_is before after shows, found_by u u' before after (λ φ x l. l) learnt)
+    sees_on u u' before after had shows learnt used = (grind (arith, had, shows, learnt, used), λ v is tells. grind (arith, had, shows, learnt, used, stays_on v, is, tells))

@@ -1,6 +1,6 @@
 -- What a pass of a `Once` knows, and what its calls do.
 use Rattle.std.specs.Prelude.{ℕ}
-pub use Rattle.spin_once.specs.Passes.{◌⨾◌, After, AreOfOne, Calls, Gets, Gives, Has, Never, OpensWith, TellsValue, Tried, WroteNone, found_or_none, given, history, lock_of, new_in, opening_of, party, schedule}
+pub use Rattle.spin_once.specs.Passes.{◌⨾◌, After, AreOfOne, Calls, Gets, Gives, Has, Never, OkGets, OkGives, OpensWith, TellsValue, Tried, WroteNone, found_or_none, given, history, lock_of, new_in, opening_of, party, schedule}
 use Rattle.spin_once.specs.declared.once.Once.{Once}
 use Rattle.spin_once.specs.declared.once_core.rule.Key.{Key}
 

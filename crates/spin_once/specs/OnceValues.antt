@@ -1,6 +1,7 @@
 -- The value in the history of a cell whose value is made once. A call whose closure gave a value ends with a write of that value in the
 -- history. In the model the same call ends with a step.
 use Rattle.std.specs.Prelude.{◌≡◌, ◌≢◌, ◌≤◌, ℕ, Bool, true, false, Option, Some, None, is_some, List, [], ◌∷◌, ◌++◌, map, length}
+use Rattle.std.specs.List.{flat_map}
 use Rattle.spin_core.specs.Cell.{Use, off}
 use Rattle.spin_core.specs.Own.{entries_by}
 use Rattle.spin_core.specs.Stable.{maybe_stable}
@@ -52,14 +53,9 @@ module _ {T : Type 0} where
   value_of (Write v) = v ∷ []
   value_of _ = []
 
-  abbrev pub values_of : List (Move (OnceCall (Unit {0})) T) → List T
-  values_of [] = []
-  values_of (move ∷ own) = value_of move ++ values_of own
-
   -- the values that these entries write
   abbrev pub values : List (Valued T) → List T
-  values [] = []
-  values (e ∷ es) = value_of e.1 ++ values es
+  values es = flat_map (λ e. value_of e.1) es
 
   -- the values that the party with this number writes by these entries
   abbrev pub written_by : ℕ → List (Valued T) → List T

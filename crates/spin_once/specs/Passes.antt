@@ -1,6 +1,8 @@
 -- What a pass of a `Once` or a `LazyLock` knows, and what its calls do. A pass in a contract is its place: what was fixed when its lock was
 -- made, its party, and all moves in the lock, at least up to the party's last step.
 use Rattle.std.specs.Prelude.{◌≡◌, ◌⊎◌, ℕ, true, Option, List, Result, Ok, Err}
+use Rattle.std.specs.Borrow.{Bor}
+use Rattle.std.specs.Result.{IfOk}
 use Rattle.spin_core.specs.Logs.{KnowsBoth}
 use Rattle.spin_core.specs.Own.{Numbered}
 use Rattle.spin_core.specs.Passes.{IsCall}
@@ -72,3 +74,11 @@ module _ {T S : Type 0} where
   -- a party at `before` has made this call, and has got this value
   abbrev pub Gives : Call → (T → Type 0) → Place T S → T → Type 0
   Gives call Q before value = (now : Place T S) × Gets call Q before value now
+
+  -- With `Ok` the pass has made this call of a closure that may fail, as in `Gets`. A value from its own closure is one that `post` allows.
+  abbrev pub OkGets : {E : Type 0} → (Result T E → Type 0) → Place T S → Result (Bor T) E → Place T S → Type 0
+  OkGets post before result now = IfOk result (λ value. Gets (TryCallOnceOk tt) (λ v. post (Ok v)) before value.now now)
+
+  -- with `Ok` a party at `before` has made this call, as in `Gives`
+  abbrev pub OkGives : {E : Type 0} → (Result T E → Type 0) → Place T S → Result (Bor T) E → Type 0
+  OkGives post before result = IfOk result (λ value. Gives (TryCallOnceOk tt) (λ v. post (Ok v)) before value.now)

@@ -173,14 +173,20 @@ impl<T, F: Makes<T, M>, R: RelaxStrategy, M: Promise<T>> LazyLock<T, F, R, M> {
     ///
     /// # Contract
     /// The initialiser has to be able to make the value (`can`). For a closure that means: its precondition holds, and
-    /// each of its answers keeps the promise. The value keeps the promise (`keeps`), and is the only one in a history of
-    /// the `LazyLock` in which this call is one `CallOnce` (`Gives`). Whether and when the call returns is not promised.
+    /// each of its answers keeps the promise. The value keeps the promise (`keeps`), and is the only one in a history
+    /// of the `LazyLock` in which this call is one `CallOnce` (`Gives`). Whether and when the call returns is not
+    /// promised.
     pub fn force<'a, W: Wait>(this: &'a Self, rt: &W) -> &'a T
         requires { F.can (initialiser this.now) (promise this.now) }
         ensures keeps { M.keeps (promise this.now) result.now }
         ensures found { Gives (CallOnce tt) (M.keeps (promise this.now)) (new_in (opening this.now)) result.now }
     {
-        let (value, _pass) = Self::pass(this).force(rt);
+        let found = match this.core.account().come(OnceCall::CallOnce(())) {
+            Ok(found) => found,
+            Err(account) => Self::make(rt, account),
+        };
+        let (value, account) = found.read();
+        account.close();
         value
     }
 

@@ -1,10 +1,12 @@
 //! A value that one closure makes. Begin with [`Once::new`] and [`Once::call_once`].
-ghost use Rattle.std.specs.Prelude.{◌≡◌, [], ◌∷◌, IfSome, IfOk, IfErr, Ok, Err};
-ghost use Rattle.spin_step.specs.declared.once_calls.OnceCall.TheVariants.{CallOnce, TryCallOnceOk, Get, Poll as PollCall, Wait as WaitCall};
-ghost use Rattle.spin_once.specs.OncePasses.{Gives, Never, OpensWith, new_in, opening};
+ghost use Rattle.std.specs.Prelude.{◌≡◌, [], ◌∷◌, IfSome, IfErr, Err};
+ghost use Rattle.spin_step.specs.declared.once_calls.OnceCall.TheVariants.{CallOnce, Get, Poll as PollCall, Wait as WaitCall};
+ghost use Rattle.spin_once.specs.OncePasses.{Gives, Never, OkGives, OpensWith, new_in, opening};
 
+use self::make::make;
 use crate::once_core::{OnceCore, Seed};
 use spin_core::relax::{RelaxStrategy, Spin};
+use spin_step::OnceCall;
 use std::marker::PhantomData;
 use std::sync::Wait;
 
@@ -123,14 +125,19 @@ impl<T, R: RelaxStrategy> Once<T, R> {
     /// is called only if that closure left no value. The call never returns if `f` waits for the value of this `Once`.
     ///
     /// # Contract
-    /// The precondition of `f` has to hold. The value is the only one in a history of the `Once` in which this call is one
-    /// `CallOnce` (`Gives`): the value with which the `Once` was made, one that `f` may return, or one that another
+    /// The precondition of `f` has to hold. The value is the only one in a history of the `Once` in which this call is
+    /// one `CallOnce` (`Gives`): the value with which the `Once` was made, one that `f` may return, or one that another
     /// caller wrote. Whether and when the call returns is not promised.
     pub fn call_once<F: FnOnce() -> T, W: Wait>(&self, rt: &W, f: F) -> &T
         requires { F.pre f }
         ensures { Gives (CallOnce tt) (F.post f) (new_in (opening self.now)) result.now }
     {
-        let (value, _pass) = self.pass().call_once(rt, f);
+        let found = match self.core.account().come(OnceCall::CallOnce(())) {
+            Ok(found) => found,
+            Err(account) => make::<T, R, F, W>(rt, account, f),
+        };
+        let (value, account) = found.read();
+        account.close();
         value
     }
 
@@ -140,8 +147,8 @@ impl<T, R: RelaxStrategy> Once<T, R> {
     /// one.
     ///
     /// # Contract
-    /// The precondition of `f` has to hold. An `Err` is one that this caller's own `f` may return (`err`). `Ok` promises
-    /// what `call_once` does (`found`). Whether and when the call returns is not promised.
+    /// The precondition of `f` has to hold. An `Err` is one that this caller's own `f` may return (`err`). `Ok`
+    /// promises what `call_once` does (`found`), of a `TryCallOnceOk`. Whether and when the call returns is not promised.
     ///
     /// # Examples
     /// ```
@@ -160,7 +167,7 @@ impl<T, R: RelaxStrategy> Once<T, R> {
     ) -> Result<&T, E>
         requires { F.pre f }
         ensures err { IfErr result (λ e. F.post f (Err e)) }
-        ensures found { IfOk result (λ value. Gives (TryCallOnceOk tt) (λ v. F.post f (Ok v)) (new_in (opening self.now)) value.now) }
+        ensures found { OkGives (F.post f) (new_in (opening self.now)) result }
     {
         let (found, _pass) = self.pass().try_call_once(rt, f);
         found
@@ -190,8 +197,8 @@ impl<T, R: RelaxStrategy> Once<T, R> {
     /// Returns the value, spinning until there is one, even if no caller has begun to make it.
     ///
     /// # Contract
-    /// The value is the only one in a history of the `Once` in which this call is one `Wait` (`Gives`). Whether and when
-    /// the call returns is not promised.
+    /// The value is the only one in a history of the `Once` in which this call is one `Wait` (`Gives`). Whether and
+    /// when the call returns is not promised.
     ///
     /// # Examples
     /// ```
@@ -213,8 +220,8 @@ impl<T, R: RelaxStrategy> Once<T, R> {
     /// that closure has ended.
     ///
     /// # Contract
-    /// A value is the only one in a history of the `Once` in which this call is one `Poll` (`Gives`). Whether and when the
-    /// call returns is not promised.
+    /// A value is the only one in a history of the `Once` in which this call is one `Poll` (`Gives`). Whether and when
+    /// the call returns is not promised.
     ///
     /// # Examples
     /// ```
@@ -226,7 +233,7 @@ impl<T, R: RelaxStrategy> Once<T, R> {
     /// assert_eq!(rt; port.poll(&rt).copied(), Some(80));
     /// ```
     pub fn poll<W: Wait>(&self, rt: &W) -> Option<&T>
-        ensures { IfSome result (λ value. Gives PollCall Never (new_in (opening self.now)) value.now) }
+        ensures { IfSome result (λ v. Gives PollCall Never (new_in (opening self.now)) v.now) }
     {
         let (found, _pass) = self.pass().poll(rt);
         found

@@ -1,5 +1,6 @@
 -- What a call does to the plain read-write lock, and what holds after a legal history.
 use Rattle.std.proofs.Common.{arith, ◌≡◌, ℕ, ◌≢◌, ◌==◌, Bool, true, if◌then◌else◌, List, [], ◌∷◌, Option, Some, None, filter, refl, sym, ap, subst, ◌∙◌, eq-eqb}
+use Rattle.std.specs.Option.{unwrap_or}
 use mathlib.Core.Logic.{dite}
 use native.Mathlib.Decide.{ℕ_discrete}
 use Rattle.spin_step.specs.Plain.{Plain, Holder, holder, Change, releases, turns, is_open, is_holder}
@@ -11,6 +12,7 @@ use Rattle.spin_step.proofs.InOrder.{cap-kept}
 use Rattle.spin_step.proofs.Entries.{entries-other, entries-own}
 use Rattle.spin_seated.specs.declared.history.Entry.{Entry}
 use Rattle.spin_seated.specs.Histories.{state, IsLegal, IsTracked}
+use Rattle.spin_seated.specs.RwLawful.{written}
 use Rattle.spin_seated.specs.Rw.{Opening, Locked, Answer, Call, SeatedHold, kind_of, held, hold_in, may_with, change, where_open, after_call, plain_answer, held_after, rw}
 use Rattle.spin_seated.proofs.Histories.{always}
 
@@ -89,3 +91,7 @@ tracked = record {
   own = λ k log p c legal may. let s : Locked = state rw k log in ap held (own_after p s c (hold_in p s) ((standing k log legal).one_place p) may) ∙ held-places p (held_after c (plain_answer p c s) (hold_in p s));
   steady = steady;
 }
+
+-- only `Write` writes the value
+pub writes_by : (p : ℕ) (c : Call) (s : Locked) → (after_call p c s).value ≡ unwrap_or (written c) s.value
+writes_by p c s = grind arith

@@ -1,7 +1,7 @@
 //! The calls of a [`Once`] by a thread that keeps track of them. Begin at [`Once::pass`].
-ghost use Rattle.std.specs.Prelude.{◌≡◌, Ok, Err, IfSome, IfOk, IfErr};
-ghost use Rattle.spin_step.specs.declared.once_calls.OnceCall.TheVariants.{CallOnce, TryCallOnceOk, Wait as WaitCall, Poll};
-ghost use Rattle.spin_once.specs.OncePasses.{Calls, Gets, Never, Tried, found_or_none, new_in, opening};
+ghost use Rattle.std.specs.Prelude.{◌≡◌, Err, IfSome, IfErr};
+ghost use Rattle.spin_step.specs.declared.once_calls.OnceCall.TheVariants.{CallOnce, Wait as WaitCall, Poll};
+ghost use Rattle.spin_once.specs.OncePasses.{Calls, Gets, Never, OkGets, Tried, found_or_none, new_in, opening};
 
 use super::Once;
 use super::make::{make, try_make};
@@ -43,7 +43,8 @@ impl<'a, T, R: RelaxStrategy> Pass<'a, T, R> {
     ///
     /// # Contract
     /// The precondition of `f` has to hold. In the history the call counts as one `CallOnce` with the answer `Value`,
-    /// however often it looked and tried, and whether `f` ran or not. The value is the only one in the history (`Gets`). If the pass wrote the value in this call, it is one that `f` may return. Whether and when the call
+    /// however often it looked and tried, and whether `f` ran or not. The value is the only one in the history
+    /// (`Gets`). If the pass wrote the value in this call, it is one that `f` may return. Whether and when the call
     /// returns is not promised.
     #[inline(always)]
     pub fn call_once<F: FnOnce() -> T, W: Wait>(self, rt: &W, f: F) -> (&'a T, Pass<'a, T, R>)
@@ -58,14 +59,14 @@ impl<'a, T, R: RelaxStrategy> Pass<'a, T, R> {
         (made, Pass::of(account))
     }
 
-    /// Does what [`call_once`](Pass::call_once) does, with a closure that may fail. [`Once::try_call_once`] is this call
-    /// without a pass.
+    /// Does what [`call_once`](Pass::call_once) does, with a closure that may fail. [`Once::try_call_once`] is this
+    /// call without a pass.
     ///
     /// # Contract
     /// The precondition of `f` has to hold. An `Err` is one that this caller's own `f` may return (`err`). With a value
     /// the call is one `TryCallOnceOk` with the answer `Value`, and the value is the only one in the history (`found`).
-    /// With an error it is a call whose closure ran and failed, with the answer `Failed` (`made`). If the pass wrote the
-    /// value in this call, it is one that `f` may return. Whether and when the call returns is not promised.
+    /// With an error it is a call whose closure ran and failed, with the answer `Failed` (`made`). If the pass wrote
+    /// the value in this call, it is one that `f` may return. Whether and when the call returns is not promised.
     pub fn try_call_once<F: FnOnce() -> Result<T, E>, E, W: Wait>(
         self,
         rt: &W,
@@ -74,7 +75,7 @@ impl<'a, T, R: RelaxStrategy> Pass<'a, T, R> {
         requires { F.pre f }
         ensures err { IfErr result.0 (λ e. F.post f (Err e)) }
         ensures made { Tried result.0 self.entry result.1 }
-        ensures found { IfOk result.0 (λ value. Gets (TryCallOnceOk tt) (λ v. F.post f (Ok v)) self.entry value.now result.1) }
+        ensures found { OkGets (F.post f) self.entry result.0 result.1 }
     {
         let found = match self.into_account().come(OnceCall::TryCallOnceOk(())) {
             Ok(found) => Ok(found),
@@ -92,8 +93,8 @@ impl<'a, T, R: RelaxStrategy> Pass<'a, T, R> {
     /// Returns the value, spinning until there is one, as [`Once::wait`] does.
     ///
     /// # Contract
-    /// The call is one `Wait` with the answer `Value`, however often it looked. The value is the only one in the history
-    /// (`Gets`). Whether and when the call returns is not promised.
+    /// The call is one `Wait` with the answer `Value`, however often it looked. The value is the only one in the
+    /// history (`Gets`). Whether and when the call returns is not promised.
     pub fn wait<W: Wait>(self, rt: &W) -> (&'a T, Pass<'a, T, R>)
         ensures { Gets WaitCall Never self.entry result.0.now result.1 }
     {

@@ -122,8 +122,8 @@ impl<'a, T, S: Seed<T>, R> Pass<'a, T, S, R> {
     /// So the next call of this pass comes after the calls of the other that are known by now.
     ///
     /// # Contract
-    /// The two passes have to be of one `Once` or `LazyLock`. The result knows the longer of the two histories, of which the other
-    /// is a prefix (`After`).
+    /// The two passes have to be of one `Once` or `LazyLock`. The result knows the longer of the two histories, of
+    /// which the other is a prefix (`After`).
     ///
     /// # Examples
     /// ```

@@ -1,8 +1,7 @@
-use Rattle.std.proofs.Common.{ℕ, Bool, List, [], ◌∷◌, length, map, take, refl}
-use Rattle.spin_step.specs.declared.schedule.Move.TheVariants.{Weak}
+use Rattle.std.proofs.Common.{arith, List, [], ◌∷◌, length, map, take, refl}
 use Rattle.spin_step.specs.OnceCalls.{once_machine}
-use Rattle.spin_once.specs.Foretold.{foretold, counted, place_of, told_of, will_fail}
-use Rattle.spin_once.specs.Once.{OneMove, words_of, IsOnce}
+use Rattle.spin_once.specs.Foretold.{foretold, counted, place_of}
+use Rattle.spin_once.specs.Once.{words_of, IsOnce}
 use Rattle.spin_once.specs.OnceValues.{Made, bare, given_of}
 use Rattle.spin_once.proofs.Foretold.{is_run}
 use Rattle.spin_world.proofs.OnceOwed.{once_facts}
@@ -13,11 +12,7 @@ use Rattle.spin_laws.proofs.laws.between_any_two_steps_of_a_once.Goals as goal
 -- in the object's schedule no exchange fails spuriously: it leaves out each move `Weak`, by which a closure fails
 none_told : (log : List Made) → NoneFailsSpuriously (foretold log)
 none_told [] = refl
-none_told (e ∷ es) = by_move e.0 e.1 (will_fail es e.0) (foretold es) (none_told es)
-  where
-    by_move : (p : ℕ) (move : OneMove) (fails : Bool) (later : List Made) → NoneFailsSpuriously later → NoneFailsSpuriously (told_of p move fails later)
-    by_move p Weak fails later sure = sure
-    by_move p _ fails later sure = sure
+none_told (e ∷ es) = grind (arith, none_told es)
 
 pub returns : goal.returns
 unfolding IsOnce

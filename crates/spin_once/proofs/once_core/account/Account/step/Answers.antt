@@ -17,7 +17,7 @@ operate-found-requires-clause-keeps g c =
 pub invariant_of-result : goal.invariant_of-result
 invariant_of-result g c =
     let a = c.args in let me = a.self in let f = c.operate-found in
-    accounts.knows g.S.Seed.makes (here me) (spot f.result.1 f.result.2) f.result.0 me.knows me.named f.ensures.key a.call a.point c.requires.at f.ensures.moved me.party.value f.result.1.value f.ensures.kept f.ensures.found me.finds
+    accounts.knows g.S.Seed.makes (here me) (spot f.result.1 f.result.2) f.result.0 me.knows me.named f.ensures.key a.call a.point c.requires.at f.ensures.moved me.party.value f.result.1.value f.ensures.kept f.ensures.found (λ same. me.finds)
 
 pub returns : goal.returns
 returns g c =

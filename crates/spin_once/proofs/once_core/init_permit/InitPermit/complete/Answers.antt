@@ -1,9 +1,11 @@
-use Rattle.std.proofs.Common.{ap, ◌∙◌}
+use Rattle.std.proofs.Common.{ap, ◌∙◌, subst}
 use mathlib.Core.Logic.{inr}
+use Rattle.spin_core.specs.Cell.{Keeps}
 use Rattle.spin_core.specs.Own.{what}
 use Rattle.spin_core.specs.Spots.{spot}
 use Rattle.spin_step.specs.declared.once_calls.OnceCall.TheVariants.{CallOnce}
-use Rattle.spin_once.specs.Once.{HasClosure}
+use Rattle.spin_once.specs.Accounts.{Place, here}
+use Rattle.spin_once.specs.Once.{once_ways}
 use Rattle.spin_once.proofs.Accounts as accounts
 use Rattle.spin_once.proofs.Kept.{ends, running_call}
 use Rattle.spin_once.proofs.once_core.init_permit.InitPermit.complete.Goals as goal
@@ -20,16 +22,16 @@ operate-party-requires-clause-keeps g c =
 
 pub returns-clause-since : goal.returns-clause-since
 returns-clause-since g c call p is on =
-    let me = c.args.self in let it = c.put-party in let f = c.operate-party in let so = it.ensures.same in let may : HasClosure call = rw is at me.runs in
-    accounts.completes g.S.Seed.makes me (spot it.result me.account.seen) (spot f.result.1 f.result.2) f.result.0 (λ i. (so.0 i, so.1 i, me.account.seen)) f.ensures.key f.ensures.moved call may is p on
+    let me = c.args.self.account in let f = c.operate-party in let so = c.put-party.ensures.same in
+    accounts.completes g.S.Seed.makes (here me) (spot f.result.1 f.result.2) f.result.0 me.knows me.named (f.ensures.key ∙ so.0) (rw (so.0, so.1) at f.ensures.moved) call (rw is at c.args.self.runs) is p on
 
 pub invariant_of-result-2 : goal.invariant_of-result-2
 invariant_of-result-2 g c =
-    let me = c.args.self in let it = c.put-party in let f = c.operate-party in let so = it.ensures.same in let (call, may, is) = running_call (what me.account.party.view) me.runs in
-    record { reads = accounts.reads_value g.S.Seed.makes me (spot it.result me.account.seen) (spot f.result.1 f.result.2) f.result.0 (λ i. (so.0 i, so.1 i, me.account.seen)) f.ensures.key f.ensures.moved call may is }
+    let me = c.args.self.account in let f = c.operate-party in let so = c.put-party.ensures.same in let (call, may, is) = running_call (what me.party.view) c.args.self.runs in
+    record { reads = accounts.reads_value g.S.Seed.makes (here me) (spot f.result.1 f.result.2) f.result.0 me.knows me.named (f.ensures.key ∙ so.0) (rw (so.0, so.1) at f.ensures.moved) call may is }
 
 pub invariant_of-result : goal.invariant_of-result
 invariant_of-result g c =
-    let me = c.args.self in let it = c.put-party in let f = c.operate-party in let so = it.ensures.same in let (call, may, is) = running_call (what me.account.party.view) me.runs in
-    accounts.knows_value g.S.Seed.makes me (spot it.result me.account.seen) (spot f.result.1 f.result.2) f.result.0 (λ i. (so.0 i, so.1 i, me.account.seen)) f.ensures.key f.ensures.moved call may is
-    it.result.value f.result.1.value f.ensures.kept f.ensures.found
+    let me = c.args.self.account in let f = c.operate-party in let so = c.put-party.ensures.same in let (call, may, is) = running_call (what me.party.view) c.args.self.runs in
+    accounts.knows_value g.S.Seed.makes (here me) (spot f.result.1 f.result.2) f.result.0 me.knows me.named (f.ensures.key ∙ so.0) (rw (so.0, so.1) at f.ensures.moved) call may is
+    c.put-party.result.value f.result.1.value (subst (λ (z : Place _ _). Keeps (once_ways g.S.Seed.makes z.0) z.1 f.result.1.view c.put-party.result.value f.result.1.value) (λ i. (so.0 i, so.1 i, me.seen)) f.ensures.kept) (rw (so.0, so.1) at f.ensures.found)

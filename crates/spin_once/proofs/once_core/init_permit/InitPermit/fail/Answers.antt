@@ -1,14 +1,13 @@
-use Rattle.std.proofs.Common.{◌≡◌, ap}
-use mathlib.Core.Logic.{inr}
-use Rattle.spin_core.specs.Cell.{off, writes}
+use Rattle.std.proofs.Common.{ap}
+use mathlib.Core.Logic.{inl, inr}
 use Rattle.spin_core.specs.Spots.{spot}
 use Rattle.spin_step.specs.declared.once_calls.OnceCall.TheVariants.{TryCallOnceOk}
 use Rattle.spin_step.specs.declared.place.Seat.TheVariants.{Idle}
 use Rattle.spin_session.specs.Turns.{has_begun}
 use Rattle.spin_once.specs.Accounts.{here}
 use Rattle.spin_once.specs.Once.{IsFailure, fails_by}
-use Rattle.spin_once.proofs.Accounts.{may_know, took, fails, keeps_end}
-use Rattle.spin_once.proofs.Kept.{gives_up, writes_at}
+use Rattle.spin_once.proofs.Accounts.{may_know, took, fails, keeps, stops_writing}
+use Rattle.spin_once.proofs.Kept.{gives_up}
 use Rattle.spin_once.proofs.once_core.init_permit.InitPermit.fail.Goals as goal
 
 pub store-party-requires : goal.store-party-requires
@@ -24,6 +23,7 @@ returns g c =
 
 pub invariant_of-result : goal.invariant_of-result
 invariant_of-result g c =
-    let me = c.args.self.account in let s = c.store-party in
-    keeps_end g.S.Seed.makes (here me) (spot s.result.0 s.result.1) 0 me.knows me.named s.ensures.key fails_by (λ n. Idle) (λ n. IsFailure) (λ own outs n v said. said) s.ensures.moved
-    me.party.value s.result.0.value s.ensures.kept s.ensures.found (writes_at me.party.view (TryCallOnceOk tt) c.requires.may) (λ e. absurd (let d : off ≡ writes = e in cc))
+    let me = c.args.self.account in let makes = g.S.Seed.makes in let s = c.store-party in let now = spot s.result.0 s.result.1 in
+    let so = took makes (here me) now 0 me.knows me.named s.ensures.key fails_by (λ n. Idle) (λ n. IsFailure) (λ own outs n v said. said) s.ensures.moved in
+    keeps makes (here me) now 0 me.knows me.named s.ensures.key fails_by (λ n. Idle) (λ n. IsFailure) (λ own outs n v said. said) s.ensures.moved me.party.value s.result.0.value s.ensures.kept s.ensures.found
+    (λ on. absurd (stops_writing me.party.view s.result.0.view (TryCallOnceOk tt) c.requires.may (inl so.1) on))
