@@ -3,7 +3,7 @@
 //! Begin with [`program_over_arguments`], which does the rest.
 #![tactic(auto)]
 
-use spin_explore_run::{OfStd, program_over_arguments};
+use spin_run::explore::{OfStd, program_over_arguments};
 use std::process::ExitCode;
 
 fn main(rt: HostRuntime) -> ExitCode {

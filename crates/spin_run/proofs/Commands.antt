@@ -1,15 +1,15 @@
 -- The words of a command, and how the program ends for each fault.
-use Rattle.std.proofs.Common.{◌≡◌, ℕ, ◌≤◌, Bool, true, false, not, Option, Result, Ok, Err, IfErr, List, [], ◌∷◌, length, get_or, arith, ap, inl, inr, Bor, codes}
+use Rattle.std.proofs.Common.{◌≡◌, ℕ, ◌≤◌, Bool, true, false, not, Option, Result, IfErr, List, [], ◌∷◌, length, get_or, arith, ap, inl, inr, Bor, codes}
 use Rattle.std.specs.Str.{bytes_eq}
 use Rattle.std.proofs.lemmas.Slice.Eq.{bytes_eq-Decides}
 use Rattle.spin_text.specs.Failures.{Told}
 use Rattle.spin_text.specs.Lines.{texts_of}
 use Rattle.spin_text.specs.Numbers.{IsNumber}
-use Rattle.spin_run.specs.Command.{AsksCount, AsksWorld, AsksNothing, usage_line}
+use Rattle.spin_run.specs.Command.{AsksCount, AsksWorld, AsksNothing, Stops, StopsCount, usage}
 use Rattle.spin_text.specs.Texts.{Streams}
-use Rattle.spin_run.specs.declared.run.faults.Fault.{Fault}
-use Rattle.spin_run.specs.declared.run.faults.Fault.TheVariants.{Usage, Refused, Memory, Read, BadLine, Write}
-use Rattle.spin_run.specs.Faults.{Stops, StopsCount, status_of, line_of}
+use Rattle.spin_run.specs.declared.faults.Fault.{Fault}
+use Rattle.spin_run.specs.declared.faults.Fault.TheVariants.{Usage, Refused, Memory, Write}
+use Rattle.spin_run.specs.Faults.{status_of, line_of}
 
 -- two texts are equal if the test `other` finds no difference
 is_text : (xs ys : List ℕ) (other : Bool) → other ≡ not (bytes_eq xs ys) → other ≡ false → xs ≡ ys
@@ -33,22 +33,15 @@ asks_world (a ∷ b ∷ words) d one same = absurd (omega (arith, one))
 -- a fault of a count is a fault of the program
 pub count_stops : (words : List (List ℕ)) (workers times : ℕ) (Unread Unwritten : Type 0) (t : Streams) (r : Result (Unit {0}) Fault) → AsksCount words workers times → Unread
     → IfErr r (StopsCount workers times Unwritten t.sink_failed t.written t.written_after) → IfErr r (Stops words Unread Unwritten t)
-count_stops words workers times Unread Unwritten t (Ok x) asks unread stops = tt
-count_stops words workers times Unread Unwritten t (Err Usage) asks unread stops = absurd stops
-count_stops words workers times Unread Unwritten t (Err Refused) asks unread stops = ((workers, times, asks), unread, stops)
-count_stops words workers times Unread Unwritten t (Err Memory) asks unread stops = inl ((workers, times, asks), unread, stops)
-count_stops words workers times Unread Unwritten t (Err Read) asks unread stops = absurd stops
-count_stops words workers times Unread Unwritten t (Err (BadLine n)) asks unread stops = absurd stops
-count_stops words workers times Unread Unwritten t (Err Write) asks unread stops = inl (unread, stops.0, (workers, times, asks, stops.1))
+count_stops words workers times Unread Unwritten t r asks unread stops = grind arith
 
 -- a command line that is no command gets the usage line and the status 2
-pub told_usage : (words : List (List ℕ)) (Unread Unwritten : Type 0) (t : Streams) (failed : Bool) (old new : Option (List ℕ)) (f : Fault) (status : ℕ) → Stops words Unread Unwritten t f → status ≡ status_of f → Told failed old new (line_of f)
-    → AsksNothing words → (status ≡ 2) × Told failed old new usage_line
+pub told_usage : (words : List (List ℕ)) (Unread Unwritten : Type 0) (t : Streams) (failed : Bool) (old new : Option (List ℕ)) (f : Fault) (status : ℕ) → Stops words Unread Unwritten t f → status ≡ status_of f → Told failed old new (line_of usage f)
+    → AsksNothing words → (status ≡ 2) × Told failed old new (line_of usage Usage)
 told_usage words Unread Unwritten t failed old new Usage status stops is told none = (is, told)
 told_usage words Unread Unwritten t failed old new Refused status stops is told none = absurd (none.0 stops.0.0 stops.0.1 stops.0.2)
 told_usage words Unread Unwritten t failed old new Memory status stops is told none =
     absurd (elim stops [ inl count ↦ none.0 count.0.0 count.0.1 count.0.2 | inr world ↦ none.1 world.0 ])
-told_usage words Unread Unwritten t failed old new Read status stops is told none = absurd (none.1 stops.0)
-told_usage words Unread Unwritten t failed old new (BadLine n) status stops is told none = absurd (none.1 stops.0)
 told_usage words Unread Unwritten t failed old new Write status stops is told none =
     absurd (elim stops [ inl count ↦ none.0 count.2.0 count.2.1 count.2.2 | inr world ↦ none.1 world.0 ])
+told_usage words Unread Unwritten t failed old new f status stops is told none = grind (arith, none.1)

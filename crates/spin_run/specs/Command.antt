@@ -1,8 +1,12 @@
--- What the words of the command line ask for, and what the program writes.
-use Rattle.std.specs.Prelude.{◌≡◌, ℕ, ◌*◌, ◌≤◌, ◌++◌, ◌⊎◌, List, [], ◌∷◌, false, codes, decimal}
+-- What the words of a command line ask for, what the program writes, and why it stops.
+use Rattle.std.specs.Prelude.{◌≡◌, ℕ, ◌*◌, ◌≤◌, ◌++◌, ◌⊎◌, List, [], ◌∷◌, Bool, true, false, Option, codes, decimal}
 use Rattle.std.specs.Io.KnownBytes.{Appends}
 use Rattle.spin_text.specs.Numbers.{IsNumber}
-use Rattle.spin_text.specs.Texts.{Streams, Plays}
+use Rattle.spin_text.specs.Ends.{AppendsBeginning}
+use Rattle.spin_text.specs.Texts.{Streams, Plays, Stops as WorldStops}
+use Rattle.spin_text.specs.declared.text.RunError.TheVariants as errors
+use Rattle.spin_run.specs.declared.faults.Fault.{Fault}
+use Rattle.spin_run.specs.declared.faults.Fault.TheVariants.{Usage, Refused, Memory, Read, BadLine, Write}
 
 -- the words are `count WORKERS TIMES`, with numbers within the limits of the program
 abbrev pub AsksCount : List (List ℕ) → ℕ → ℕ → Type 0
@@ -34,21 +38,26 @@ Counts words t =
 abbrev pub Does : List (List ℕ) → Type 0 → Streams → Type 0
 Does words Unread t = (Unread × Counts words t) ⊎ (AsksWorld words × (t.source_failed ≡ false) × (t.sink_failed ≡ false) × Plays t)
 
--- the lines on standard error
-abbrev pub usage_line : List ℕ
-usage_line = codes "usage: spin-run count WORKERS TIMES | spin-run world\n"
+-- the words of the line for words that are no command
+abbrev pub usage : List ℕ
+usage = codes "usage: spin-run count WORKERS TIMES | spin-run world"
 
-abbrev pub read_line : List ℕ
-read_line = codes "read failed\n"
+-- why the total of a count was not written
+abbrev pub StopsCount : ℕ → ℕ → Type 0 → Bool → Option (List ℕ) → Option (List ℕ) → Fault → Type 0
+StopsCount workers times Unwritten failed old new Refused = Unwritten
+StopsCount workers times Unwritten failed old new Memory = Unwritten
+StopsCount workers times Unwritten failed old new Write = (failed ≡ true) × AppendsBeginning old new (total_text workers times)
+StopsCount workers times Unwritten failed old new _ = ⊥
 
-abbrev pub write_line : List ℕ
-write_line = codes "write failed\n"
-
-abbrev pub memory_line : List ℕ
-memory_line = codes "out of memory\n"
-
-abbrev pub refused_line : List ℕ
-refused_line = codes "count refused\n"
-
-abbrev pub bad_line : ℕ → List ℕ
-bad_line n = codes "bad line " ++ decimal n ++ codes "\n"
+-- Why a run stopped at this fault: what the words asked for, what was read, and what was written. Only a failed write leaves a beginning of
+-- the text.
+abbrev pub Stops : List (List ℕ) → Type 0 → Type 0 → Streams → Fault → Type 0
+Stops words Unread Unwritten t Usage = AsksNothing words × Unread × Unwritten
+Stops words Unread Unwritten t Refused = AsksSomeCount words × Unread × Unwritten
+Stops words Unread Unwritten t Memory = (AsksSomeCount words × Unread × Unwritten) ⊎ (AsksWorld words × WorldStops t Unwritten errors.Memory)
+Stops words Unread Unwritten t Read = AsksWorld words × WorldStops t Unwritten errors.Read
+Stops words Unread Unwritten t (BadLine n) = AsksWorld words × WorldStops t Unwritten (errors.BadLine n)
+Stops words Unread Unwritten t Write =
+    (Unread × (t.sink_failed ≡ true) × ((workers : ℕ) × (times : ℕ) × AsksCount words workers times × AppendsBeginning t.written t.written_after (total_text workers times)))
+    ⊎ (AsksWorld words × WorldStops t Unwritten errors.Write)
+Stops words Unread Unwritten t _ = ⊥

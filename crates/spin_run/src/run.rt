@@ -2,7 +2,6 @@
 //! [`program_over_arguments`] takes the words from the process.
 mod command;
 mod counting;
-mod faults;
 mod gate;
 mod locks;
 mod process;

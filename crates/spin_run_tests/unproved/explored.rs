@@ -2,7 +2,7 @@
 //! fails.
 
 use crate::ends::{Paper, Tape};
-use spin_explore_run::program;
+use spin_run::explore::program;
 
 /// Words, a text, the status, what is written, and the line on standard error.
 type Row = (

@@ -1,6 +1,6 @@
 -- Known bytes that grow in several writes.
 use Rattle.std.proofs.Common.{◌≡◌, ℕ, ◌+◌, ◌-◌, subst, append-nil, length-append, [], List, ◌++◌, length, take, drop, Option}
-use Rattle.std.proofs.Common.{Some, None, sym, ◌∙◌, ap, arith, append_assoc, length-drop}
+use Rattle.std.proofs.Common.{sym, ◌∙◌, ap, arith, append_assoc, length-drop}
 use Rattle.std.proofs.Math.Seq.{take-append-add}
 use Rattle.std.proofs.lemmas.List.{drop-drop, drop-take, take-append-drop, take-append-le}
 use Rattle.std.proofs.lemmas.Grind.{common_steps}
@@ -30,8 +30,7 @@ drop_more text rest n k is = grind (arith, common_steps, is, drop-drop, length-d
 
 -- known bytes that do not change grow by the empty text
 Appends-none : (a : Option (List ℕ)) → Appends a a []
-Appends-none None = tt
-Appends-none (Some s) = sym (append-nil s)
+Appends-none a = grind (arith, append-nil)
 
 pub but_all : (a : Option (List ℕ)) (text piece : List ℕ) → text ≡ piece → AppendsBut a a text piece
 but_all a text piece is = ([], Appends-none a, is)

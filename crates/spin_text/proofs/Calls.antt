@@ -95,8 +95,7 @@ try_call_once_takes w (v ∷ ws) c name one =
     told once_calls all once.TryCallOnceErr c (refl, front w (v ∷ ws) _ _ name (ends v ws _ (is_text v _ both.0) both.1))) (λ _ is. absurd (cc))) one
 
 plain_once_takes : (w : List ℕ) (ws : List (List ℕ)) (c : OnceCall ℕ) → is_end ws ≡ true → named (by_word PLAIN_ONCE_CALLS) w ≡ Some c → IsCall once_calls (w ∷ ws) c
-plain_once_takes w [] c end = named_takes once_calls _ refl w c
-plain_once_takes w (v ∷ ws) c end = absurd (cc)
+plain_once_takes w ws c end is = grind (arith, named_takes once_calls (by_word PLAIN_ONCE_CALLS) refl w c)
 
 once_takes : (ws : List (List ℕ)) (c : OnceCall ℕ) → read_once_call ws ≡ Some c → IsCall once_calls ws c
 unfolding read_once_call

@@ -25,8 +25,7 @@ prints_back word n fits is =
 
 -- a printed number has no leading zero, unless it is 0
 no_leading_zero : (n : ℕ) → n < 2 ^ 64 → slice_index (decimal n) 0 ≡ 48 → length (decimal n) ≡ 1
-no_leading_zero zero fits is = ap length (decimal_digit 0 (omega arith))
-no_leading_zero (suc n) fits is = absurd (omega (arith, is, first_decimal (suc n) (omega arith) fits))
+no_leading_zero n fits is = grind (arith, first_decimal, decimal_digit)
 
 -- the word printed for a number spells that number
 pub is_number : (n : ℕ) → n < 2 ^ 64 → IsNumber (decimal n) n
@@ -48,11 +47,7 @@ read_number_some w n fits is = ap read_number is ∙ read_decimal n fits
 
 pub read_number_takes : (w : List ℕ) (n : ℕ) → read_number w ≡ Some n → (n < 2 ^ 64) × (w ≡ decimal n)
 unfolding read_number
-read_number_takes w n =
-    chosen _ (Some (digits_value 10 w)) None n ((n < 2 ^ 64) × (w ≡ decimal n)) (λ both is.
-    let tests = and_true _ _ both in
-    let P : ℕ → Type 0 = λ k. (k < 2 ^ 64) × (w ≡ decimal k) in
-    subst P (some_is is) (ltb-true _ _ tests.1, (bytes_eq-Decides _ _).0 tests.0)) (λ _ is. absurd (cc))
+read_number_takes w n is = grind (arith, chosen, and_true, some_is, ltb-true, bytes_eq-Decides)
 
 pub read_number_none : (w : List ℕ) (r : Option ℕ) → r ≡ read_number w → ((n : ℕ) → n < 2 ^ 64 → ¬ (w ≡ decimal n)) → None ≡ r
 read_number_none w None is none = refl

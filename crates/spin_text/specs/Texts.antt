@@ -72,6 +72,19 @@ pub record Streams : Type 0 where
   pub written_after : Option (List ℕ)
   pub sink_failed : Bool
 
+-- the streams of a call, by what is known of a source and a sink; the source goes from i to j, the sink from o to p
+abbrev pub streams : {I O : Type 0} → (I → Option (List ℕ)) → (I → Bool) → (O → Option (List ℕ)) → (O → Bool)
+    → I → I → O → O → Streams
+streams remaining source_failed written sink_failed i j o p =
+    record {
+      left = remaining i;
+      left_after = remaining j;
+      source_failed = source_failed j;
+      written = written o;
+      written_after = written p;
+      sink_failed = sink_failed p;
+    }
+
 -- the bytes are a text of some script, and `text` is what is written for this script
 abbrev pub PlaysBytes : List ℕ → List ℕ → Type 0
 PlaysBytes bytes text = (s : Script) × Spells bytes s × (text ≡ played s.header s.entries)

@@ -23,6 +23,7 @@ pub use entries::{entry, owner_move, plain_move};
 pub use header::{Header, header_of};
 pub use laws::a_text_has_one_reading;
 pub use numbers::{number, numbers_are_printed_texts};
-pub use objects::Spelled;
+pub use objects::{BARRIER_CALLS, FAIR_CALLS, FLAG_CALLS, RW_CALLS, Spelled, TICKET_CALLS};
 pub use text::{RunError, read_all, world_text};
+pub use transcript::parts_of;
 pub use words::{Rest, first_line, is_over, is_word, number_then, only_number, word};

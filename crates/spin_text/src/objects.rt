@@ -37,7 +37,8 @@ pub trait Spelled: Object<Value = u64, Answer = Answer<u64>> {
         ensures { ReadsCalls calls read };
 }
 
-const FLAG_CALLS: [(&[u8], FlagCall); 5] = [
+/// The calls of a flag, each with its word, in the order of the variants.
+pub const FLAG_CALLS: [(&[u8], FlagCall); 5] = [
     (b"lock", FlagCall::Lock),
     (b"try_lock", FlagCall::TryLock),
     (b"try_lock_weak", FlagCall::TryLockWeak),
@@ -65,7 +66,8 @@ impl Spelled for Flag<u64> {
     }
 }
 
-const TICKET_CALLS: [(&[u8], TicketCall); 4] = [
+/// The calls of a ticket lock, each with its word, in the order of the variants.
+pub const TICKET_CALLS: [(&[u8], TicketCall); 4] = [
     (b"lock", TicketCall::Lock),
     (b"try_lock", TicketCall::TryLock),
     (b"is_locked", TicketCall::IsLocked),
@@ -92,7 +94,8 @@ impl Spelled for Ticket<u64> {
     }
 }
 
-const RW_CALLS: [(&[u8], RwCall); 15] = [
+/// The calls of a read-write lock, each with its word, in the order of the variants.
+pub const RW_CALLS: [(&[u8], RwCall); 15] = [
     (b"try_read", RwCall::TryRead),
     (b"read", RwCall::Read),
     (b"try_upgradeable_read", RwCall::TryUpgradeableRead),
@@ -130,7 +133,8 @@ impl Spelled for Rw<u64> {
     }
 }
 
-const FAIR_CALLS: [(&[u8], FairCall); 10] = [
+/// The calls of a fair lock, each with its word, in the order of the variants.
+pub const FAIR_CALLS: [(&[u8], FairCall); 10] = [
     (b"lock", FairCall::Lock),
     (b"try_lock", FairCall::TryLock),
     (b"try_lock_starver", FairCall::TryLockStarver),
@@ -163,7 +167,8 @@ impl Spelled for Fair<u64> {
     }
 }
 
-const BARRIER_CALLS: [(&[u8], BarrierCall); 1] = [(b"wait", BarrierCall::Wait)];
+/// The calls of a barrier, each with its word, in the order of the variants.
+pub const BARRIER_CALLS: [(&[u8], BarrierCall); 1] = [(b"wait", BarrierCall::Wait)];
 
 impl Spelled for BarrierObject {
     ghost use Rattle.spin_text.specs.Objects.{barrier_calls};

@@ -4,7 +4,7 @@ ghost use Rattle.spin_text.specs.Ends.{AppendsSome, AppendsSomeBeginning};
 ghost use Rattle.spin_text.specs.Lines.{words_by_line};
 ghost use Rattle.spin_text.specs.Reading.{lines_left};
 ghost use Rattle.spin_text.specs.Readable.{StopsEntries};
-ghost use Rattle.spin_text.specs.Texts.{ReadsAll, Plays, Stops, StopsReading, StopsPlaying, StopsWriting, PlaysBytes, PlaysLines};
+ghost use Rattle.spin_text.specs.Texts.{ReadsAll, Plays, Stops, streams, StopsReading, StopsPlaying, StopsWriting, PlaysBytes, PlaysLines};
 
 use crate::ends::{Sink, Source};
 use crate::entries::check_entries;
@@ -205,22 +205,10 @@ pub fn world_text<I: Source, O: Sink>(
     requires output { O.failed output.old ≡ false }
     ensures input { OnOk result (I.failed input.new ≡ false) }
     ensures output { OnOk result (O.failed output.new ≡ false) }
-    ensures plays { OnOk result (Plays (record {
-      left = I.remaining input.old;
-      left_after = I.remaining input.new;
-      source_failed = I.failed input.new;
-      written = O.written output.old;
-      written_after = O.written output.new;
-      sink_failed = O.failed output.new;
-    })) }
-    ensures stops { IfErr result (Stops (record {
-      left = I.remaining input.old;
-      left_after = I.remaining input.new;
-      source_failed = I.failed input.new;
-      written = O.written output.old;
-      written_after = O.written output.new;
-      sink_failed = O.failed output.new;
-    })
+    ensures plays { OnOk result (Plays
+        (streams I.remaining I.failed O.written O.failed input.old input.new output.old output.new)) }
+    ensures stops { IfErr result (Stops
+        (streams I.remaining I.failed O.written O.failed input.old input.new output.old output.new)
         (output.new ≡ output.old)) }
 {
     let bytes = read_all(alloc, input)?;

@@ -35,7 +35,7 @@ fn put_value(value: Option<u64>, buffer: &mut [u8], end: usize) -> usize
 }
 
 /// Returns the words that begin an answer's text, and the number after them if there is one.
-fn parts_of(answer: Answer<u64>) -> (&'static [u8], Option<u64>)
+pub fn parts_of(answer: Answer<u64>) -> (&'static [u8], Option<u64>)
     ensures parts { result.0.now ++ number_text result.1 ≡ answer_text answer }
     ensures short { length result.0.now ≤ 8 }
 {

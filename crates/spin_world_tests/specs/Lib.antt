@@ -1,4 +1,5 @@
 pub mod Careless
+pub mod Schedules
 pub mod Dispenser
 pub mod WrongBarrier
 pub mod WrongDispenser

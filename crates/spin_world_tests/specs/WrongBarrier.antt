@@ -1,17 +1,14 @@
--- Wrong barriers, each wrong in one part of its machine, and schedules on which the laws refuse these barriers.
-use Rattle.std.specs.Prelude.{ℕ, ◌==◌, ◌&&◌, Some, None, [], ◌∷◌, ◌+◌}
+-- Wrong barriers, each wrong in one part of its machine.
+use Rattle.std.specs.Prelude.{ℕ, ◌==◌, ◌&&◌, Some, None, ◌+◌}
 use Rattle.spin_step.specs.declared.stepped.Next.TheVariants.{Continue, Answers}
 use Rattle.spin_step.specs.declared.stepped.Next.{Next}
 use Rattle.spin_step.specs.declared.answer.Answer.{Answer}
 use Rattle.spin_step.specs.declared.answer.Answer.TheVariants.{Leader, Follower}
 use Rattle.spin_world.specs.declared.barrier.BarrierWords.{BarrierWords}
-use Rattle.spin_world.specs.declared.barrier.BarrierCall.TheVariants.{Wait}
 use Rattle.spin_world.specs.declared.barrier.BarrierPoint.{BarrierPoint}
 use Rattle.spin_world.specs.declared.barrier.BarrierPoint.TheVariants.{Arrive, Leave}
-use Rattle.spin_step.specs.declared.schedule.Move.TheVariants.{Begin, Step, Weak}
 use Rattle.spin_step.specs.Acts.{either, stays}
 use Rattle.spin_world.specs.BarrierTable.{BarrierMachine, arrive, leads, is_past, barrier_machine}
-use Rattle.spin_world.specs.Groups.{Entries}
 use Rattle.spin_step.specs.Asks.{waits_for_value}
 
 -- how a call continues after an arrival, or after a look of a follower, by the words found
@@ -76,32 +73,6 @@ opens_with_one = record pairs { words = record { count = 1; generation = 0 } }
 abbrev pub gathers_three : BarrierMachine
 gathers_three = barrier_machine 3
 
--- Schedules
-
-abbrev pub one_call : Entries
-one_call = (0, Begin Wait) ∷ []
-
-abbrev pub one_arrival : Entries
-one_arrival = (0, Begin Wait) ∷ (0, Step) ∷ []
-
-abbrev pub two_steps : Entries
-two_steps = (0, Begin Wait) ∷ (0, Step) ∷ (0, Step) ∷ []
-
-abbrev pub five_steps : Entries
-five_steps = (0, Begin Wait) ∷ (0, Step) ∷ (0, Step) ∷ (0, Step) ∷ (0, Step) ∷ (0, Step) ∷ []
-
-abbrev pub an_arrival_and_chance : Entries
-an_arrival_and_chance = (0, Begin Wait) ∷ (0, Step) ∷ (0, Weak) ∷ []
-
-abbrev pub one_group : Entries
-one_group = (0, Begin Wait) ∷ (0, Step) ∷ (1, Begin Wait) ∷ (1, Step) ∷ []
-
-abbrev pub one_group_and_one : Entries
-one_group_and_one = (0, Begin Wait) ∷ (0, Step) ∷ (1, Begin Wait) ∷ (1, Step) ∷ (2, Begin Wait) ∷ (2, Step) ∷ []
-
 -- a follower leaves only while the group after its own gathers
 abbrev pub leaves_in_the_next : BarrierMachine
 leaves_in_the_next = going 2 arrived (λ g w. either (w.generation == g + 1) (Answers Follower None) (Continue (Leave g)))
-
-abbrev pub two_groups : Entries
-two_groups = (0, Begin Wait) ∷ (0, Step) ∷ (1, Begin Wait) ∷ (1, Step) ∷ (2, Begin Wait) ∷ (2, Step) ∷ (3, Begin Wait) ∷ (3, Step) ∷ []

@@ -1,9 +1,9 @@
 -- Wrong dispensers, each wrong in one part of its table, and schedules on which the laws refuse these dispensers.
-use Rattle.std.specs.Prelude.{ℕ, ◌+◌, Bool, true, Option, Some, List, [], ◌∷◌, nat_lt, if◌then◌else◌}
+use Rattle.spin_world_tests.specs.Schedules.{calls, steps}
+use Rattle.std.specs.Prelude.{ℕ, ◌+◌, ◌++◌, Bool, true, Option, Some, List, nat_lt, if◌then◌else◌}
 use Rattle.spin_step.specs.Plain.{to_read, gets, reading, Change, releases}
 use Rattle.spin_step.specs.declared.place.Hold.{Hold}
 use Rattle.spin_step.specs.declared.schedule.Move.{Move}
-use Rattle.spin_step.specs.declared.schedule.Move.TheVariants.{Begin, Step}
 use Rattle.spin_world_tests.specs.declared.dispenser.DispenserCall.{DispenserCall}
 use Rattle.spin_world_tests.specs.declared.dispenser.DispenserCall.TheVariants as call
 use Rattle.spin_world_tests.specs.declared.dispenser.DispenserPoint.{DispenserPoint}
@@ -12,9 +12,6 @@ use Rattle.spin_world_tests.specs.declared.dispenser.DispenserAnswer.{DispenserA
 use Rattle.spin_step.specs.Acts.{Act, load_for, retry, section, machine_of}
 use Rattle.spin_world_tests.specs.Dispenser.{Continues, dispenser, dispenser_plain_steps, next_after, drawn, goes_for, sold_out, not_next, act_of}
 use Rattle.spin_world_tests.specs.Dispenser.{DispenserTable, dispenser_table, DispenserMachine}
-
-abbrev Entries : Type 0
-Entries = List (ℕ × Move DispenserCall (Unit {0}))
 
 -- A dispenser of the numbers below `cap`. `next` gives the word that a draw stores. `won` and `lost` say how the draw
 -- continues after its exchange.
@@ -27,8 +24,8 @@ draws_by cap next won lost = let t : DispenserTable = dispenser_table cap in mac
     steps c l h = act_of cap c l h
 
 -- two parties look one after the other, and then exchange
-abbrev pub two_draw : Entries
-two_draw = (0, Begin call.Draw) ∷ (1, Begin call.Draw) ∷ (0, Step) ∷ (1, Step) ∷ (0, Step) ∷ (1, Step) ∷ (1, Step) ∷ []
+abbrev pub two_draw : List (ℕ × Move DispenserCall (Unit {0}))
+two_draw = calls 0 call.Draw 0 ++ calls 1 call.Draw 0 ++ steps 0 1 ++ steps 1 1 ++ steps 0 1 ++ steps 1 2
 
 -- the exchange does not change the number
 abbrev pub forgets_to_store : DispenserMachine
@@ -52,9 +49,6 @@ draws_another =
     let t : DispenserTable = dispenser_table 2 in
     let any : ℕ → Option Hold → Act ℕ DispenserPoint DispenserAnswer = λ k h. section (λ w. true) (next_after 2) (λ p. gets p to_read) (λ w. drawn k) (λ w. not_next h) in
     machine_of (record t { act = λ c l h. elim c [ call.DrawThis k ↦ any k h | other ↦ act_of 2 other l h ] })
-
-abbrev pub the_second : Entries
-the_second = (0, Begin (call.DrawThis 1)) ∷ (0, Step) ∷ []
 
 -- the plain steps of a kind of lock in which a party may also return a number
 abbrev with_return : Change → Bool

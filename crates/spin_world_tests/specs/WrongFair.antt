@@ -1,7 +1,8 @@
--- Wrong fair locks, each wrong in one part of its table or machine, and schedules on which the laws refuse these locks.
+-- Wrong fair locks, each wrong in one part of its table or machine.
 -- Unless its comment says otherwise, each lock admits two starvers, and its `lock` registers after the second look that
 -- finds the flag set.
-use Rattle.std.specs.Prelude.{ℕ, ◌+◌, ◌-◌, ◌*◌, ◌/◌, true, Option, Some, None, not, ◌&&◌, List, [], ◌∷◌, ◌++◌, ◌==◌, nat_lt}
+use Rattle.spin_world_tests.specs.Schedules.{calls}
+use Rattle.std.specs.Prelude.{ℕ, ◌+◌, ◌-◌, ◌*◌, ◌/◌, true, Option, Some, None, not, ◌&&◌, List, ◌++◌, ◌==◌, nat_lt}
 use Rattle.spin_step.specs.Plain.{gets, stops_starving, to_lock_unregistered, to_lock_starving, to_lock_starving_alone, to_starve, starver_weight}
 use Rattle.spin_step.specs.declared.place.Hold.{Hold}
 use Rattle.spin_step.specs.declared.place.Hold.TheVariants.{Starver}
@@ -10,11 +11,10 @@ use Rattle.spin_step.specs.declared.stepped.Next.TheVariants.{Continue, Answers}
 use Rattle.spin_step.specs.declared.answer.Answer.{Answer}
 use Rattle.spin_step.specs.declared.answer.Answer.TheVariants.{Granted, Refused, Locked, Starved, Done}
 use Rattle.spin_step_more.specs.declared.fair_calls.FairCall.{FairCall}
-use Rattle.spin_step_more.specs.declared.fair_calls.FairCall.TheVariants.{Lock, TryLock, TryLockStarver, Starve, StarverTryLock, StarverLock, StarverDrop, Release}
+use Rattle.spin_step_more.specs.declared.fair_calls.FairCall.TheVariants.{Lock, TryLock, TryLockStarver, Starve, StarverTryLock, StarverLock, StarverDrop}
 use Rattle.spin_step_more.specs.declared.fair_calls.FairPoint.{FairPoint}
 use Rattle.spin_step_more.specs.declared.fair_calls.FairPoint.TheVariants.{First, Attempt, Look, Load, Register, SetFlag, Await, Unregister}
 use Rattle.spin_step.specs.declared.schedule.Move.{Move}
-use Rattle.spin_step.specs.declared.schedule.Move.TheVariants.{Begin, Step, Weak}
 use Rattle.spin_step.specs.Machines.{Machine}
 use Rattle.spin_step.specs.Acts.{Act, either, load, load_if, exchange, weak_exchange, attempt, retry, section, swap, machine_of}
 use Rattle.spin_step.specs.declared.table.Operation.TheVariants as op
@@ -51,23 +51,14 @@ looks_by n late clear = load_if is_set (λ w. either (nat_lt n 1) (Continue (Loo
 abbrev sets_flag : {V : Type 0} → Next FairPoint (Answer V) → Next FairPoint (Answer V) → FairAct V
 sets_flag won lost = exchange op.SetLowestBit (λ p. gets p to_lock_starving) won (λ w. lost)
 
-abbrev Entries : Type 0 → Type 0
-Entries V = List (ℕ × Move FairCall V)
-
 -- `try_lock` sets the flag whenever the flag is clear
 abbrev pub tries_greedily : {V : Type 0} → V → FairMachine V
 tries_greedily v =
     with_steps v 2 (λ c l h act. elim c [ TryLock ↦ exchange op.SetLowestBit (λ p. gets p to_lock_unregistered) granted (λ w. Answers Refused h) | _ ↦ act ])
 
-abbrev pub try_beside_a_starver : {V : Type 0} → Entries V
-try_beside_a_starver = (0, Begin Starve) ∷ (0, Step) ∷ (0, Step) ∷ (1, Begin TryLock) ∷ (1, Step) ∷ []
-
 -- `starver_try_lock` leaves its party a starver
 abbrev pub stays_a_starver : {V : Type 0} → V → FairMachine V
 stays_a_starver v = with_steps v 2 (λ c l h act. elim c [ StarverTryLock ↦ elim l [ SetFlag ↦ sets_flag granted (Answers Refused h) | _ ↦ act ] | _ ↦ act ])
-
-abbrev pub try_of_a_starver : {V : Type 0} → Entries V
-try_of_a_starver = (0, Begin Starve) ∷ (0, Step) ∷ (0, Step) ∷ (0, Begin StarverTryLock) ∷ (0, Step) ∷ []
 
 -- `starve` ignores the cap, which is one here
 abbrev starve_uncapped : {V : Type 0} → FairPoint → FairAct V → FairAct V
@@ -79,33 +70,21 @@ starve_uncapped l act = act
 abbrev pub starves_without_cap : {V : Type 0} → V → FairMachine V
 starves_without_cap v = with_steps v 1 (λ c l h act. elim c [ Starve ↦ starve_uncapped l act | _ ↦ act ])
 
-abbrev pub two_starve : {V : Type 0} → Entries V
-two_starve = (0, Begin Starve) ∷ (0, Step) ∷ (0, Step) ∷ (1, Begin Starve) ∷ (1, Step) ∷ (1, Step) ∷ []
-
 -- `lock` never registers
 abbrev pub never_registers : {V : Type 0} → V → FairMachine V
 never_registers v = lock_by v (λ l act. elim l [ Look n ↦ load_if is_set (λ w. Continue (Look (n + 1))) (λ w. Continue (Attempt n)) | _ ↦ act ])
 
 -- one party holds; the `lock` of the other party makes an exchange and four looks
-abbrev pub lock_beside_a_holder : {V : Type 0} → Entries V
-lock_beside_a_holder = (0, Begin TryLock) ∷ (0, Step) ∷ (1, Begin Lock) ∷ (1, Step) ∷ (1, Step) ∷ (1, Step) ∷ (1, Step) ∷ (1, Step) ∷ []
+abbrev pub lock_beside_a_holder : {V : Type 0} → List (ℕ × Move FairCall V)
+lock_beside_a_holder = calls 0 TryLock 1 ++ calls 1 Lock 5
 
 -- `lock` returns to its exchange at the look at which it should register
 abbrev pub returns_to_its_exchange : {V : Type 0} → V → FairMachine V
 returns_to_its_exchange v = lock_by v (λ l act. elim l [ Look n ↦ looks_by n (Continue (Attempt n)) (λ w. Continue (Attempt n)) | _ ↦ act ])
 
--- the lock is released between the second look and the exchange
-abbrev pub lock_as_it_is_let_go : {V : Type 0} → Entries V
-lock_as_it_is_let_go =
-    (0, Begin TryLock) ∷ (0, Step) ∷ (1, Begin Lock) ∷ (1, Step) ∷ (1, Step) ∷ (1, Step) ∷ (0, Begin Release) ∷ (0, Step) ∷ (1, Step) ∷ []
-
 -- `lock` registers before it looks
 abbrev pub registers_at_once : {V : Type 0} → V → FairMachine V
 registers_at_once v = lock_by v (λ l act. elim l [ Attempt n ↦ weak_exchange 0 lock (λ p. gets p to_lock_unregistered) granted (Continue Load) | _ ↦ act ])
-
--- an exchange, a load, and the exchange that registers
-abbrev pub hasty_lock : {V : Type 0} → Entries V
-hasty_lock = (0, Begin TryLock) ∷ (0, Step) ∷ (1, Begin Lock) ∷ (1, Step) ∷ (1, Step) ∷ (1, Step) ∷ []
 
 -- `starver_drop` clears the flag
 abbrev pub drop_frees : {V : Type 0} → V → FairMachine V
@@ -113,31 +92,15 @@ drop_frees {V} v =
     let done : ℕ → Next FairPoint (Answer V) = λ w. Answers Done None in
     with_steps v 2 (λ c l h act. elim c [ StarverDrop ↦ section (λ w. nat_lt 1 w) (λ w. Some ((w - 2) / 2 * 2)) (λ p. stops_starving p) done done | _ ↦ act ])
 
-abbrev pub drop_beside_a_holder : {V : Type 0} → Entries V
-drop_beside_a_holder = (0, Begin TryLock) ∷ (0, Step) ∷ (1, Begin Starve) ∷ (1, Step) ∷ (1, Step) ∷ (1, Begin StarverDrop) ∷ (1, Step) ∷ []
-
 -- a newcomer that is refused gets the other reason
 abbrev pub tells_the_other_reason : {V : Type 0} → V → FairMachine V
 tells_the_other_reason {V} v =
     let refused : ℕ → Next FairPoint (Answer V) = λ w. Answers (either (w == 1) Starved Locked) None in
     with_steps v 2 (λ c l h act. elim c [ TryLockStarver ↦ exchange (swap 0 lock) (λ p. gets p to_lock_unregistered) granted refused | _ ↦ act ])
 
-abbrev pub try_beside_a_holder : {V : Type 0} → Entries V
-try_beside_a_holder = (0, Begin TryLock) ∷ (0, Step) ∷ (1, Begin TryLockStarver) ∷ (1, Step) ∷ []
-
 -- a starver's `lock` that finds the flag set looks for ever, and never tries again
 abbrev pub waits_for_ever : {V : Type 0} → V → FairMachine V
 waits_for_ever v = starver_lock_by v (λ l act. elim l [ Await ↦ load (λ w. Continue Await) | _ ↦ act ])
-
--- the flag is set when the starver tries, and is cleared afterwards
-abbrev pub let_go_beside_a_starver : {V : Type 0} → Entries V
-let_go_beside_a_starver =
-    (0, Begin TryLock) ∷ (0, Step) ∷ (1, Begin Starve) ∷ (1, Step) ∷ (1, Step) ∷ (1, Begin StarverLock) ∷ (1, Step)
-    ∷ (0, Begin Release) ∷ (0, Step) ∷ []
-
--- `let_go_beside_a_starver`, and then four looks of the starver
-abbrev pub four_looks_of_a_starver : {V : Type 0} → Entries V
-four_looks_of_a_starver = let_go_beside_a_starver ++ (1, Step) ∷ (1, Step) ∷ (1, Step) ∷ (1, Step) ∷ []
 
 -- A starver that waits sets the flag only if it finds the same clear word twice. So others that register and leave keep
 -- this starver waiting.
@@ -172,12 +135,6 @@ keeps_the_flag v = starver_lock_by v (λ l act. elim l [
   | _ ↦ act
 ])
 
--- a starver sets the flag beside another starver, and then makes four more steps
-abbrev pub lock_beside_a_starver : {V : Type 0} → Entries V
-lock_beside_a_starver =
-    (1, Begin Starve) ∷ (1, Step) ∷ (1, Step) ∷ (0, Begin Starve) ∷ (0, Step) ∷ (0, Step)
-    ∷ (0, Begin StarverLock) ∷ (0, Step) ∷ (0, Step) ∷ (0, Step) ∷ (0, Step) ∷ (0, Step) ∷ []
-
 -- a starver that has set the flag stops starving by an exchange of the word found, and repeats this exchange until it succeeds
 abbrev pub leaves_by_exchange : {V : Type 0} → V → FairMachine V
 leaves_by_exchange v = starver_lock_by v (λ l act. elim l [
@@ -186,17 +143,11 @@ leaves_by_exchange v = starver_lock_by v (λ l act. elim l [
   | _ ↦ act
 ])
 
-abbrev pub lock_of_a_starver : {V : Type 0} → Entries V
-lock_of_a_starver = (0, Begin Starve) ∷ (0, Step) ∷ (0, Step) ∷ (0, Begin StarverLock) ∷ (0, Step) ∷ []
-
 -- a starver sets the flag by a weak exchange
 abbrev pub sets_by_chance : {V : Type 0} → V → FairMachine V
 sets_by_chance {V} v =
     let chance : FairAct V = weak_exchange starver_weight lock_fair (λ p. gets p to_lock_starving) (Continue Unregister) (Continue Await) in
     starver_lock_by v (λ l act. elim l [ SetFlag ↦ chance | _ ↦ act ])
-
-abbrev pub starver_in_vain : {V : Type 0} → Entries V
-starver_in_vain = (0, Begin Starve) ∷ (0, Step) ∷ (0, Step) ∷ (0, Begin StarverLock) ∷ (0, Weak) ∷ []
 
 -- `starve` can begin even if its party starves already
 abbrev pub starves_again : {V : Type 0} → V → FairMachine V
@@ -215,12 +166,6 @@ abbrev pub waits_for_starvers : {V : Type 0} → V → FairMachine V
 waits_for_starvers v =
     lock_by v (λ l act. elim l [ Look n ↦ looks_by n (Continue Load) (λ w. either (w == 0) (Continue (Attempt n)) (Continue (Look n))) | _ ↦ act ])
 
--- `lock` finds the flag clear while another party starves, and that party then stops starving
-abbrev pub lock_beside_a_dropped_starver : {V : Type 0} → Entries V
-lock_beside_a_dropped_starver =
-    (0, Begin TryLock) ∷ (0, Step) ∷ (1, Begin Starve) ∷ (1, Step) ∷ (1, Step) ∷ (2, Begin Lock) ∷ (2, Step)
-    ∷ (0, Begin Release) ∷ (0, Step) ∷ (2, Step) ∷ (1, Begin StarverDrop) ∷ (1, Step) ∷ (2, Step) ∷ []
-
 -- a `starver_try_lock` that finds the flag set loads the word once more, and is refused whatever it finds
 abbrev pub refuses_late : {V : Type 0} → V → FairMachine V
 refuses_late {V} v =
@@ -228,28 +173,13 @@ refuses_late {V} v =
     let try : FairAct V = sets_flag (Continue Unregister) (Continue First) in
     with_steps v 2 (λ c l h act. elim c [ StarverTryLock ↦ elim l [ SetFlag ↦ try | First ↦ late | _ ↦ act ] | _ ↦ act ])
 
-abbrev pub starver_beside_a_holder : {V : Type 0} → Entries V
-starver_beside_a_holder =
-    (0, Begin TryLock) ∷ (0, Step) ∷ (1, Begin Starve) ∷ (1, Step) ∷ (1, Step) ∷ (1, Begin StarverTryLock) ∷ (1, Step) ∷ []
-
 -- a starver that finds the flag set tries to set it again without a look
 abbrev pub spins_by_setting : {V : Type 0} → V → FairMachine V
 spins_by_setting v = starver_lock_by v (λ l act. elim l [ SetFlag ↦ sets_flag (Continue Unregister) (Continue SetFlag) | _ ↦ act ])
 
-abbrev pub two_steps_of_a_starver : {V : Type 0} → Entries V
-two_steps_of_a_starver =
-    (0, Begin TryLock) ∷ (0, Step) ∷ (1, Begin Starve) ∷ (1, Step) ∷ (1, Step) ∷ (1, Begin StarverLock) ∷ (1, Step) ∷ (1, Step) ∷ []
-
 -- `lock` starts to count anew when it finds the flag clear
 abbrev pub counts_anew : {V : Type 0} → V → FairMachine V
 counts_anew v = lock_by v (λ l act. elim l [ Look n ↦ looks_by n (Continue Load) (λ w. Continue (Attempt 0)) | _ ↦ act ])
-
--- a look finds the flag set, and the next look finds the flag clear; another party wins the exchange; then come three
--- more looks
-abbrev pub lock_past_a_clear_flag : {V : Type 0} → Entries V
-lock_past_a_clear_flag =
-    (0, Begin TryLock) ∷ (0, Step) ∷ (1, Begin Lock) ∷ (1, Step) ∷ (1, Step) ∷ (0, Begin Release) ∷ (0, Step) ∷ (1, Step)
-    ∷ (0, Begin TryLock) ∷ (0, Step) ∷ (1, Step) ∷ (1, Step) ∷ (1, Step) ∷ (1, Step) ∷ []
 
 -- a `lock` with a patience of 3 that starts to count its looks anew when it has found the cap reached
 abbrev pub counts_anew_at_the_cap : {V : Type 0} → V → FairMachine V
@@ -257,21 +187,11 @@ counts_anew_at_the_cap {V} v =
     let anew : FairAct V = load (λ w. elim (starve 1 w) [ Some k ↦ Continue (Register w) | None ↦ Continue (Look 0) ]) in
     with_patience v 1 3 (λ c l h act. elim c [ Lock ↦ elim l [ Load ↦ anew | _ ↦ act ] | _ ↦ act ])
 
--- one party holds, and another one starves; the `lock` of a third party makes an exchange, four looks, and a load; the
--- starver stops starving, and then come three more looks
-abbrev pub lock_at_the_cap : {V : Type 0} → Entries V
-lock_at_the_cap =
-    (0, Begin TryLock) ∷ (0, Step) ∷ (1, Begin Starve) ∷ (1, Step) ∷ (1, Step) ∷ (2, Begin Lock) ∷ (2, Step)
-    ∷ (2, Step) ∷ (2, Step) ∷ (2, Step) ∷ (2, Step) ∷ (2, Step) ∷ (1, Begin StarverDrop) ∷ (1, Step) ∷ (2, Step) ∷ (2, Step) ∷ (2, Step) ∷ []
-
 -- a `starve` that finds the cap reached, which is one here, loads the word again
 abbrev pub waits_at_the_cap : {V : Type 0} → V → FairMachine V
 waits_at_the_cap {V} v =
     let again : FairAct V = load (λ w. elim (starve 1 w) [ Some k ↦ Continue (Register w) | None ↦ Continue Load ]) in
     with_steps v 1 (λ c l h act. elim c [ Starve ↦ elim l [ Load ↦ again | _ ↦ act ] | _ ↦ act ])
-
-abbrev pub starve_at_the_cap : {V : Type 0} → Entries V
-starve_at_the_cap = (0, Begin Starve) ∷ (0, Step) ∷ (0, Step) ∷ (1, Begin Starve) ∷ (1, Step) ∷ []
 
 -- `starver_try_lock` sets the flag only if its party is the only starver
 abbrev pub sets_the_flag_alone : {V : Type 0} → V → FairMachine V
@@ -279,21 +199,11 @@ sets_the_flag_alone {V} v =
     let alone : Option Hold → FairAct V = λ h. attempt 2 lock_fair (λ p. gets p to_lock_starving) (Continue Unregister) (Answers Refused h) in
     with_steps v 2 (λ c l h act. elim c [ StarverTryLock ↦ elim l [ SetFlag ↦ alone h | _ ↦ act ] | _ ↦ act ])
 
-abbrev pub try_of_one_of_two : {V : Type 0} → Entries V
-try_of_one_of_two =
-    (0, Begin Starve) ∷ (0, Step) ∷ (0, Step) ∷ (1, Begin Starve) ∷ (1, Step) ∷ (1, Step) ∷ (0, Begin StarverTryLock) ∷ (0, Step) ∷ []
-
 -- `lock` looks once more after it has registered, before it tries to set the flag
 abbrev pub looks_once_it_starves : {V : Type 0} → V → FairMachine V
 looks_once_it_starves {V} v =
     let registers : ℕ → FairAct V = λ n. retry n (starve 2) (λ p. gets p to_starve) (Continue Await) (λ w. Continue (Register w)) (Continue (Look 1)) in
     lock_by v (λ l act. elim l [ Register n ↦ registers n | _ ↦ act ])
-
--- the holder releases when the `lock` of the other party has registered
-abbrev pub let_go_beside_who_registered : {V : Type 0} → Entries V
-let_go_beside_who_registered =
-    (0, Begin TryLock) ∷ (0, Step) ∷ (1, Begin Lock) ∷ (1, Step) ∷ (1, Step) ∷ (1, Step) ∷ (1, Step) ∷ (1, Step)
-    ∷ (0, Begin Release) ∷ (0, Step) ∷ (1, Step) ∷ []
 
 -- `starve` checks the cap and registers in one event
 abbrev pub starves_in_one : {V : Type 0} → V → FairMachine V

@@ -1,16 +1,14 @@
--- Wrong flags, each wrong in one part of its machine, and schedules on which the laws refuse these flags.
+-- Wrong flags, each wrong in one part of its machine.
 use Rattle.spin_step.specs.declared.place.Hold.TheVariants.{Read}
-use Rattle.std.specs.Prelude.{ℕ, Bool, true, false, Option, Some, None, List, [], ◌∷◌}
+use Rattle.std.specs.Prelude.{Bool, true, false, Option, Some, None}
 use Rattle.spin_step.specs.declared.stepped.Next.{Next}
 use Rattle.spin_step.specs.declared.stepped.Next.TheVariants.{Continue, Answers}
 use Rattle.spin_step.specs.declared.answer.Answer.{Answer}
 use Rattle.spin_step.specs.declared.answer.Answer.TheVariants.{Refused, Is, Granted}
 use Rattle.spin_step.specs.declared.flag_calls.FlagCall.{FlagCall}
-use Rattle.spin_step.specs.declared.flag_calls.FlagCall.TheVariants.{Lock, TryLock, IsLocked, Release}
+use Rattle.spin_step.specs.declared.flag_calls.FlagCall.TheVariants.{Lock, TryLock, Release}
 use Rattle.spin_step.specs.declared.flag_calls.FlagPoint.{FlagPoint}
 use Rattle.spin_step.specs.declared.flag_calls.FlagPoint.TheVariants.{First, Second}
-use Rattle.spin_step.specs.declared.schedule.Move.{Move}
-use Rattle.spin_step.specs.declared.schedule.Move.TheVariants.{Begin, Step, Weak}
 use Rattle.spin_step.specs.Machines.{Machine}
 use Rattle.spin_step.specs.Plain.{gets, to_read, to_write}
 use Rattle.std.specs.Option.{option_map}
@@ -24,9 +22,6 @@ FlagMachine V = Machine Bool V FlagCall FlagPoint (Answer V)
 abbrev FlagAct : Type 0 → Type 0
 FlagAct V = Act Bool FlagPoint (Answer V)
 
-abbrev Entries : Type 0 → Type 0
-Entries V = List (ℕ × Move FlagCall V)
-
 -- the flag with these steps instead of its own
 abbrev with_steps : {V : Type 0} → V → (FlagCall → FlagAct V → FlagAct V) → FlagMachine V
 with_steps v steps = machine_of (record (flag_table v) { act = λ c l h. steps c (act_of c l h) })
@@ -37,23 +32,13 @@ looks_for_ever {V} v =
     let m : FlagMachine V = flag_machine v in
     record m { step = λ w value c l h. elim l [ Second ↦ stays w (Continue Second) | other ↦ m.step w value c other h ] }
 
--- one party sets the flag, the other finds the flag set, and two looks after the release find the flag clear
-abbrev pub two_looks : {V : Type 0} → Entries V
-two_looks = (0, Begin TryLock) ∷ (0, Step) ∷ (1, Begin Lock) ∷ (1, Step) ∷ (0, Begin Release) ∷ (0, Step) ∷ (1, Step) ∷ (1, Step) ∷ []
-
 -- a strong try that may fail spuriously
 abbrev pub tries_by_chance : {V : Type 0} → V → FlagMachine V
 tries_by_chance {V} v = let m : FlagMachine V = flag_machine v in record m { refuse = λ c l h. Some (Answers Refused h) }
 
-abbrev pub one_try : {V : Type 0} → Entries V
-one_try = (0, Begin TryLock) ∷ (0, Weak) ∷ []
-
 -- an `is_locked` whose load may fail spuriously, and which then answers that nobody holds
 abbrev pub looks_by_chance : {V : Type 0} → V → FlagMachine V
 looks_by_chance {V} v = let m : FlagMachine V = flag_machine v in record m { refuse = λ c l h. Some (Answers (Is false) h) }
-
-abbrev pub look_beside_a_holder : {V : Type 0} → Entries V
-look_beside_a_holder = (0, Begin TryLock) ∷ (0, Step) ∷ (1, Begin IsLocked) ∷ (1, Weak) ∷ []
 
 -- a `release` that can never begin
 abbrev pub never_releases : {V : Type 0} → V → FlagMachine V
@@ -72,9 +57,6 @@ abbrev pub looks_first : {V : Type 0} → V → FlagMachine V
 looks_first {V} v =
     let m : FlagMachine V = flag_machine v in record m { begin = λ c h. elim c [ Lock ↦ option_map (λ l. Second) (m.begin Lock h) | other ↦ m.begin other h ] }
 
-abbrev pub lock_alone : {V : Type 0} → Entries V
-lock_alone = (0, Begin Lock) ∷ (0, Step) ∷ []
-
 -- a `lock` whose look may fail spuriously, as if the flag were set
 abbrev pub refuses_at_its_look : {V : Type 0} → V → FlagMachine V
 refuses_at_its_look {V} v =
@@ -84,17 +66,11 @@ refuses_at_its_look {V} v =
 abbrev pub never_looks : {V : Type 0} → V → FlagMachine V
 never_looks v = with_steps v (λ c act. elim c [ Lock ↦ weak_exchange 0 lock (λ p. gets p to_write) granted (Continue First) | _ ↦ act ])
 
-abbrev pub lock_beside_a_holder : {V : Type 0} → Entries V
-lock_beside_a_holder = (0, Begin TryLock) ∷ (0, Step) ∷ (1, Begin Lock) ∷ (1, Step) ∷ (1, Step) ∷ []
-
 -- a `try_lock` whose party is told that it reads, though it holds the lock to write
 abbrev pub grants_to_read : {V : Type 0} → V → FlagMachine V
 grants_to_read {V} v =
     let to_reader : FlagAct V = exchange (swap 0 lock) (λ p. gets p to_write) (Answers Granted (Some Read)) (λ n. Answers Refused None) in
     with_steps v (λ c act. elim c [ TryLock ↦ to_reader | _ ↦ act ])
-
-abbrev pub whole_try : {V : Type 0} → Entries V
-whole_try = (0, Begin TryLock) ∷ (0, Step) ∷ []
 
 -- a `lock` that makes its exchange again after a spurious failure, without a look
 abbrev pub retries_at_once : {V : Type 0} → V → FlagMachine V

@@ -1,5 +1,5 @@
--- Wrong `Once` objects, each wrong in one part of its machine, and schedules on which the laws refuse these objects.
-use Rattle.std.specs.Prelude.{ℕ, Option, Some, None, [], ◌∷◌, ◌==◌}
+-- Wrong `Once` objects, each wrong in one part of its machine.
+use Rattle.std.specs.Prelude.{ℕ, Option, Some, None, ◌==◌}
 use Rattle.spin_step.specs.Plain.{Change}
 use Rattle.spin_step.specs.declared.place.Hold.{Hold}
 use Rattle.spin_step.specs.declared.stepped.Next.TheVariants.{Continue, Answers}
@@ -10,10 +10,8 @@ use Rattle.spin_step.specs.declared.once_calls.OnceCall.{OnceCall}
 use Rattle.spin_step.specs.declared.once_calls.OnceCall.TheVariants.{CallOnce, TryCallOnceOk, TryCallOnceErr, Wait, Poll, Get}
 use Rattle.spin_step.specs.declared.once_calls.OncePoint.{OncePoint}
 use Rattle.spin_step.specs.declared.once_calls.OncePoint.TheVariants.{Look, TryBegin, Await, Run}
-use Rattle.spin_step.specs.declared.schedule.Move.TheVariants.{Begin, Step, Weak}
 use Rattle.spin_step.specs.Acts.{either, stays}
 use Rattle.spin_step.specs.OnceCalls.{OnceMachine, once_machine}
-use Rattle.spin_world.specs.Keeping.{Entries}
 
 abbrev OnceStep : Type 0 → Type 0
 OnceStep V = Stepped ℕ V OncePoint (Answer V)
@@ -39,9 +37,6 @@ replacing l value replaced step = step
 abbrev pub replaces : (V : Type 0) → OnceMachine V
 replaces V = with_steps None (λ w value c l h step. elim c [ CallOnce v ↦ replacing l value (gives w v v h) step | _ ↦ step ])
 
-abbrev pub two_closures : {V : Type 0} → V → V → Entries V
-two_closures u v = (0, Begin (CallOnce u)) ∷ (0, Step) ∷ (0, Step) ∷ (0, Step) ∷ (0, Begin (CallOnce v)) ∷ (0, Step) ∷ []
-
 -- a closure fails and leaves the word at running
 abbrev pub sticks_silently : (V : Type 0) → OnceMachine V
 sticks_silently V = with_steps None (λ w value c l h step. elim c [ TryCallOnceErr ↦ elim l [ Run ↦ stays w (Answers Failed h) | _ ↦ step ] | _ ↦ step ])
@@ -50,15 +45,9 @@ sticks_silently V = with_steps None (λ w value c l h step. elim c [ TryCallOnce
 abbrev pub sticks : (V : Type 0) → OnceMachine V
 sticks V = with_changes (sticks_silently V) (λ c l made. elim c [ TryCallOnceErr ↦ elim l [ Run ↦ None | _ ↦ made ] | _ ↦ made ])
 
-abbrev pub one_failure : {V : Type 0} → Entries V
-one_failure = (0, Begin TryCallOnceErr) ∷ (0, Step) ∷ (0, Step) ∷ (0, Step) ∷ []
-
 -- `get` answers this value, even if the `Once` has no value
 abbrev pub gets_early : {V : Type 0} → V → OnceMachine V
 gets_early v = with_steps None (λ w value c l h step. elim c [ Get ↦ stays w (Answers (Value v) h) | _ ↦ step ])
-
-abbrev pub get_beside_a_closure : {V : Type 0} → V → Entries V
-get_beside_a_closure v = (0, Begin (CallOnce v)) ∷ (0, Step) ∷ (0, Step) ∷ (1, Begin Get) ∷ (1, Step) ∷ []
 
 -- `get` loads the value without the word
 abbrev pub peeks : (V : Type 0) → OnceMachine V
@@ -67,9 +56,6 @@ peeks V = with_steps None (λ w value c l h step. elim c [ Get ↦ stays w (Answ
 -- a `poll` that never waits
 abbrev pub polls_early : (V : Type 0) → OnceMachine V
 polls_early V = with_steps None (λ w value c l h step. elim c [ Poll ↦ elim value [ None ↦ stays w (Answers NoValue h) | _ ↦ step ] | _ ↦ step ])
-
-abbrev pub poll_beside_a_closure : {V : Type 0} → V → Entries V
-poll_beside_a_closure v = (0, Begin (CallOnce v)) ∷ (0, Step) ∷ (0, Step) ∷ (1, Begin Poll) ∷ (1, Step) ∷ []
 
 -- the closure gives the value u, but the call stores `put` and answers `told`
 abbrev placing : {V : Type 0} → V → V → OnceMachine V
@@ -81,24 +67,15 @@ tells_another u v = placing u v
 abbrev pub places_another : {V : Type 0} → V → OnceMachine V
 places_another v = placing v v
 
-abbrev pub one_closure : {V : Type 0} → V → Entries V
-one_closure u = (0, Begin (CallOnce u)) ∷ (0, Step) ∷ (0, Step) ∷ (0, Step) ∷ []
-
 -- a closure that never ends
 abbrev pub runs_on : (V : Type 0) → OnceMachine V
 runs_on V =
     let m : OnceMachine V = with_steps None (λ w value c l h step. elim c [ CallOnce v ↦ elim l [ Run ↦ stays w (Continue Run) | _ ↦ step ] | _ ↦ step ]) in
     with_changes m (λ c l made. elim c [ CallOnce v ↦ elim l [ Run ↦ None | _ ↦ made ] | _ ↦ made ])
 
-abbrev pub six_steps : {V : Type 0} → V → Entries V
-six_steps v = (0, Begin (CallOnce v)) ∷ (0, Step) ∷ (0, Step) ∷ (0, Step) ∷ (0, Step) ∷ (0, Step) ∷ (0, Step) ∷ []
-
 -- `wait` looks once more before it answers
 abbrev pub waits_idly : {V : Type 0} → V → OnceMachine V
 waits_idly v = with_steps (Some v) (λ w value c l h step. elim c [ Wait ↦ elim l [ Look ↦ stays w (Continue Await) | _ ↦ step ] | _ ↦ step ])
-
-abbrev pub one_wait : {V : Type 0} → Entries V
-one_wait = (0, Begin Wait) ∷ []
 
 -- a closure that may fail always fails
 abbrev as_failing : {V : Type 0} → OnceCall V → OnceCall V
@@ -126,17 +103,11 @@ never_looks V =
     let m : OnceMachine V = once_machine None in
     record m { begin = λ c h. elim c [ CallOnce v ↦ elim h [ None ↦ Some TryBegin | held ↦ m.begin (CallOnce v) held ] | other ↦ m.begin other h ] }
 
-abbrev pub one_call : {V : Type 0} → V → Entries V
-one_call v = (0, Begin (CallOnce v)) ∷ []
-
 -- an exchange may fail spuriously
 abbrev pub loses_by_chance : (V : Type 0) → OnceMachine V
 loses_by_chance V =
     let m : OnceMachine V = once_machine None in
     record m { refuse = λ c l h. elim c [ CallOnce v ↦ elim l [ TryBegin ↦ Some (Continue Await) | _ ↦ None ] | _ ↦ None ] }
-
-abbrev pub a_look_and_chance : {V : Type 0} → V → Entries V
-a_look_and_chance v = (0, Begin (CallOnce v)) ∷ (0, Step) ∷ (0, Weak) ∷ []
 
 -- the `Once` has a value, but its word says that there is none
 abbrev pub opens_at_nothing : {V : Type 0} → V → OnceMachine V
@@ -147,25 +118,13 @@ abbrev pub hesitates : (V : Type 0) → OnceMachine V
 hesitates V =
     with_steps None (λ w value c l h step. elim c [ CallOnce v ↦ elim l [ Await ↦ either (w == 0) (stays w (Continue Look)) step | _ ↦ step ] | _ ↦ step ])
 
--- a closure runs, another call waits for it, and the closure fails
-abbrev pub a_failure_beside_a_call : {V : Type 0} → V → Entries V
-a_failure_beside_a_call v = (0, Begin TryCallOnceErr) ∷ (0, Step) ∷ (0, Step) ∷ (1, Begin (CallOnce v)) ∷ (1, Step) ∷ (1, Step) ∷ (0, Step) ∷ []
-
 -- a call whose exchange has failed beside a running closure makes its exchange again, without a look
 abbrev pub begins_again : (V : Type 0) → OnceMachine V
 begins_again V = with_steps None (λ w value c l h step. elim l [ TryBegin ↦ either (w == 1) (stays w (Continue TryBegin)) step | _ ↦ step ])
 
--- the closure that runs then fails
-abbrev pub a_failure_beside_an_exchange : {V : Type 0} → V → Entries V
-a_failure_beside_an_exchange v =
-    (0, Begin TryCallOnceErr) ∷ (1, Begin (CallOnce v)) ∷ (1, Step) ∷ (0, Step) ∷ (0, Step) ∷ (1, Step) ∷ (0, Step) ∷ []
-
 -- a `poll` that finds neither a value nor a closure looks once more
 abbrev pub polls_twice : (V : Type 0) → OnceMachine V
 polls_twice V = with_steps None (λ w value c l h step. elim c [ Poll ↦ elim l [ Look ↦ either (w == 0) (stays w (Continue Await)) step | _ ↦ step ] | _ ↦ step ])
-
-abbrev pub one_poll : {V : Type 0} → Entries V
-one_poll = (0, Begin Poll) ∷ []
 
 -- a call whose closure has failed gets its answer one step later
 abbrev pub fails_late : (V : Type 0) → OnceMachine V
@@ -173,6 +132,3 @@ fails_late V = with_steps None (λ w value c l h step. elim c [
   | TryCallOnceErr ↦ elim l [ Run ↦ stays 0 (Continue Await) | Await ↦ stays w (Answers Failed h) | _ ↦ step ]
   | _ ↦ step
 ])
-
-abbrev pub a_running_closure : {V : Type 0} → Entries V
-a_running_closure = (0, Begin TryCallOnceErr) ∷ (0, Step) ∷ (0, Step) ∷ []

@@ -1,7 +1,7 @@
--- Wrong read-write locks, each wrong in one part of its table or machine, and schedules on which the laws refuse
--- these locks. A wrong step that changes the word still names a plain step, perhaps one that is not open, or one that
--- fits another word. Only `reads_and_regrets_unseen` names none.
-use Rattle.std.specs.Prelude.{ℕ, zero, suc, ◌+◌, ◌-◌, ◌/◌, true, false, Option, Some, None, List, [], ◌∷◌, ◌++◌, if◌then◌else◌}
+-- Wrong read-write locks, each wrong in one part of its table or machine. A wrong step that changes the word still
+-- names a plain step, perhaps one that is not open, or one that fits another word. Only `reads_and_regrets_unseen`
+-- names none.
+use Rattle.std.specs.Prelude.{ℕ, zero, suc, ◌+◌, ◌-◌, ◌/◌, true, false, Option, Some, None, if◌then◌else◌}
 use Rattle.spin_step.specs.Plain.{reading, upgradable, asking, writing, weight, Ask, to_read, to_write, to_upgrade, to_upgrade_asked, to_lock_starving, gets, releases, turns, to_read_upgradable}
 use Rattle.spin_step.specs.declared.place.Hold.{Hold}
 use Rattle.spin_step.specs.declared.place.Hold.TheVariants as hold
@@ -12,8 +12,6 @@ use Rattle.spin_step_more.specs.declared.rw_calls.RwCall.{RwCall}
 use Rattle.spin_step_more.specs.declared.rw_calls.RwCall.TheVariants.{TryRead, Read, TryUpgradeableRead, TryWrite, TryWriteWeak, Write, ReaderCount, WriterCount, TryUpgrade, Upgrade, Downgrade, Release, DowngradeToUpgradeable}
 use Rattle.spin_step_more.specs.declared.rw_calls.RwPoint.{RwPoint}
 use Rattle.spin_step_more.specs.declared.rw_calls.RwPoint.TheVariants.{First, Exchange, Asking}
-use Rattle.spin_step.specs.declared.schedule.Move.{Move}
-use Rattle.spin_step.specs.declared.schedule.Move.TheVariants.{Begin, Step, Weak}
 use Rattle.spin_step.specs.Machines.{Machine}
 use Rattle.spin_step.specs.declared.stepped.Next.{Next}
 use Rattle.spin_step.specs.Acts.{Act, load, load_for, exchange, weak_exchange, retry, store, section, swap, Table, machine_of}
@@ -30,9 +28,6 @@ RwMachine V = Machine ℕ V RwCall RwPoint (Answer V)
 
 abbrev RwTable : Type 0 → Type 0
 RwTable V = Table ℕ V RwCall RwPoint (Answer V)
-
-abbrev Entries : Type 0 → Type 0
-Entries V = List (ℕ × Move RwCall V)
 
 -- a lock with these steps instead of its own
 abbrev with_cap : {V : Type 0} → V → ℕ → (RwCall → RwPoint → Option Hold → RwAct V → RwAct V) → RwMachine V
@@ -58,18 +53,9 @@ turns_to_reading more = store (tells writing) (op.Add more) (λ p. turns p writi
 abbrev pub upgrades_at_once : {V : Type 0} → V → RwMachine V
 upgrades_at_once v = with_steps v (λ c l h act. elim c [ TryUpgrade ↦ writes_over to_upgrade (Answers Refused h) | _ ↦ act ])
 
-abbrev pub read_alone : {V : Type 0} → Entries V
-read_alone = (0, Begin TryRead) ∷ (0, Step) ∷ (0, Step) ∷ []
-
-abbrev pub upgrade_beside_a_reader : {V : Type 0} → Entries V
-upgrade_beside_a_reader = read_alone ++ (1, Begin TryUpgradeableRead) ∷ (1, Step) ∷ (1, Step) ∷ (1, Begin TryUpgrade) ∷ (1, Step) ∷ []
-
 -- `upgrade` asks and succeeds in one event, while there are readers
 abbrev pub upgrades_unasked : {V : Type 0} → V → RwMachine V
 upgrades_unasked v = upgrade_by v (λ l act. writes_over to_upgrade_asked (Continue Asking))
-
-abbrev pub ask_beside_a_reader : {V : Type 0} → Entries V
-ask_beside_a_reader = read_alone ++ (1, Begin TryUpgradeableRead) ∷ (1, Step) ∷ (1, Step) ∷ (1, Begin Upgrade) ∷ (1, Step) ∷ []
 
 -- `upgrade` tries again and again without asking
 abbrev pub upgrades_plainly : {V : Type 0} → V → RwMachine V
@@ -95,9 +81,6 @@ downgrade_in_two _ = store (tells writing) (op.Subtract (weight writing)) (λ p.
 abbrev pub downgrades_in_two : {V : Type 0} → V → RwMachine V
 downgrades_in_two v = with_steps v (λ c l h act. elim c [ Downgrade ↦ downgrade_in_two l | _ ↦ act ])
 
-abbrev pub downgrade_alone : {V : Type 0} → Entries V
-downgrade_alone = (0, Begin TryWrite) ∷ (0, Step) ∷ (0, Begin Downgrade) ∷ (0, Step) ∷ []
-
 -- `try_read` adds a reader to the word, and removes this reader if there was no room
 abbrev read_and_regret : {V : Type 0} → RwPoint → RwAct V
 read_and_regret (Exchange n) = store (λ w. true) (op.Subtract (weight reading)) (λ p. releases p reading) (Answers Refused None)
@@ -110,9 +93,6 @@ reads_and_regrets v = with_steps v (λ c l h act. elim c [ TryRead ↦ read_and_
 abbrev pub reads_and_regrets_unseen : {V : Type 0} → V → RwMachine V
 reads_and_regrets_unseen {V} v =
     let m : RwMachine V = reads_and_regrets v in record m { change = λ p w c l h. elim c [ TryRead ↦ None | other ↦ m.change p w other l h ] }
-
-abbrev pub read_beside_a_writer : {V : Type 0} → Entries V
-read_beside_a_writer = (0, Begin TryWrite) ∷ (0, Step) ∷ (1, Begin TryRead) ∷ (1, Step) ∷ []
 
 -- a `try_read` of one step; f says how it changes the word
 abbrev reads_by : {V : Type 0} → V → (ℕ → Option ℕ) → RwMachine V
@@ -127,9 +107,6 @@ reads_by_a_mask v = reads_by v (λ w. if tells upgradable w then None else Some 
 abbrev pub writes_by_chance : {V : Type 0} → V → RwMachine V
 writes_by_chance v = with_steps v (λ c l h act. elim c [ TryWrite ↦ load (λ w. Answers Refused h) | _ ↦ act ])
 
-abbrev pub write_alone : {V : Type 0} → Entries V
-write_alone = (0, Begin TryWrite) ∷ (0, Step) ∷ []
-
 -- `upgrade` releases, and then begins to write like a new party
 abbrev upgrade_anew : {V : Type 0} → RwPoint → RwAct V
 upgrade_anew (Exchange n) = weak_exchange 0 write (λ p. gets p to_write) (granted hold.Write) (Continue (Exchange 0))
@@ -137,15 +114,6 @@ upgrade_anew _ = store (tells upgradable) (op.Subtract (weight upgradable)) (λ 
 
 abbrev pub upgrades_anew : {V : Type 0} → V → RwMachine V
 upgrades_anew v = upgrade_by v (λ l act. upgrade_anew l)
-
-abbrev pub upgrade_alone : {V : Type 0} → Entries V
-upgrade_alone = (0, Begin TryUpgradeableRead) ∷ (0, Step) ∷ (0, Step) ∷ (0, Begin Upgrade) ∷ (0, Step) ∷ []
-
-abbrev pub two_steps_of_an_upgrade : {V : Type 0} → Entries V
-two_steps_of_an_upgrade = upgrade_alone ++ (0, Step) ∷ []
-
-abbrev pub read_beside_an_asking_reader : {V : Type 0} → Entries V
-read_beside_an_asking_reader = upgrade_alone ++ (1, Begin TryRead) ∷ (1, Step) ∷ []
 
 -- a lock whose `reader_count` answers `count` of the word
 abbrev counts_by : {V : Type 0} → V → (ℕ → ℕ) → RwMachine V
@@ -155,15 +123,9 @@ counts_by v count = with_steps v (λ c l h act. elim c [ ReaderCount ↦ load (�
 abbrev pub counts_without_upgradable : {V : Type 0} → V → RwMachine V
 counts_without_upgradable v = counts_by v (λ w. w / weight reading)
 
-abbrev pub count_beside_an_upgradable : {V : Type 0} → Entries V
-count_beside_an_upgradable = (0, Begin TryUpgradeableRead) ∷ (0, Step) ∷ (0, Step) ∷ (1, Begin ReaderCount) ∷ (1, Step) ∷ []
-
 -- `reader_count` does not count a reader that asks to upgrade
 abbrev pub counts_without_asking : {V : Type 0} → V → RwMachine V
 counts_without_asking v = counts_by v (λ w. if tells upgradable w then suc (w / weight reading) else w / weight reading)
-
-abbrev pub count_beside_an_asking_reader : {V : Type 0} → Entries V
-count_beside_an_asking_reader = upgrade_alone ++ (1, Begin ReaderCount) ∷ (1, Step) ∷ []
 
 -- only the steps of `read` are changed
 abbrev read_by : {V : Type 0} → V → (RwPoint → RwAct V → RwAct V) → RwMachine V
@@ -172,9 +134,6 @@ read_by v steps = with_steps v (λ c l h act. elim c [ Read ↦ steps l act | _ 
 -- `read` looks for ever
 abbrev pub looks_for_ever : {V : Type 0} → V → RwMachine V
 looks_for_ever v = read_by v (λ l act. load (λ w. Continue First))
-
-abbrev pub two_looks : {V : Type 0} → Entries V
-two_looks = (0, Begin Read) ∷ (0, Step) ∷ (0, Step) ∷ []
 
 -- `read` looks twice before its exchange
 abbrev pub looks_twice : {V : Type 0} → V → RwMachine V
@@ -187,9 +146,6 @@ write_by v step = with_steps v (λ c l h act. elim c [ Write ↦ step | _ ↦ ac
 -- `write` looks before its exchange
 abbrev pub looks_first : {V : Type 0} → V → RwMachine V
 looks_first v = write_by v (load (λ w. Continue (Exchange w)))
-
-abbrev pub one_look : {V : Type 0} → Entries V
-one_look = (0, Begin Write) ∷ (0, Step) ∷ []
 
 -- `try_read` loads the word for ever
 abbrev pub tries_for_ever : {V : Type 0} → V → RwMachine V
@@ -204,15 +160,9 @@ abbrev pub reads_by_a_guess : {V : Type 0} → V → RwMachine V
 reads_by_a_guess v =
     read_by v (λ l act. elim l [ First ↦ exchange (op.Exchange 0 (weight reading)) (λ p. gets p to_read) (granted hold.Read) goes_for | _ ↦ act ])
 
-abbrev pub guess_beside_a_reader : {V : Type 0} → Entries V
-guess_beside_a_reader = read_alone ++ (1, Begin Read) ∷ (1, Step) ∷ []
-
 -- the exchange of `read` is weak
 abbrev pub reads_weakly : {V : Type 0} → V → RwMachine V
 reads_weakly v = read_by v (λ l act. elim l [ Exchange n ↦ weak_exchange n (read 9) (λ p. gets p to_read) (granted hold.Read) (Continue First) | _ ↦ act ])
-
-abbrev pub read_by_chance : {V : Type 0} → Entries V
-read_by_chance = (0, Begin Read) ∷ (0, Step) ∷ (0, Weak) ∷ []
 
 -- the exchange of the weak try is strong
 abbrev pub writes_strongly : {V : Type 0} → V → RwMachine V
@@ -227,9 +177,6 @@ waits_strongly v = write_by v (exchange (swap 0 write) (λ p. gets p to_write) (
 -- `try_upgrade` may fail spuriously, though it is no weak try
 abbrev pub upgrades_by_chance : {V : Type 0} → V → RwMachine V
 upgrades_by_chance {V} v = let m : RwMachine V = rw_machine v 9 in record m { refuse = λ c l h. elim c [ TryUpgrade ↦ Some (Answers Refused h) | _ ↦ None ] }
-
-abbrev pub upgrade_by_chance : {V : Type 0} → Entries V
-upgrade_by_chance = (0, Begin TryUpgradeableRead) ∷ (0, Step) ∷ (0, Step) ∷ (0, Begin TryUpgrade) ∷ (0, Weak) ∷ []
 
 -- nobody may release
 abbrev pub never_releases : {V : Type 0} → V → RwMachine V
@@ -272,18 +219,11 @@ refuses_late {V} v =
     let first : RwAct V = load_for (read 9) (λ p. gets p to_read) goes_for (Continue Asking) in
     with_steps v (λ c l h act. elim c [ TryRead ↦ elim l [ First ↦ first | Asking ↦ load (λ w. Answers Refused h) | _ ↦ act ] | _ ↦ act ])
 
-abbrev pub try_beside_a_writer : {V : Type 0} → Entries V
-try_beside_a_writer = (0, Begin TryWrite) ∷ (0, Step) ∷ (1, Begin TryRead) ∷ (1, Step) ∷ []
-
 -- after its exchange has failed, `upgrade` looks before it tries again
 abbrev pub upgrades_by_looks : {V : Type 0} → V → RwMachine V
 upgrades_by_looks {V} v =
     let again : RwAct V = weak_exchange (weight asking) upgrade_asked (λ p. gets p to_upgrade_asked) (granted hold.Write) (Continue (Exchange 0)) in
     upgrade_by v (λ l act. elim l [ Asking ↦ again | Exchange n ↦ load (λ w. Continue Asking) | _ ↦ act ])
-
--- an `upgrade` that fails spuriously, and then takes a step while nobody else reads
-abbrev pub upgrade_after_a_refusal : {V : Type 0} → Entries V
-upgrade_after_a_refusal = (0, Begin TryUpgradeableRead) ∷ (0, Step) ∷ (0, Step) ∷ (0, Begin Upgrade) ∷ (0, Step) ∷ (0, Weak) ∷ (0, Step) ∷ []
 
 -- an upgradable reader is admitted although the cap, one here, is reached
 abbrev pub comes_beyond_the_cap : {V : Type 0} → V → RwMachine V
@@ -291,25 +231,15 @@ comes_beyond_the_cap {V} v =
     let comes : RwPoint → RwAct V = λ l. comes_by (read_upgradable 2) to_read_upgradable hold.Upgradable (Answers Refused None) l in
     with_cap v 1 (λ c l h act. elim c [ TryUpgradeableRead ↦ comes l | _ ↦ act ])
 
-abbrev pub upgradable_beside_a_reader : {V : Type 0} → Entries V
-upgradable_beside_a_reader = read_alone ++ (1, Begin TryUpgradeableRead) ∷ (1, Step) ∷ (1, Step) ∷ []
-
 -- a downgrade to upgradable leaves its party a plain reader
 abbrev pub ends_reading : {V : Type 0} → V → RwMachine V
 ends_reading v = with_steps v (λ c l h act. elim c [ DowngradeToUpgradeable ↦ turns_to_reading (weight reading - weight writing) | _ ↦ act ])
-
-abbrev pub downgrade_to_upgradable : {V : Type 0} → Entries V
-downgrade_to_upgradable = (0, Begin TryWrite) ∷ (0, Step) ∷ (0, Begin DowngradeToUpgradeable) ∷ (0, Step) ∷ []
 
 -- `read` loads the word again when its exchange has failed
 abbrev pub reads_anew : {V : Type 0} → V → RwMachine V
 reads_anew {V} v =
     let again : ℕ → RwAct V = λ n. retry n (read 9) (λ p. gets p to_read) (granted hold.Read) (λ w. Continue First) (Continue First) in
     read_by v (λ l act. elim l [ Exchange n ↦ again n | _ ↦ act ])
-
--- another party reads between the load and the exchange of `read`, which then loads again
-abbrev pub read_beside_a_new_reader : {V : Type 0} → Entries V
-read_beside_a_new_reader = (0, Begin Read) ∷ (0, Step) ∷ (1, Begin TryRead) ∷ (1, Step) ∷ (1, Step) ∷ (0, Step) ∷ (0, Step) ∷ []
 
 -- the exchange of a reader that has asked to upgrade is strong
 abbrev pub upgrades_strongly : {V : Type 0} → V → RwMachine V
@@ -321,7 +251,3 @@ upgrades_strongly {V} v =
 abbrev pub counts_asking_as_writing : {V : Type 0} → V → RwMachine V
 counts_asking_as_writing v =
     with_steps v (λ c l h act. elim c [ WriterCount ↦ load (λ w. Answers (Count (if tells asking w then 1 else writers_in w)) h) | _ ↦ act ])
-
-abbrev pub writers_beside_an_asking_reader : {V : Type 0} → Entries V
-writers_beside_an_asking_reader =
-    (0, Begin TryUpgradeableRead) ∷ (0, Step) ∷ (0, Step) ∷ (0, Begin Upgrade) ∷ (0, Step) ∷ (1, Begin WriterCount) ∷ (1, Step) ∷ []

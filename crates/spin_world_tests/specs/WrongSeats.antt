@@ -1,6 +1,6 @@
--- Wrong locks of seats, and schedules on which the laws refuse these locks. Each is wrong in one call, in its number of
+-- Wrong locks of seats. Each is wrong in one call, in its number of
 -- seats, or in how it opens. When a wrong step changes the word, its plain step is still one that the right lock makes.
-use Rattle.std.specs.Prelude.{ℕ, zero, suc, true, false, Option, Some, None, List, [], ◌∷◌, ◌++◌, nat_lt, ◌-◌}
+use Rattle.std.specs.Prelude.{ℕ, zero, suc, true, false, Option, Some, None, nat_lt, ◌-◌}
 use Rattle.spin_step.specs.Plain.{reading, to_read, gets, releases}
 use Rattle.spin_seats.specs.Seats.{entered}
 use Rattle.spin_step.specs.declared.place.Hold.{Hold}
@@ -11,8 +11,6 @@ use Rattle.spin_seats.specs.declared.calls.SeatsCall.{SeatsCall}
 use Rattle.spin_seats.specs.declared.calls.SeatsCall.TheVariants as call
 use Rattle.spin_seats.specs.declared.calls.SeatsPoint.{SeatsPoint}
 use Rattle.spin_seats.specs.declared.calls.SeatsPoint.TheVariants.{First, Exchange}
-use Rattle.spin_step.specs.declared.schedule.Move.{Move}
-use Rattle.spin_step.specs.declared.schedule.Move.TheVariants.{Begin, Step, Weak}
 use Rattle.spin_step.specs.Calls.{Asked}
 use Rattle.spin_step.specs.Acts.{Act, load, exchange, retry, store, section, machine_of}
 use Rattle.spin_step.specs.declared.table.Operation.TheVariants as op
@@ -22,38 +20,22 @@ use Rattle.spin_step.specs.Asks.{waits, gives_back}
 abbrev SeatsAct : Type 0
 SeatsAct = Act ℕ SeatsPoint (Answer (Unit {0}))
 
-abbrev Entries : Type 0
-Entries = List (ℕ × Move SeatsCall (Unit {0}))
-
 -- a lock with n seats, with these steps instead of its own
 abbrev with_steps : ℕ → (SeatsCall → SeatsPoint → Option Hold → SeatsAct → SeatsAct) → SeatsMachine
 with_steps n steps = let t : TableOfSeats = seats_table n in machine_of (record t { act = λ c l h. steps c l h (act_of n c l h) })
 
--- the party begins a `try_enter`, and makes two steps
-abbrev takes_a_seat : ℕ → Entries
-takes_a_seat p = (p, Begin call.TryEnter) ∷ (p, Step) ∷ (p, Step) ∷ []
-
 -- `try_enter` admits one party more than the lock has seats
 abbrev pub seats_one_too_many : SeatsMachine
 seats_one_too_many = with_steps 1 (λ c l h act. elim c [ call.TryEnter ↦ comes_by 2 (Answers Refused h) l | _ ↦ act ])
-
-abbrev pub two_on_one_seat : Entries
-two_on_one_seat = takes_a_seat 0 ++ takes_a_seat 1
 
 -- a party that leaves frees two seats
 abbrev pub leaves_for_two : SeatsMachine
 leaves_for_two =
     with_steps 2 (λ c l h act. elim c [ call.Leave ↦ store (λ w. nat_lt 0 w) (op.Subtract 2) (λ p. releases p reading) (Answers Done None) | _ ↦ act ])
 
-abbrev pub one_of_two_leaves : Entries
-one_of_two_leaves = takes_a_seat 0 ++ (takes_a_seat 1 ++ (0, Begin call.Leave) ∷ (0, Step) ∷ [])
-
 -- `try_enter` loads the word for ever
 abbrev pub tries_for_ever : SeatsMachine
 tries_for_ever = with_steps 2 (λ c l h act. elim c [ call.TryEnter ↦ load (λ w. Continue First) | _ ↦ act ])
-
-abbrev pub two_looks : Entries
-two_looks = takes_a_seat 0
 
 -- `enter` looks twice before its exchange
 abbrev pub looks_twice : SeatsMachine
@@ -61,9 +43,6 @@ looks_twice = with_steps 2 (λ c l h act. elim c [
   | call.Enter ↦ elim l [ First ↦ load (λ w. Continue (Exchange 2)) | Exchange (suc (suc zero)) ↦ act_of 2 call.Enter First h | _ ↦ act ]
   | _ ↦ act
 ])
-
-abbrev pub enter_alone : Entries
-enter_alone = (0, Begin call.Enter) ∷ (0, Step) ∷ (0, Step) ∷ []
 
 -- `try_enter` checks for a free seat and takes it in one event
 abbrev pub enters_in_one : SeatsMachine
@@ -77,15 +56,9 @@ enters_by_a_guess =
     let guess : SeatsAct = exchange (op.Exchange 0 1) (λ p. gets p to_read) granted goes_for in
     with_steps 2 (λ c l h act. elim c [ call.Enter ↦ elim l [ First ↦ guess | _ ↦ act ] | _ ↦ act ])
 
-abbrev pub guess_beside_one : Entries
-guess_beside_one = takes_a_seat 0 ++ (1, Begin call.Enter) ∷ (1, Step) ∷ []
-
 -- `try_enter` may fail spuriously, though it is no weak try
 abbrev pub enters_by_chance : SeatsMachine
 enters_by_chance = let m : SeatsMachine = seats_machine 2 in record m { refuse = λ c l h. elim c [ call.TryEnter ↦ Some (Answers Refused h) | _ ↦ None ] }
-
-abbrev pub enter_by_chance : Entries
-enter_by_chance = (0, Begin call.TryEnter) ∷ (0, Weak) ∷ []
 
 -- `leave` can never begin
 abbrev pub nobody_leaves : SeatsMachine
@@ -106,15 +79,9 @@ opens_taken = let t : TableOfSeats = seats_table 2 in machine_of (record t { wor
 abbrev pub seats_one_on_none : SeatsMachine
 seats_one_on_none = with_steps 0 (λ c l h act. act_of 1 c l h)
 
-abbrev pub one_sits : Entries
-one_sits = takes_a_seat 0
-
 -- `count` tells how many seats are free
 abbrev pub counts_free : SeatsMachine
 counts_free = with_steps 2 (λ c l h act. elim c [ call.Count ↦ load (λ w. Answers (Count (2 - w)) h) | _ ↦ act ])
-
-abbrev pub count_alone : Entries
-count_alone = (0, Begin call.Count) ∷ (0, Step) ∷ []
 
 abbrev pub slow_enter : Asked
 slow_enter = record (waits to_read) { undisturbed_steps = 1000 }
@@ -128,9 +95,6 @@ looks_on =
       act = λ c l h. elim c [ call.Enter ↦ load (λ w. Continue First) | other ↦ act_of 2 other l h ];
     })
 
-abbrev pub enter_in_vain : Entries
-enter_in_vain = (0, Begin call.Enter) ∷ (0, Step) ∷ (0, Step) ∷ (0, Step) ∷ (0, Step) ∷ []
-
 -- by the promise of `leave`, no party may begin this call
 abbrev pub keeps_all : SeatsMachine
 keeps_all = let t : TableOfSeats = seats_table 2 in machine_of (record t { asks = λ c h. elim c [ call.Leave ↦ gives_back (λ hold. false) h | other ↦ asks_of other h ] })
@@ -140,7 +104,3 @@ abbrev pub enters_anew : SeatsMachine
 enters_anew =
     let again : ℕ → SeatsAct = λ n. retry n (entered 2) (λ p. gets p to_read) granted (λ w. Continue First) (Continue First) in
     with_steps 2 (λ c l h act. elim c [ call.Enter ↦ elim l [ Exchange n ↦ again n | _ ↦ act ] | _ ↦ act ])
-
--- another party enters between the load and the exchange of `enter`, which then loads again
-abbrev pub enter_beside_a_newcomer : Entries
-enter_beside_a_newcomer = (0, Begin call.Enter) ∷ (0, Step) ∷ (takes_a_seat 1 ++ (0, Step) ∷ (0, Step) ∷ [])

@@ -1,5 +1,5 @@
--- Wrong ticket locks, each wrong in one part of its machine, and schedules on which the laws refuse these locks.
-use Rattle.std.specs.Prelude.{ℕ, Bool, not, ◌==◌, Option, Some, None, List, [], ◌∷◌, ◌+◌, ◌-◌, nat_lt}
+-- Wrong ticket locks, each wrong in one part of its machine.
+use Rattle.std.specs.Prelude.{ℕ, Bool, not, ◌==◌, Option, Some, None, ◌+◌, ◌-◌, nat_lt}
 use Rattle.spin_step.specs.declared.place.Hold.{Hold}
 use Rattle.spin_step.specs.declared.stepped.Next.{Next}
 use Rattle.spin_step.specs.declared.stepped.Next.TheVariants.{Continue, Answers}
@@ -8,11 +8,9 @@ use Rattle.spin_step.specs.declared.answer.Answer.{Answer}
 use Rattle.spin_step.specs.declared.answer.Answer.TheVariants.{Refused, Is}
 use Rattle.spin_step.specs.declared.ticket_calls.TicketWords.{TicketWords}
 use Rattle.spin_step.specs.declared.ticket_calls.TicketCall.{TicketCall}
-use Rattle.spin_step.specs.declared.ticket_calls.TicketCall.TheVariants.{Lock, TryLock, IsLocked, Release}
+use Rattle.spin_step.specs.declared.ticket_calls.TicketCall.TheVariants.{Lock, TryLock, IsLocked}
 use Rattle.spin_step.specs.declared.ticket_calls.TicketPoint.{TicketPoint}
 use Rattle.spin_step.specs.declared.ticket_calls.TicketPoint.TheVariants.{LoadNext, Take, Await, TryLoadNext, TryLoadServing, TryTake, LookServing, LookNext}
-use Rattle.spin_step.specs.declared.schedule.Move.{Move}
-use Rattle.spin_step.specs.declared.schedule.Move.TheVariants.{Begin, Step, Weak}
 use Rattle.spin_step.specs.Plain.{Change, gets, to_enter, ticket_limit}
 use Rattle.spin_step.specs.Machines.{Machine}
 use Rattle.spin_step.specs.Acts.{either, stays}
@@ -20,9 +18,6 @@ use Rattle.spin_step.specs.TicketCalls.{is_free, granted, ticket_machine}
 
 abbrev TicketMachine : Type 0 → Type 0
 TicketMachine V = Machine TicketWords V TicketCall TicketPoint (Answer V)
-
-abbrev Entries : Type 0 → Type 0
-Entries V = List (ℕ × Move TicketCall V)
 
 abbrev TicketStep : Type 0 → Type 0
 TicketStep V = Stepped TicketWords V TicketPoint (Answer V)
@@ -40,19 +35,9 @@ looks_backwards v = with_steps v 0 (λ w c l h step. elim l [
   | _ ↦ step
 ])
 
--- between the two loads a second party queues and the first one releases, so at every moment some party holds the lock
--- or queues
-abbrev pub look_beside_a_queue : {V : Type 0} → Entries V
-look_beside_a_queue =
-    (0, Begin TryLock) ∷ (0, Step) ∷ (0, Step) ∷ (0, Step) ∷ (1, Begin IsLocked) ∷ (1, Step)
-    ∷ (2, Begin Lock) ∷ (2, Step) ∷ (2, Step) ∷ (0, Begin Release) ∷ (0, Step) ∷ (1, Step) ∷ []
-
 -- `lock` takes a ticket only if nobody has one
 abbrev pub queues_behind_nobody : {V : Type 0} → V → TicketMachine V
 queues_behind_nobody v = with_steps v 0 (λ w c l h step. elim l [ LoadNext ↦ either (w.next == w.serving) step (stays w (Continue LoadNext)) | _ ↦ step ])
-
-abbrev pub lock_beside_a_holder : {V : Type 0} → Entries V
-lock_beside_a_holder = (0, Begin TryLock) ∷ (0, Step) ∷ (0, Step) ∷ (0, Step) ∷ (1, Begin Lock) ∷ (1, Step) ∷ (1, Step) ∷ []
 
 -- a `lock` that continues with `next` when it looks for its turn, and makes the plain step `made`
 abbrev enters_so : {V : Type 0} → V → (ℕ → Next TicketPoint (Answer V)) → (ℕ → Option Change) → TicketMachine V
@@ -68,22 +53,9 @@ never_enters v = enters_so v (λ t. Continue (Await t)) (λ p. None)
 abbrev pub enters_by_look : {V : Type 0} → V → TicketMachine V
 enters_by_look v = enters_so v granted (λ p. Some (gets p to_enter))
 
--- two parties queue behind a holder; the holder releases, and then the party with the later ticket looks first
-abbrev pub two_queue : {V : Type 0} → Entries V
-two_queue =
-    (0, Begin TryLock) ∷ (0, Step) ∷ (0, Step) ∷ (0, Step) ∷ (1, Begin Lock) ∷ (1, Step) ∷ (1, Step)
-    ∷ (2, Begin Lock) ∷ (2, Step) ∷ (2, Step) ∷ (0, Begin Release) ∷ (0, Step) ∷ (2, Step) ∷ []
-
--- four steps of one party alone
-abbrev pub lock_alone : {V : Type 0} → Entries V
-lock_alone = (0, Begin Lock) ∷ (0, Step) ∷ (0, Step) ∷ (0, Step) ∷ (0, Step) ∷ []
-
 -- `try_lock` makes its two loads, and is always refused
 abbrev pub never_tries : {V : Type 0} → V → TicketMachine V
 never_tries v = with_steps v 0 (λ w c l h step. elim l [ TryLoadServing n ↦ stays w (Answers Refused h) | _ ↦ step ])
-
-abbrev pub try_alone : {V : Type 0} → Entries V
-try_alone = (0, Begin TryLock) ∷ (0, Step) ∷ (0, Step) ∷ []
 
 -- `is_locked` loads both numbers in one step
 abbrev pub looks_at_both : {V : Type 0} → V → TicketMachine V
@@ -106,12 +78,6 @@ takes_by_chance {V} v =
     let m : TicketMachine V = ticket_machine v 0 in
     record m { refuse = λ c l h. elim l [ TryTake n ↦ Some (Answers Refused h) | Take n ↦ Some (Continue LoadNext) | _ ↦ None ] }
 
-abbrev pub try_in_vain : {V : Type 0} → Entries V
-try_in_vain = (0, Begin TryLock) ∷ (0, Step) ∷ (0, Step) ∷ (0, Weak) ∷ []
-
-abbrev pub lock_in_vain : {V : Type 0} → Entries V
-lock_in_vain = (0, Begin Lock) ∷ (0, Step) ∷ (0, Weak) ∷ []
-
 -- the words say at first that a ticket is in the queue, but no party has a ticket
 abbrev pub opens_with_a_ticket : {V : Type 0} → V → TicketMachine V
 opens_with_a_ticket {V} v = let m : TicketMachine V = ticket_machine v 0 in record m { words = record { next = 1; serving = 0 } }
@@ -123,9 +89,6 @@ looks_in_vain v = with_steps v 0 (λ w c l h step. elim c [
   | _ ↦ step
 ])
 
-abbrev pub three_loads : {V : Type 0} → Entries V
-three_loads = (0, Begin IsLocked) ∷ (0, Step) ∷ (0, Step) ∷ []
-
 -- `try_lock` does not take the last ticket
 abbrev pub leaves_the_last_ticket : {V : Type 0} → V → TicketMachine V
 leaves_the_last_ticket v =
@@ -136,9 +99,6 @@ leaves_the_last_ticket v =
 abbrev pub tries_by_one_load : {V : Type 0} → V → TicketMachine V
 tries_by_one_load v = with_steps v 0 (λ w c l h step. elim l [ TryLoadNext ↦ stays w (Continue (TryTake w.serving)) | _ ↦ step ])
 
-abbrev pub one_load : {V : Type 0} → Entries V
-one_load = (0, Begin TryLock) ∷ (0, Step) ∷ []
-
 -- `try_lock` loads the served number before the next one
 abbrev pub swaps_its_loads : {V : Type 0} → V → TicketMachine V
 swaps_its_loads v = with_steps v 0 (λ w c l h step. elim l [
@@ -147,24 +107,11 @@ swaps_its_loads v = with_steps v 0 (λ w c l h step. elim l [
   | _ ↦ step
 ])
 
--- a holder releases after the first load of a `try_lock`
-abbrev pub let_go_between : {V : Type 0} → Entries V
-let_go_between =
-    (0, Begin TryLock) ∷ (0, Step) ∷ (0, Step) ∷ (0, Step) ∷ (1, Begin TryLock) ∷ (1, Step) ∷ (0, Begin Release) ∷ (0, Step) ∷ []
-
 -- `try_lock` makes its loads again when its exchange has failed
 abbrev pub tries_until_it_wins : {V : Type 0} → V → TicketMachine V
 tries_until_it_wins v = with_steps v 0 (λ w c l h step. elim l [ TryTake n ↦ either (w.next == n) step (stays w (Continue TryLoadNext)) | _ ↦ step ])
-
--- another party takes the ticket between the loads of `try_lock` and its exchange
-abbrev pub try_beside_a_try : {V : Type 0} → Entries V
-try_beside_a_try =
-    (0, Begin TryLock) ∷ (0, Step) ∷ (0, Step) ∷ (1, Begin TryLock) ∷ (1, Step) ∷ (1, Step) ∷ (1, Step) ∷ (0, Step) ∷ []
 
 -- `lock` is refused if no ticket is left, and none is left here
 abbrev pub refuses_without_tickets : {V : Type 0} → V → TicketMachine V
 refuses_without_tickets v =
     with_steps v ticket_limit (λ w c l h step. elim l [ LoadNext ↦ either (nat_lt w.next ticket_limit) step (stays w (Answers Refused h)) | _ ↦ step ])
-
-abbrev pub first_step_of_a_lock : {V : Type 0} → Entries V
-first_step_of_a_lock = (0, Begin Lock) ∷ (0, Step) ∷ []

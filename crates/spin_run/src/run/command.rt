@@ -1,19 +1,24 @@
 //! The command line: what words ask for, what a run writes, and its exit status. Begin with [`program`].
 ghost use Rattle.std.specs.Prelude.{◌≡◌, ◌≤◌, ◌<◌, ℕ, true, false, OnOk, IfErr, IfSome, IfNone};
 ghost use Rattle.std.specs.Io.KnownBytes.{Appends};
-ghost use Rattle.spin_run.specs.declared.run.faults.Fault.{Fault};
-ghost use Rattle.spin_run.specs.Command.{AsksCount, AsksWorld, AsksNothing, Does, total_text, usage_line};
-ghost use Rattle.spin_run.specs.Faults.{Stops, StopsCount, line_of, status_of};
+ghost use Rattle.spin_run.specs.declared.faults.Fault.{Fault};
+ghost use Rattle.spin_run.specs.declared.faults.Fault.TheVariants.{Usage};
+ghost use Rattle.spin_run.specs.Command.{AsksCount, AsksWorld, AsksNothing, Does, Stops, StopsCount, total_text, usage};
+ghost use Rattle.spin_run.specs.Faults.{line_of, status_of};
 ghost use Rattle.spin_text.specs.Failures.{Told};
+ghost use Rattle.spin_text.specs.Texts.{streams};
 ghost use Rattle.spin_text.specs.Lines.{texts_of};
 
 use super::counting::{MAX_TIMES, MAX_WORKERS, count_with};
-use super::faults::{Fault, report};
+use crate::faults::{Fault, report};
 use spin_barrier::gate::Open;
 use spin_text::{Sink, Source, number, world_text, write_whole};
 use std::alloc::Allocator;
 use std::sync::Wait;
 use std::thread::Threads;
+
+/// The words of the line for words that are no command.
+pub const USAGE: &[u8] = b"usage: spin-run count WORKERS TIMES | spin-run world";
 
 /// A count that words ask for.
 #[derive(Clone, Copy)]
@@ -79,22 +84,10 @@ fn run<I: Source, O: Sink, R: AllocGlobal + Threads + Wait + Sync, A: Allocator>
 ) -> Result<(), Fault>
     requires input { I.failed input.old ≡ false }
     requires output { O.failed output.old ≡ false }
-    ensures done { OnOk result (Does (texts_of words.now) (input.new ≡ input.old) (record {
-      left = I.remaining input.old;
-      left_after = I.remaining input.new;
-      source_failed = I.failed input.new;
-      written = O.written output.old;
-      written_after = O.written output.new;
-      sink_failed = O.failed output.new;
-    })) }
-    ensures fault { IfErr result (Stops (texts_of words.now) (input.new ≡ input.old) (output.new ≡ output.old) (record {
-      left = I.remaining input.old;
-      left_after = I.remaining input.new;
-      source_failed = I.failed input.new;
-      written = O.written output.old;
-      written_after = O.written output.new;
-      sink_failed = O.failed output.new;
-    })) }
+    ensures done { OnOk result (Does (texts_of words.now) (input.new ≡ input.old)
+        (streams I.remaining I.failed O.written O.failed input.old input.new output.old output.new)) }
+    ensures fault { IfErr result (Stops (texts_of words.now) (input.new ≡ input.old) (output.new ≡ output.old)
+        (streams I.remaining I.failed O.written O.failed input.old input.new output.old output.new)) }
 {
     if asks_world(words) {
         return match world_text(rt.alloc(), input, output) {
@@ -139,35 +132,23 @@ pub fn program<I: Source, O: Sink, E: Sink, R: AllocGlobal + Threads + Wait + Sy
     ensures status { result ≤ 2 }
 
     // 0: the program did what the words ask for, and wrote nothing on standard error.
-    ensures done { result ≡ 0 → Does (texts_of words.now) (input.new ≡ input.old) (record {
-      left = I.remaining input.old;
-      left_after = I.remaining input.new;
-      source_failed = I.failed input.new;
-      written = O.written output.old;
-      written_after = O.written output.new;
-      sink_failed = O.failed output.new;
-    }) }
+    ensures done { result ≡ 0 → Does (texts_of words.now) (input.new ≡ input.old)
+        (streams I.remaining I.failed O.written O.failed input.old input.new output.old output.new) }
     ensures silent { result ≡ 0 → errors.new ≡ errors.old }
 
     // Any other status is that of a fault. The fault's line is on standard error, or its beginning if a write failed.
     ensures fault { 0 < result → (fault : Fault) × (result ≡ status_of fault)
-        × Stops (texts_of words.now) (input.new ≡ input.old) (output.new ≡ output.old) (record {
-          left = I.remaining input.old;
-          left_after = I.remaining input.new;
-          source_failed = I.failed input.new;
-          written = O.written output.old;
-          written_after = O.written output.new;
-          sink_failed = O.failed output.new;
-        }) fault
-        × Told (E.failed errors.new) (E.written errors.old) (E.written errors.new) (line_of fault) }
+        × Stops (texts_of words.now) (input.new ≡ input.old) (output.new ≡ output.old)
+        (streams I.remaining I.failed O.written O.failed input.old input.new output.old output.new) fault
+        × Told (E.failed errors.new) (E.written errors.old) (E.written errors.new) (line_of usage fault) }
 
     // If the words are no command, the status is 2, and the line tells the usage.
     ensures usage { AsksNothing (texts_of words.now) → (result ≡ 2)
-        × Told (E.failed errors.new) (E.written errors.old) (E.written errors.new) usage_line }
+        × Told (E.failed errors.new) (E.written errors.old) (E.written errors.new) (line_of usage Usage) }
     ensures nothing_written { result ≡ 2 → output.new ≡ output.old }
 {
     match run(rt, alloc, words, input, output) {
         Ok(()) => 0,
-        Err(fault) => report(fault, errors),
+        Err(fault) => report(fault, USAGE, errors),
     }
 }

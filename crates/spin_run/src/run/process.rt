@@ -1,12 +1,13 @@
 //! The program over the arguments of the process. Begin with [`program_over_arguments`].
 ghost use Rattle.std.specs.Prelude.{◌≡◌, ◌≤◌, ◌<◌, ◌⊎◌, List, ℕ, false};
-ghost use Rattle.spin_run.specs.declared.run.faults.Fault.{Fault};
-ghost use Rattle.spin_run.specs.Command.{Does};
-ghost use Rattle.spin_run.specs.Faults.{Stops, IsWordless, line_of, status_of};
+ghost use Rattle.spin_run.specs.declared.faults.Fault.{Fault};
+ghost use Rattle.spin_run.specs.Command.{Does, Stops, usage};
+ghost use Rattle.spin_run.specs.Faults.{IsWordless, line_of, status_of};
 ghost use Rattle.spin_text.specs.Failures.{Told};
+ghost use Rattle.spin_text.specs.Texts.{streams};
 
-use super::command::program;
-use super::faults::{Fault, report};
+use super::command::{USAGE, program};
+use crate::faults::{Fault, report};
 use spin_text::program::{arguments, texts};
 use spin_text::{Sink, Source};
 use std::env::Env;
@@ -32,35 +33,23 @@ pub fn program_over_arguments<
     requires output { O.failed output.old ≡ false }
     requires errors { E.failed errors.old ≡ false }
     ensures status { result ≤ 2 }
-    ensures done { result ≡ 0 → (words : List (List ℕ)) × Does words (input.new ≡ input.old) (record {
-      left = I.remaining input.old;
-      left_after = I.remaining input.new;
-      source_failed = I.failed input.new;
-      written = O.written output.old;
-      written_after = O.written output.new;
-      sink_failed = O.failed output.new;
-    }) }
+    ensures done { result ≡ 0 → (words : List (List ℕ)) × Does words (input.new ≡ input.old)
+        (streams I.remaining I.failed O.written O.failed input.old input.new output.old output.new) }
     ensures silent { result ≡ 0 → errors.new ≡ errors.old }
     ensures fault { 0 < result → (fault : Fault) × (words : List (List ℕ)) × (result ≡ status_of fault)
-        × (Stops words (input.new ≡ input.old) (output.new ≡ output.old) (record {
-          left = I.remaining input.old;
-          left_after = I.remaining input.new;
-          source_failed = I.failed input.new;
-          written = O.written output.old;
-          written_after = O.written output.new;
-          sink_failed = O.failed output.new;
-        }) fault
+        × (Stops words (input.new ≡ input.old) (output.new ≡ output.old)
+        (streams I.remaining I.failed O.written O.failed input.old input.new output.old output.new) fault
         ⊎ (IsWordless fault × (input.new ≡ input.old) × (output.new ≡ output.old)))
-        × Told (E.failed errors.new) (E.written errors.old) (E.written errors.new) (line_of fault) }
+        × Told (E.failed errors.new) (E.written errors.old) (E.written errors.new) (line_of usage fault) }
     ensures nothing_written { result ≡ 2 → output.new ≡ output.old }
 {
     let arguments = match arguments(rt) {
         Ok(Some(arguments)) => arguments,
-        Ok(None) => return report(Fault::Usage, errors),
-        Err(_) => return report(Fault::Memory, errors),
+        Ok(None) => return report(Fault::Usage, USAGE, errors),
+        Err(_) => return report(Fault::Memory, USAGE, errors),
     };
     match texts(rt.alloc(), &arguments) {
         Ok(words) => program(rt, rt.alloc(), words.as_slice(), input, output, errors),
-        Err(_) => report(Fault::Memory, errors),
+        Err(_) => report(Fault::Memory, USAGE, errors),
     }
 }

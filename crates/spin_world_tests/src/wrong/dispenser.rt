@@ -2,8 +2,10 @@
 ghost use Rattle.std.specs.Prelude.{◌≡◌};
 ghost use Rattle.spin_world_core.specs.Runs.{KeepsAll, MomentsAll};
 ghost use Rattle.spin_world_tests.specs.Dispenser.{IsDispenser, DrawsInOrder};
+ghost use Rattle.spin_world_tests.specs.declared.dispenser.DispenserCall.TheVariants as call;
+ghost use Rattle.spin_world_tests.specs.Schedules.{calls};
 ghost use Rattle.spin_world_tests.specs.WrongDispenser.{two_draw, forgets_to_store, wins_what_it_lost, wraps};
-ghost use Rattle.spin_world_tests.specs.WrongDispenser.{says_zero, draws_another, the_second, takes_back};
+ghost use Rattle.spin_world_tests.specs.WrongDispenser.{says_zero, draws_another, takes_back};
 
 /// A draw that stores the number that it found, so that the number is drawn again.
 pub fn a_number_that_is_drawn_is_used_up()
@@ -27,7 +29,7 @@ pub fn a_draw_says_its_number()
 
 /// A draw of a certain number that draws another one.
 pub fn a_number_asked_for_is_the_one_drawn()
-    ensures { MomentsAll draws_another 1 the_second → ⊥ }
+    ensures { MomentsAll draws_another 1 (calls 0 (call.DrawThis 1) 1) → ⊥ }
 {}
 
 /// A dispenser of another kind, to which numbers can be returned.

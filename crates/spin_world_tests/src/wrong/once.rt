@@ -1,35 +1,37 @@
-//! Each function here states that a wrong cell breaks a law, in most cases on a named schedule. So they show what the
+//! Each function here states that a wrong cell breaks a law, in most cases on one schedule. So they show what the
 //! laws keep out. Begin with [`a_second_closure_does_not_run`].
-ghost use Rattle.std.specs.Prelude.{◌≡◌, Some, None, []};
+ghost use Rattle.std.specs.Prelude.{◌++◌, ◌≡◌, Some, None, []};
 ghost use Rattle.spin_step.specs.Operations.{Stepwise};
 ghost use Rattle.spin_world_core.specs.Runs.{KeepsAll, MomentsAll, CountsAll};
 ghost use Rattle.spin_world_core.specs.Values.{ValuesAll};
 ghost use Rattle.spin_step.specs.OnceCalls.{once_machine};
 ghost use Rattle.spin_world.specs.Keeping.{AnswersAtOnce, LooksFirst, LooksWhereComplete, MayRunAgain, OneRuns};
 ghost use Rattle.spin_world.specs.Once.{IsOnceOf};
-ghost use Rattle.spin_world_tests.specs.WrongOnce.{peeks, runs_on, six_steps, waits_idly, one_wait, always_fails, never_gets, never_looks, one_call, loses_by_chance, a_look_and_chance, opens_at_nothing, replaces, two_closures, sticks, sticks_silently, one_failure, gets_early, get_beside_a_closure, polls_early, poll_beside_a_closure, tells_another, places_another, one_closure, hesitates, a_failure_beside_a_call, begins_again, a_failure_beside_an_exchange, polls_twice, one_poll, fails_late, a_running_closure};
+ghost use Rattle.spin_step.specs.declared.once_calls.OnceCall.TheVariants.{CallOnce, Get, Poll, TryCallOnceErr, Wait};
+ghost use Rattle.spin_world_tests.specs.Schedules.{calls, steps, weak};
+ghost use Rattle.spin_world_tests.specs.WrongOnce.{peeks, runs_on, waits_idly, always_fails, never_gets, never_looks, loses_by_chance, opens_at_nothing, replaces, sticks, sticks_silently, gets_early, polls_early, tells_another, places_another, hesitates, begins_again, polls_twice, fails_late};
 
 /// A second closure whose value replaces the first value. Its call makes no plain step, so this closure has not
 /// completed.
 pub fn a_second_closure_does_not_run<V: Copy>()
-    ensures { (u v : V) → (u ≡ v → ⊥) → KeepsAll (replaces V) 1 (two_closures u v) → ⊥ }
+    ensures { (u v : V) → (u ≡ v → ⊥) → KeepsAll (replaces V) 1 (calls 0 (CallOnce u) 3 ++ calls 0 (CallOnce v) 1) → ⊥ }
 {}
 
 /// A closure that fails and leaves the word at running. The answer says that the closure has failed, but its call has
 /// not made the plain step of a failure.
 pub fn a_failure_lets_go<V: Copy>()
-    ensures { KeepsAll (sticks V) 1 one_failure → ⊥ }
+    ensures { KeepsAll (sticks V) 1 (calls 0 TryCallOnceErr 3) → ⊥ }
 {}
 
 /// A closure that fails and leaves the word at running, in a machine that names the failure as this step's plain step.
 /// Then the word is not that of the plain lock.
 pub fn a_failure_clears_the_word<V: Copy>()
-    ensures { KeepsAll (sticks_silently V) 1 one_failure → ⊥ }
+    ensures { KeepsAll (sticks_silently V) 1 (calls 0 TryCallOnceErr 3) → ⊥ }
 {}
 
 /// A `get` that answers a value while a closure runs. At no moment of the call is there a value.
 pub fn a_get_finds_a_value<V: Copy>()
-    ensures { (v : V) → MomentsAll (gets_early v) 2 (get_beside_a_closure v) → ⊥ }
+    ensures { (v : V) → MomentsAll (gets_early v) 2 (calls 0 (CallOnce v) 2 ++ calls 1 Get 1) → ⊥ }
 {}
 
 /// A `get` that loads the value without the word. No schedule shows this, but a closure may be writing the value.
@@ -39,28 +41,28 @@ pub fn a_get_looks_at_the_word<V: Copy>()
 
 /// A `poll` that answers while a closure runs, and says that there is no value.
 pub fn a_poll_waits_for_the_closure<V: Copy>()
-    ensures { (v : V) → MomentsAll (polls_early V) 2 (poll_beside_a_closure v) → ⊥ }
+    ensures { (v : V) → MomentsAll (polls_early V) 2 (calls 0 (CallOnce v) 2 ++ calls 1 Poll 1) → ⊥ }
 {}
 
 /// A call that completes and answers another value than it stored.
 pub fn an_answer_is_the_value_placed<V: Copy>()
-    ensures { (u v : V) → (u ≡ v → ⊥) → ValuesAll (tells_another u v) 1 (one_closure u) → ⊥ }
+    ensures { (u v : V) → (u ≡ v → ⊥) → ValuesAll (tells_another u v) 1 (calls 0 (CallOnce u) 3) → ⊥ }
 {}
 
 /// A call that stores and answers another value than that of its closure.
 pub fn a_value_is_the_closures_own<V: Copy>()
-    ensures { (u v : V) → (u ≡ v → ⊥) → ValuesAll (places_another v) 1 (one_closure u) → ⊥ }
+    ensures { (u v : V) → (u ≡ v → ⊥) → ValuesAll (places_another v) 1 (calls 0 (CallOnce u) 3) → ⊥ }
 {}
 
 /// A closure that never ends. If nobody disturbs a call whose closure runs, this call has to be answered within four
 /// steps.
 pub fn a_closure_ends<V: Copy>()
-    ensures { (v : V) → CountsAll (runs_on V) 1 (six_steps v) → ⊥ }
+    ensures { (v : V) → CountsAll (runs_on V) 1 (calls 0 (CallOnce v) 6) → ⊥ }
 {}
 
 /// A `wait` that looks once more though there is a value.
 pub fn a_wait_answers_what_it_sees<V: Copy>()
-    ensures { (v : V) → AnswersAtOnce (waits_idly v) 1 one_wait → ⊥ }
+    ensures { (v : V) → AnswersAtOnce (waits_idly v) 1 (calls 0 Wait 0) → ⊥ }
 {}
 
 /// A `try_call_once` that fails whatever its closure returns, and is right otherwise.
@@ -80,13 +82,15 @@ pub fn a_get_begins<V: Copy>()
 
 /// A `call_once` that begins with its exchange, and a call that makes a failed exchange again without a look.
 pub fn a_call_once_looks_first<V: Copy>()
-    ensures first { (v : V) → LooksFirst (never_looks V) 1 (one_call v) → ⊥ }
-    ensures again { (v : V) → LooksFirst (begins_again V) 2 (a_failure_beside_an_exchange v) → ⊥ }
+    ensures first { (v : V) → LooksFirst (never_looks V) 1 (calls 0 (CallOnce v) 0) → ⊥ }
+    // The closure that runs then fails.
+    ensures again { (v : V) → LooksFirst (begins_again V) 2
+        (calls 0 TryCallOnceErr 0 ++ calls 1 (CallOnce v) 1 ++ steps 0 2 ++ steps 1 1 ++ steps 0 1) → ⊥ }
 {}
 
 /// A `call_once` whose exchange may fail spuriously.
 pub fn a_lost_exchange_has_a_cause<V: Copy>()
-    ensures { (v : V) → KeepsAll (loses_by_chance V) 1 (a_look_and_chance v) → ⊥ }
+    ensures { (v : V) → KeepsAll (loses_by_chance V) 1 (calls 0 (CallOnce v) 1 ++ weak 0) → ⊥ }
 {}
 
 /// A cell with a value, but whose word says that there is none.
@@ -97,15 +101,17 @@ pub fn a_cell_with_a_value_opens_complete<V: Copy>()
 /// A call that waits for a closure that fails, and then looks twice before it runs its own closure. While there is no
 /// value and no closure runs, the call has to run its closure by its second step.
 pub fn a_waiting_call_takes_over<V: Copy>()
-    ensures { (v : V) → MayRunAgain (hesitates V) 2 (a_failure_beside_a_call v) → ⊥ }
+    // A closure runs, another call waits for it, and the closure fails.
+    ensures { (v : V) → MayRunAgain (hesitates V) 2
+        (calls 0 TryCallOnceErr 2 ++ calls 1 (CallOnce v) 2 ++ steps 0 1) → ⊥ }
 {}
 
 /// A `poll` that looks once more though there is neither a value nor a closure.
 pub fn a_poll_answers_what_it_sees<V: Copy>()
-    ensures { AnswersAtOnce (polls_twice V) 1 one_poll → ⊥ }
+    ensures { AnswersAtOnce (polls_twice V) 1 (calls 0 Poll 0) → ⊥ }
 {}
 
 /// A call whose closure has failed, and which gets its answer only after a further step.
 pub fn a_failure_is_told_at_once<V: Copy>()
-    ensures { OneRuns (fails_late V) 1 a_running_closure → ⊥ }
+    ensures { OneRuns (fails_late V) 1 (calls 0 TryCallOnceErr 2) → ⊥ }
 {}

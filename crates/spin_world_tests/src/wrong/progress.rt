@@ -1,4 +1,4 @@
-//! Each function here states that a wrong lock breaks a law of progress on a named schedule. So they show what the laws
+//! Each function here states that a wrong lock breaks a law of progress on one schedule. So they show what the laws
 //! keep out. Begin with [`a_waiting_party_looks_again`].
 ghost use Rattle.spin_laws.specs.Flag.{LocksInFour};
 ghost use Rattle.spin_laws.specs.Rw.{UpgradesInThree};

@@ -1,11 +1,13 @@
-//! Each function here states that a wrong ticket lock breaks a law, in most cases on a named schedule. So they show
+//! Each function here states that a wrong ticket lock breaks a law, in most cases on one schedule. So they show
 //! what the laws keep out. Begin with [`a_look_loads_the_served_number_first`].
-ghost use Rattle.std.specs.Prelude.{◌≡◌, []};
+ghost use Rattle.std.specs.Prelude.{◌++◌, ◌≡◌, []};
 ghost use Rattle.spin_step.specs.Operations.{Stepwise};
 ghost use Rattle.spin_world_core.specs.Runs.{KeepsAll, MomentsAll, CountsAll};
 ghost use Rattle.spin_world.specs.Ticket.{IsTicketLock};
 ghost use Rattle.spin_world.specs.Turns.{TriesByTwoLoads};
-ghost use Rattle.spin_world_tests.specs.WrongTicket.{tries_by_one_load, one_load, swaps_its_loads, let_go_between, looks_in_vain, three_loads, looks_backwards, look_beside_a_queue, queues_behind_nobody, lock_beside_a_holder, never_enters, lock_alone, enters_by_look, two_queue, never_tries, try_alone, looks_at_both, locks_again, tries_by_looking, takes_by_chance, try_in_vain, lock_in_vain, opens_with_a_ticket, leaves_the_last_ticket, tries_until_it_wins, try_beside_a_try, refuses_without_tickets, first_step_of_a_lock};
+ghost use Rattle.spin_step.specs.declared.ticket_calls.TicketCall.TheVariants.{IsLocked, Lock, Release, TryLock};
+ghost use Rattle.spin_world_tests.specs.Schedules.{calls, steps, weak};
+ghost use Rattle.spin_world_tests.specs.WrongTicket.{tries_by_one_load, swaps_its_loads, looks_in_vain, looks_backwards, queues_behind_nobody, never_enters, enters_by_look, never_tries, looks_at_both, locks_again, tries_by_looking, takes_by_chance, opens_with_a_ticket, leaves_the_last_ticket, tries_until_it_wins, refuses_without_tickets};
 
 /// A ticket lock whose words say at first that a ticket is in the queue, though no party has a ticket.
 pub fn a_ticket_lock_opens_empty<V: Copy>()
@@ -14,7 +16,10 @@ pub fn a_ticket_lock_opens_empty<V: Copy>()
 
 /// An `is_locked` that loads the next number first: its `false` has no moment.
 pub fn a_look_loads_the_served_number_first<V: Copy>()
-    ensures { (value : V) → MomentsAll (looks_backwards value) 3 look_beside_a_queue → ⊥ }
+    // Between the two loads a second party queues and the first one releases, so at every moment some party holds
+    // the lock or queues.
+    ensures { (value : V) → MomentsAll (looks_backwards value) 3
+        (calls 0 TryLock 3 ++ calls 1 IsLocked 1 ++ calls 2 Lock 2 ++ calls 0 Release 1 ++ steps 1 1) → ⊥ }
 {}
 
 /// An `is_locked` that loads both numbers in one step. A step may use only one word.
@@ -24,23 +29,26 @@ pub fn a_look_loads_one_number_at_a_time<V: Copy>()
 
 /// An `is_locked` with three loads. This call has to answer by its second load.
 pub fn a_look_takes_two_loads<V: Copy>()
-    ensures { (value : V) → CountsAll (looks_in_vain value) 1 three_loads → ⊥ }
+    ensures { (value : V) → CountsAll (looks_in_vain value) 1 (calls 0 IsLocked 2) → ⊥ }
 {}
 
 /// A `lock` that takes its ticket only if nobody has one. If a ticket is left and no other party takes it, a `lock` has
 /// to have its ticket by its second step, also while another party holds.
 pub fn a_lock_queues_behind_others<V: Copy>()
-    ensures { (value : V) → CountsAll (queues_behind_nobody value) 2 lock_beside_a_holder → ⊥ }
+    ensures { (value : V) → CountsAll (queues_behind_nobody value) 2 (calls 0 TryLock 3 ++ calls 1 Lock 2) → ⊥ }
 {}
 
 /// A `lock` that never enters.
 pub fn a_lock_enters<V: Copy>()
-    ensures { (value : V) → CountsAll (never_enters value) 1 lock_alone → ⊥ }
+    // Four steps of one party alone.
+    ensures { (value : V) → CountsAll (never_enters value) 1 (calls 0 Lock 4) → ⊥ }
 {}
 
 /// A `lock` that enters by its first look, though another party has an earlier ticket. Its plain step is not open.
 pub fn tickets_enter_in_the_order_they_are_taken<V: Copy>()
-    ensures { (value : V) → KeepsAll (enters_by_look value) 3 two_queue → ⊥ }
+    // Two parties queue behind a holder; the holder releases, and then the party with the later ticket looks first.
+    ensures { (value : V) → KeepsAll (enters_by_look value) 3
+        (calls 0 TryLock 3 ++ calls 1 Lock 2 ++ calls 2 Lock 2 ++ calls 0 Release 1 ++ steps 2 1) → ⊥ }
 {}
 
 /// A `lock` that can begin though its party holds the lock, and so waits for itself.
@@ -50,22 +58,22 @@ pub fn a_holder_may_not_lock_again<V: Copy>()
 
 /// A `lock` that takes its ticket by a weak exchange. No call that queues may fail spuriously.
 pub fn a_ticket_is_taken_by_a_strong_exchange<V: Copy>()
-    ensures { (value : V) → KeepsAll (takes_by_chance value) 1 lock_in_vain → ⊥ }
+    ensures { (value : V) → KeepsAll (takes_by_chance value) 1 (calls 0 Lock 1 ++ weak 0) → ⊥ }
 {}
 
 /// A `try_lock` that is refused though there was no ticket: the refusal has no moment.
 pub fn a_refused_try_found_a_ticket<V: Copy>()
-    ensures { (value : V) → MomentsAll (never_tries value) 1 try_alone → ⊥ }
+    ensures { (value : V) → MomentsAll (never_tries value) 1 (calls 0 TryLock 2) → ⊥ }
 {}
 
 /// A strong try that fails spuriously: the refusal has no moment.
 pub fn a_strong_try_has_a_cause<V: Copy>()
-    ensures { (value : V) → MomentsAll (takes_by_chance value) 1 try_in_vain → ⊥ }
+    ensures { (value : V) → MomentsAll (takes_by_chance value) 1 (calls 0 TryLock 2 ++ weak 0) → ⊥ }
 {}
 
 /// A `try_lock` that is refused when the last ticket is next, though a party may take this ticket too.
 pub fn the_last_ticket_is_taken<V: Copy>()
-    ensures { (value : V) → MomentsAll (leaves_the_last_ticket value) 1 try_alone → ⊥ }
+    ensures { (value : V) → MomentsAll (leaves_the_last_ticket value) 1 (calls 0 TryLock 2) → ⊥ }
 {}
 
 /// A `try_lock` that does what `is_locked` does.
@@ -76,16 +84,20 @@ pub fn a_try_lock_asks_to_enter<V: Copy>()
 /// A `try_lock` that takes the served number, in two steps. Also a `try_lock` that loads the served number before the
 /// next number.
 pub fn a_try_loads_the_next_number_first<V: Copy>()
-    ensures hurries { (value : V) → TriesByTwoLoads (tries_by_one_load value) 1 one_load → ⊥ }
-    ensures swaps { (value : V) → TriesByTwoLoads (swaps_its_loads value) 2 let_go_between → ⊥ }
+    ensures hurries { (value : V) → TriesByTwoLoads (tries_by_one_load value) 1 (calls 0 TryLock 1) → ⊥ }
+    // A holder releases after the first load of a `try_lock`.
+    ensures swaps { (value : V) → TriesByTwoLoads (swaps_its_loads value) 2
+        (calls 0 TryLock 3 ++ calls 1 TryLock 1 ++ calls 0 Release 1) → ⊥ }
 {}
 
 /// A `try_lock` that makes its loads again when its exchange has failed. This call has to be answered by its third step.
 pub fn a_try_is_answered<V: Copy>()
-    ensures { (value : V) → CountsAll (tries_until_it_wins value) 2 try_beside_a_try → ⊥ }
+    // Another party takes the ticket between the loads of `try_lock` and its exchange.
+    ensures { (value : V) → CountsAll (tries_until_it_wins value) 2
+        (calls 0 TryLock 2 ++ calls 1 TryLock 3 ++ steps 0 1) → ⊥ }
 {}
 
 /// A `lock` that is refused because no ticket is left. It may only wait.
 pub fn a_lock_is_never_refused<V: Copy>()
-    ensures { (value : V) → KeepsAll (refuses_without_tickets value) 1 first_step_of_a_lock → ⊥ }
+    ensures { (value : V) → KeepsAll (refuses_without_tickets value) 1 (calls 0 Lock 1) → ⊥ }
 {}

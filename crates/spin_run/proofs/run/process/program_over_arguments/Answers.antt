@@ -1,5 +1,5 @@
 use Rattle.std.proofs.Common.{[], inl, inr, refl}
-use Rattle.spin_run.specs.declared.run.faults.Fault.TheVariants.{Usage, Memory}
+use Rattle.spin_run.specs.declared.faults.Fault.TheVariants.{Usage, Memory}
 use Rattle.spin_run.proofs.run.process.program_over_arguments.Goals as goal
 
 pub returns-in-Ok-None-clause-fault : goal.returns-in-Ok-None-clause-fault

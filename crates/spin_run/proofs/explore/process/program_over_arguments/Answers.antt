@@ -1,0 +1,19 @@
+use Rattle.std.proofs.Common.{[], inl, inr, refl}
+use Rattle.spin_run.specs.declared.faults.Fault.TheVariants.{Usage, Memory}
+use Rattle.spin_run.proofs.explore.process.program_over_arguments.Goals as goal
+
+pub returns-in-Ok-None-clause-fault : goal.returns-in-Ok-None-clause-fault
+returns-in-Ok-None-clause-fault g c some few =
+    (Usage, [], c.report.ensures.status, inr (inl refl, refl, refl), c.report.ensures.told)
+
+pub returns-in-Err-clause-fault : goal.returns-in-Err-clause-fault
+returns-in-Err-clause-fault g c some few =
+    (Memory, [], c.report-in-Err.ensures.status, inr (inr refl, refl, refl), c.report-in-Err.ensures.told)
+
+pub returns-in-Ok-clause-fault : goal.returns-in-Ok-clause-fault
+returns-in-Ok-clause-fault g c some few =
+    let stops = c.program.ensures.fault some few in (stops.0, _, stops.1, inl stops.2, stops.3)
+
+pub returns-clause-fault : goal.returns-clause-fault
+returns-clause-fault g c some few =
+    (Memory, [], c.report-in-Err-texts.ensures.status, inr (inr refl, refl, refl), c.report-in-Err-texts.ensures.told)
