@@ -1,5 +1,5 @@
 -- How the calls of a read-write lock begin, go on and are answered.
-use Rattle.std.proofs.Common.{◌≡◌, ◌≢◌, ◌≤◌, cond, ℕ, ◌==◌, Bool, true, false, Option, Some, None, if◌then◌else◌, refl, sym, ◌∙◌, subst, arith, eq-eqb, ne_eqb}
+use Rattle.std.proofs.Common.{◌≡◌, ◌≤◌, cond, ℕ, ◌==◌, Bool, true, false, Option, Some, None, if◌then◌else◌, refl, sym, ◌∙◌, subst, arith, eq-eqb, ne_eqb}
 use mathlib.Core.Logic.{dite}
 use native.Mathlib.Decide.{ℕ_discrete}
 use Rattle.spin_step.specs.Plain.{Plain, reading, upgradable, weight, is_reader, rw_word}
@@ -25,7 +25,7 @@ use Rattle.spin_step_more.specs.declared.rw_calls.RwPoint.TheVariants.{First, Ex
 use Rattle.spin_core.specs.Cell.{reads as reads_it, writes}
 use Rattle.spin_core.specs.declared.tie.Opening.{Opening}
 use Rattle.spin_session.specs.Meaning.{use_at}
-use Rattle.spin_session.specs.Turns.{Fuses, IsLed, last_step, MayBegin, StaysQuiet, IsAnsweredBy, IsAnsweredAtOnce, IsTry, IsAnswered, IsLook, Uses, FusesBy, either_call, either_step}
+use Rattle.spin_session.specs.Turns.{Fuses, IsLed, last_step, MayBegin, IsAnsweredBy, IsAnsweredAtOnce, IsTry, IsAnswered, IsLook, Uses, FusesBy, either_call, either_step}
 use Rattle.spin_rwlock.specs.Rw.{rw_meaning, rw_tables, Comes, MayLeave, call_of, downgrade_to}
 
 -- no party writes while its call rests

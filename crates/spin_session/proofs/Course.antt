@@ -18,7 +18,7 @@ use Rattle.spin_step.specs.declared.stepped.Next.TheVariants.{Continue, Answers}
 use Rattle.spin_session.specs.Meaning.{Meaning, model_at, seat_after, seat_now, use_at, rests_at, table_at}
 use Rattle.spin_session.specs.declared.session.Session.{Session}
 use Rattle.spin_session.specs.Passes.{Writes}
-use Rattle.spin_session.specs.Turns.{MayFind, IsReached, IsLed, IsLedTo, Lands, SeesOn, course_of, next_after, outcome_of, has_begun, Spot, Comes, GoesBy, GoesOn, Under, Ended, Quiet, StaysQuiet, IsAtPoint, Knows, StandsAt, IsAnsweredBy, IsAnswered, Acquires, TriesToAcquire, IsTry, IsLook, Tells, AnswersWith, is_granted}
+use Rattle.spin_session.specs.Turns.{MayFind, IsReached, IsLed, IsLedTo, Lands, SeesOn, course_of, next_after, outcome_of, has_begun, Spot, Comes, GoesBy, GoesOn, Under, Ended, Quiet, StaysQuiet, IsAtPoint, Knows, StandsAt, EachAnswer, Tries, IsAnsweredBy, IsAnswered, Acquires, TriesToAcquire, IsTry, IsLook, Tells, AnswersWith, is_granted}
 
 -- the seat of a party does not depend on what its answer says
 pub same_seat : {C L : Type 0} (V : Type 0) (c : C) (h : Option Hold) (next : Next L (Answer (Unit {0}))) → seat_after c h (filled {V = V} None next) ≡ seat_after c h next
@@ -88,38 +88,34 @@ module _ {W V C L : Type 0} (t : ℕ → V → Table W V C L (Answer V)) (s : Me
             let same : with_value {V = V} b None ≡ with_value a None = cc (is) in let then : k ≡ after = cc (is) in
             ((knows.0, knows.1, rw then at sits), rw same at called)
 
-  -- a call whose answers are all known
-  pub settled : (p q : Spot V C L) → Knows s q → (a : Answer (Unit {0})) (k : Option Hold) → Ended t s c h a k p q → (answer : Answer (Unit {0})) (after : Option Hold) → IsAnsweredBy t s c h answer after p.0
-      → StandsAt after q × HasCalled (model_at t) c (with_value answer None) p q
-  settled p q knows a k (called, sits, (l, n, is, fine)) answer after only =
-      let (same, then) = only l n (with_value a None) k fine is in ((knows.0, knows.1, rw then at sits), rw same at called)
-
   granted_as : (a : Answer (Unit {0})) → is_granted (with_value {V = V} a None) ≡ is_granted a
   granted_as a = grind arith
 
-  pub granted : (p q : Spot V C L) → Knows s q → (a : Answer (Unit {0})) (k : Option Hold) → Ended t s c h a k p q → (after : Option Hold) → IsTry t s c h after p.0 → is_granted a ≡ true
-      → StandsAt after q × HasCalled (model_at t) c Granted p q
-  granted p q knows a k (called, sits, (l, n, is, fine)) after tries so =
-      let (same, then) = (tries l n (with_value a None) k fine is).0 (granted_as a ∙ so) in ((knows.0, knows.1, rw then at sits), rw same at called)
+  -- What holds of each answer of the call holds of the one that the party has.
+  module _ (p q : Spot V C L) (knows : Knows s q) (a : Answer (Unit {0})) (k : Option Hold) (end : Ended t s c h a k p q) where
+    told : (Q : Answer V → Option Hold → Type 0) → EachAnswer t s c h Q p.0 → Q (with_value a None) k
+    told Q each = let (l, n, is, fine) = end.2 in each l n (with_value a None) k fine is
 
-  pub refused : (p q : Spot V C L) → Knows s q → (a : Answer (Unit {0})) (k : Option Hold) → Ended t s c h a k p q → (after : Option Hold) → IsTry t s c h after p.0 → is_granted a ≡ false
-      → StandsAt h q × HasCalled (model_at t) c Refused p q
-  refused p q knows a k (called, sits, (l, n, is, fine)) after tries so =
-      let (same, then) = (tries l n (with_value a None) k fine is).1 (granted_as a ∙ so) in ((knows.0, knows.1, rw then at sits), rw same at called)
+    stands : (b : Answer V) (after : Option Hold) → (with_value a None ≡ b) × (k ≡ after) → StandsAt after q × HasCalled (model_at t) c b p q
+    stands b after (same, then) = ((knows.0, knows.1, rw then at end.1), rw same at end.0)
 
-  pub acquired : (p q : Spot V C L) → Knows s q → (a : Answer (Unit {0})) (k : Option Hold) → Ended t s c h a k p q → Acquires t s c h p.0 → Writes s q × HasCalled (model_at t) c Granted p q
-  acquired p q knows a k (called, sits, (l, n, is, fine)) only =
-      let (same, uses) = only l n (with_value a None) k fine is in ((knows.0, knows.1, uses_now s (what q.1) ∙ (ap (use_at s) sits ∙ uses)), rw same at called)
+    writes_now : (b : Answer V) → (with_value a None ≡ b) × (use_at s (resting k) ≡ writes) → Writes s q × HasCalled (model_at t) c b p q
+    writes_now b (same, uses) = ((knows.0, knows.1, uses_now s (what q.1) ∙ (ap (use_at s) end.1 ∙ uses)), rw same at end.0)
 
-  module _ (p q : Spot V C L) (knows : Knows s q) (a : Answer (Unit {0})) (k : Option Hold) (end : Ended t s c h a k p q) (tries : TriesToAcquire t s c h p.0) where
-    pub acquired_at_once : is_granted a ≡ true → Writes s q × HasCalled (model_at t) c Granted p q
-    acquired_at_once so =
-        let (l, n, is, fine) = end.2 in let (same, uses) = (tries l n (with_value a None) k fine is).0 (granted_as a ∙ so) in
-        ((knows.0, knows.1, uses_now s (what q.1) ∙ (ap (use_at s) end.1 ∙ uses)), rw same at end.0)
+    pub settled : (answer : Answer (Unit {0})) (after : Option Hold) → IsAnsweredBy t s c h answer after p.0 → StandsAt after q × HasCalled (model_at t) c (with_value answer None) p q
+    settled answer after only = stands _ after (told (λ b k. (b ≡ with_value answer None) × (k ≡ after)) only)
 
-    pub refused_at_once : is_granted a ≡ false → StandsAt h q × HasCalled (model_at t) c Refused p q
-    refused_at_once so =
-        let (l, n, is, fine) = end.2 in let (same, then) = (tries l n (with_value a None) k fine is).1 (granted_as a ∙ so) in ((knows.0, knows.1, rw then at end.1), rw same at end.0)
+    pub granted : (after : Option Hold) → IsTry t s c h after p.0 → is_granted a ≡ true → StandsAt after q × HasCalled (model_at t) c Granted p q
+    granted after tries so = stands _ after ((told (Tries h (λ k. k ≡ after)) tries).0 (granted_as a ∙ so))
+
+    pub refused : (Q : Option Hold → Type 0) → EachAnswer t s c h (Tries h Q) p.0 → is_granted a ≡ false → StandsAt h q × HasCalled (model_at t) c Refused p q
+    refused Q tries so = stands _ h ((told (Tries h Q) tries).1 (granted_as a ∙ so))
+
+    pub acquired : Acquires t s c h p.0 → Writes s q × HasCalled (model_at t) c Granted p q
+    acquired only = writes_now _ (told (λ b k. (b ≡ Granted) × (use_at s (resting k) ≡ writes)) only)
+
+    pub acquired_at_once : TriesToAcquire t s c h p.0 → is_granted a ≡ true → Writes s q × HasCalled (model_at t) c Granted p q
+    acquired_at_once tries so = writes_now _ ((told (Tries h (λ k. use_at s (resting k) ≡ writes)) tries).0 (granted_as a ∙ so))
 
   -- the first step of a call that leaves what the party holds
   pub looked : (key : Opening V) → IsLook t c h key → (n : ℕ) (next : Next L (Answer (Unit {0}))) → GoesBy t s c ((table_at t key).start c h) h n next key → (a : Answer (Unit {0})) (k : Option Hold) → next ≡ Answers a k → (k ≡ h) × Tells t s c h a key

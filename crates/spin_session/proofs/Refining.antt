@@ -132,20 +132,31 @@ module _ {S : Type 0} (k : Beside S) where
     abbrev Keeping : OnWord S → (List E → List E → ℕ → V → Type 0) → Type 0
     Keeping = TracesTo holds ways view shown
 
-    operated : (i : ℕ) (o : Operation) → IsAccess i o → Keeping (on_place k i (worked o)) told → ((to : ℕ) → o ≡ op.Store to → Keeping (on_place k i (worked o)) (λ log es n. told log es 0))
+    operated : (i : ℕ) (o : Operation) → IsPlace i → IsAccess i o → Keeping (on_place k i (worked o)) told → ((to : ℕ) → o ≡ op.Store to → Keeping (on_place k i (worked o)) (λ log es n. told log es 0))
         → Operates k holds ways view shown i (wrapped o) told
-    operated zero op.Load may so stored = so
-    operated zero (op.Exchange a b) may so stored = so
-    operated zero (op.Store to) may so stored = stored to refl
-    operated zero (op.Add by) may so stored = so
-    operated zero (op.Subtract by) may so stored = so
-    operated zero op.SetLowestBit may so stored = so
-    operated (suc j) op.Load may so stored = so
-    operated (suc j) (op.Store to) may so stored = stored to refl
-    operated (suc j) (op.Exchange a b) may so stored = absurd may
-    operated (suc j) (op.Add by) may so stored = absurd may
-    operated (suc j) (op.Subtract by) may so stored = absurd may
-    operated (suc j) op.SetLowestBit may so stored = absurd may
+    operated zero op.Load there may so stored = so
+    operated zero (op.Exchange a b) there may so stored = so
+    operated zero (op.Store to) there may so stored = stored to refl
+    operated zero (op.Add by) there may so stored = so
+    operated zero (op.Subtract by) there may so stored = so
+    operated zero op.SetLowestBit there may so stored = so
+    operated (suc j) o (inl first) may so stored = absurd (cc (first))
+    operated (suc j) op.Load (inr (e, keeps)) may so stored = (keeps, so)
+    operated (suc j) (op.Store to) (inr (e, keeps)) may so stored = (keeps, stored to refl)
+    operated (suc j) (op.Exchange a b) there may so stored = absurd may
+    operated (suc j) (op.Add by) there may so stored = absurd may
+    operated (suc j) (op.Subtract by) there may so stored = absurd may
+    operated (suc j) op.SetLowestBit there may so stored = absurd may
+
+-- a cell of one word makes no operation at place 1
+pub no_second : {X V E : Type 0} (holds : ℕ → Trace E (Unit {0}) → List V → Type 0) (all_ways : Ways X V (Trace E (Unit {0}))) (view : Option V) (shown : Option X) (told : List E → List E → ℕ → V → Type 0) (o : Operation)
+    → Operates just_one holds all_ways view shown 1 o told → ⊥
+no_second holds all_ways view shown told op.Load so = absurd (let at : 0 ≡ 1 = so.0 0 1 in cc)
+no_second holds all_ways view shown told (op.Store to) so = absurd (let at : 0 ≡ 1 = so.0 0 1 in cc)
+no_second holds all_ways view shown told (op.Exchange a b) so = so
+no_second holds all_ways view shown told (op.Add by) so = so
+no_second holds all_ways view shown told (op.Subtract by) so = so
+no_second holds all_ways view shown told op.SetLowestBit so = so
 
 -- The moves of a step.
 
@@ -363,7 +374,7 @@ module _ {W V C L S : Type 0} (k : Beside S) (t : Table W V C L (Answer V)) (s :
       -- a store goes on in the same way, whatever it finds
       stores_alike : Keeps view shown (on_step c l h) says_it → Operates k Rule own_ways view shown (t.word l) (wrapped (operation_by (t.act c l h))) (Told t s says_it view)
       stores_alike so =
-          operated k Rule own_ways view shown (Told t s says_it view) (t.word l) (operation_by (t.act c l h)) (d.accesses c l h) so (λ to is.
+          operated k Rule own_ways view shown (Told t s says_it view) (t.word l) (operation_by (t.act c l h)) (d.within l) (d.accesses c l h) so (λ to is.
           tells_less (machine_of t) (λ z. z) (words_in t k) view says_it (λ own outs n v. says_it own outs 0 v)
           (λ own outs n v said. (rw (store-any t (t.act c l h) to is n) at said.0, d.empty l)) Rule own_ways shown (on_step c l h) so)
 
@@ -407,7 +418,7 @@ module _ {W V C L S : Type 0} (k : Beside S) (t : Table W V C L (Answer V)) (s :
     pub operates_giving : (o : Operation) → o ≡ wrapped (operation_by (t.act c first_point (Some h))) → Operates k Rule own_ways view (Some x) (t.word first_point) o (Told t s (turn_by t s true (Some c) (what view)) view)
     operates_giving o same =
         let l = first_point in let act = t.act c l (Some h) in
-        let all = operated k Rule own_ways view (Some x) (Told t s says_all view) (t.word l) (operation_by act) (d.accesses c l (Some h)) keeps_gives (λ to now.
+        let all = operated k Rule own_ways view (Some x) (Told t s says_all view) (t.word l) (operation_by act) (d.within l) (d.accesses c l (Some h)) keeps_gives (λ to now.
         tells_less (machine_of t) (λ z. z) (words_in t k) view says_all (λ own outs n v. says_all own outs 0 v) (λ own outs n v said. rw (store-any t act to now n) at said)
         Rule own_ways (Some x) (on_step c l (Some h)) keeps_gives) in
         subst (λ (z : Operation × Option (Seat C L)). Operates k Rule own_ways view (Some x) (t.word l) z.0 (Told t s (turn_by t s true (Some c) z.1) view)) (λ i. (sym same i, sym is i)) all

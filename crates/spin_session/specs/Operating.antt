@@ -17,13 +17,17 @@ use Rattle.spin_step.specs.declared.answer.Answer.{Answer}
 use Rattle.spin_step.specs.declared.place.Hold.{Hold}
 use Rattle.spin_step.specs.declared.place.Seat.{Seat}
 use Rattle.spin_step.specs.declared.place.Seat.TheVariants.{Idle, Holding}
-use Rattle.spin_session.specs.Meaning.{Meaning, Beside, table_at, on_place, use_at, rests_at, seat_now, seat_after}
+use Rattle.spin_session.specs.Meaning.{Meaning, Beside, HasSecond, table_at, on_place, use_at, rests_at, seat_now, seat_after}
 use Rattle.spin_session.specs.Turns.{TurnTold, LeapTold, PeekTold, FusesBy, IsAt, Quiet}
 use Rattle.spin_step.specs.declared.table.Operation.{Operation}
 use Rattle.spin_step.specs.declared.table.Operation.TheVariants as op
 
+-- what an operation stores, if it is a store
+abbrev pub stored : Operation → ℕ
+stored operation = elim operation [ op.Store to ↦ to | _ ↦ 0 ]
+
 module _ {X V E S : Type 0} (k : Beside S) (holds : ℕ → Trace E S → List V → Type 0) (ways : Ways X V (Trace E S)) (view : Option V) (shown : Option X) where
-  -- a store tells as if it had found 0
+  -- A store tells as if it had found 0. A cell of one word makes no operation at place 1.
   abbrev pub Operates : ℕ → Operation → (List E → List E → ℕ → V → Type 0) → Type 0
   Operates zero op.Load told = Traces holds ways view shown (λ n. n) told
   Operates zero (op.Exchange old new) told = Traces holds ways view shown (λ n. either (n == old) new n) told
@@ -31,8 +35,8 @@ module _ {X V E S : Type 0} (k : Beside S) (holds : ℕ → Trace E S → List V
   Operates zero (op.Add by) told = Traces holds ways view shown (λ n. (n + by) % 2 ^ 64) told
   Operates zero (op.Subtract by) told = Traces holds ways view shown (λ n. (n + (2 ^ 64 - by)) % 2 ^ 64) told
   Operates zero op.SetLowestBit told = Traces holds ways view shown (λ n. bit_or n 1) told
-  Operates (suc j) op.Load told = TracesTo holds ways view shown (on_place k 1 (λ n. n)) told
-  Operates (suc j) (op.Store to) told = TracesTo holds ways view shown (on_place k 1 (λ n. to)) (λ log es n. told log es 0)
+  Operates (suc j) op.Load told = HasSecond k × TracesTo holds ways view shown (on_place k 1 (λ n. n)) told
+  Operates (suc j) (op.Store to) told = HasSecond k × TracesTo holds ways view shown (on_place k 1 (λ n. to)) (λ log es n. told log es 0)
   Operates (suc j) o told = ⊥
 
 -- two tables with the same steps, whose words may open with different numbers

@@ -35,6 +35,10 @@ AnswersWith h next = elim next [ Continue l ↦ ⊥ | Answers a after ↦ after 
 abbrev pub is_granted : {V : Type 0} → Answer V → Bool
 is_granted answer = elim answer [ Granted ↦ true | _ ↦ false ]
 
+-- An answer either grants, and then Q holds of what its party holds, or it is a refusal, and the party holds this.
+abbrev pub Tries : {V : Type 0} → Option Hold → (Option Hold → Type 0) → Answer V → Option Hold → Type 0
+Tries h Q b k = (is_granted b ≡ true → (b ≡ Granted) × Q k) × (is_granted b ≡ false → (b ≡ Refused) × (k ≡ h))
+
 -- what the party holds between two calls
 abbrev pub held_now : {C L : Type 0} → Seat C L → Option Hold
 held_now seat = elim seat [ Holding h ↦ Some h | _ ↦ None ]
@@ -238,23 +242,25 @@ module _ {W V C L : Type 0} (t : ℕ → V → Table W V C L (Answer V)) (s : Me
   abbrev pub Tells : C → Option Hold → Answer (Unit {0}) → Opening V → Type 0
   Tells c h a key = (n : ℕ) × (next_of (table_at t key) c ((table_at t key).start c h) h n ≡ Answers (with_value a None) h) × FindsAt s ((table_at t key).word ((table_at t key).start c h)) n
 
+  -- so holds of each answer of the call, with what its party then holds
+  abbrev pub EachAnswer : C → Option Hold → (Answer V → Option Hold → Type 0) → Opening V → Type 0
+  EachAnswer c h Q key = (l : L) (n : ℕ) (b : Answer V) (k : Option Hold) → MayFind c l h n key → next_of (table_at t key) c l h n ≡ Answers b k → Q b k
+
   -- Each answer of the call is this one, after which its party holds `after`.
   abbrev pub IsAnsweredBy : C → Option Hold → Answer (Unit {0}) → Option Hold → Opening V → Type 0
-  IsAnsweredBy c h a after key = (l : L) (n : ℕ) (b : Answer V) (k : Option Hold) → MayFind c l h n key → next_of (table_at t key) c l h n ≡ Answers b k → (b ≡ with_value a None) × (k ≡ after)
+  IsAnsweredBy c h a after = EachAnswer c h (λ b k. (b ≡ with_value a None) × (k ≡ after))
 
   -- Each answer of the call either gets this hold, or is a refusal.
   abbrev pub IsTry : C → Option Hold → Option Hold → Opening V → Type 0
-  IsTry c h after key = (l : L) (n : ℕ) (b : Answer V) (k : Option Hold) → MayFind c l h n key → next_of (table_at t key) c l h n ≡ Answers b k
-      → (is_granted b ≡ true → (b ≡ Granted) × (k ≡ after)) × (is_granted b ≡ false → (b ≡ Refused) × (k ≡ h))
+  IsTry c h after = EachAnswer c h (Tries h (λ k. k ≡ after))
 
   -- Each answer of the call grants the lock, and its party then writes the value.
   abbrev pub Acquires : C → Option Hold → Opening V → Type 0
-  Acquires c h key = (l : L) (n : ℕ) (b : Answer V) (k : Option Hold) → MayFind c l h n key → next_of (table_at t key) c l h n ≡ Answers b k → (b ≡ Granted) × (use_at s (resting k) ≡ writes)
+  Acquires c h = EachAnswer c h (λ b k. (b ≡ Granted) × (use_at s (resting k) ≡ writes))
 
   -- Each answer of the call either grants the lock, and its party then writes the value, or is a refusal.
   abbrev pub TriesToAcquire : C → Option Hold → Opening V → Type 0
-  TriesToAcquire c h key = (l : L) (n : ℕ) (b : Answer V) (k : Option Hold) → MayFind c l h n key → next_of (table_at t key) c l h n ≡ Answers b k
-      → (is_granted b ≡ true → (b ≡ Granted) × (use_at s (resting k) ≡ writes)) × (is_granted b ≡ false → (b ≡ Refused) × (k ≡ h))
+  TriesToAcquire c h = EachAnswer c h (Tries h (λ k. use_at s (resting k) ≡ writes))
 
 module _ {W V C L : Type 0} (t : ℕ → V → Table W V C L (Answer V)) where
   -- the party's call goes on, after a step at this point that found this number
@@ -276,7 +282,3 @@ module _ {W V C L : Type 0} (t : ℕ → V → Table W V C L (Answer V)) where
   -- the first step of the call answers it with `Done`, and its party then holds `after`
   abbrev pub EndsWith : C → Hold → Option Hold → Opening V → Type 0
   EndsWith c h after key = (n : ℕ) → next_of (table_at t key) c ((table_at t key).start c (Some h)) (Some h) n ≡ Answers Done after
-
--- From p to q the party has begun this call and made steps of it. The last of them, at this point, found this number, and the call goes on.
-abbrev pub Waits : {W V C L : Type 0} → (ℕ → V → Table W V C L (Answer V)) → Meaning C L → C → L → Option Hold → ℕ → Spot V C L → Spot V C L → Type 0
-Waits t s c l h n p q = Knows s q × GoesOn t c l h n q.0 (what q.1) × Under t s c p q

@@ -16,17 +16,17 @@ ghost use Rattle.spin_step.specs.declared.answer.Answer.{Answer as AnAnswer};
 ghost use Rattle.spin_step.specs.declared.answer.Answer.TheVariants.{Granted, Refused, Done};
 ghost use Rattle.spin_step.specs.declared.place.Hold.{Hold as AHold};
 ghost use Rattle.spin_step.specs.declared.table.Operation.TheVariants.{Exchange};
-ghost use Rattle.spin_session.specs.Meaning.{Peeks, seat_now, seat_after, table_at, use_at, model_at};
+ghost use Rattle.spin_session.specs.Meaning.{HasSecond, seat_now, seat_after, table_at, use_at, model_at};
 ghost use Rattle.spin_session.specs.Operating.{Operates};
 ghost use Rattle.spin_session.specs.Passes.{After, Grants, Writes, lock_of};
-ghost use Rattle.spin_session.specs.Turns.{TurnTold, SeesLast, SeesOn, EndsWith, IsLedTo, LeapTold, FusesBy, either_call, either_step, Fuses, Lands, last_step, next_after, course_of, IsAt, Knows, Quiet, StaysQuiet, Stands, MayBegin, Ended, Comes, GoesBy, GoesOn, Waits, Under, IsAnsweredBy, IsAnswered, IsAnsweredAtOnce, Acquires, TriesToAcquire, IsTry, IsLook, Tells, Calls, Spot, new_in, spot, is_granted};
+ghost use Rattle.spin_session.specs.Turns.{PeekTold, TurnTold, SeesLast, SeesOn, EndsWith, IsLedTo, LeapTold, Fuses, Lands, last_step, next_after, course_of, IsAt, Knows, StaysQuiet, Stands, MayBegin, Ended, Comes, GoesBy, GoesOn, Under, IsAnswered, Acquires, TriesToAcquire, IsLook, Tells, Calls, Spot, new_in, spot, is_granted};
 
 use crate::second::Word;
 use crate::session::Session;
 use crate::table::{Ahead, CallOf, Entry, Leap, LeapOf, Party, Peek, Runs, Turn};
 use spin_core::cell::{Cell, Left, Permit, WritePermit};
 use spin_core::guard::{Guard, Release};
-use spin_core::relax::{RelaxStrategy, Strategy};
+use spin_core::relax::RelaxStrategy;
 use spin_core::trace::Watch;
 use spin_step::{Answer, Hold, Next, Operation, Steps};
 use std::marker::Brand;
@@ -61,274 +61,6 @@ pub fn enter<T, P: Runs<T>>(cell: &Cell<T, Party<P::Call, P::Point>, P>) -> Sess
     }
 }
 
-/// Makes a call that waits, and is always answered so. It makes its steps in rounds, and pauses between them. A round is
-/// the steps up to the first after which the call pauses (see [`Runs::hints`]), but at most three.
-///
-/// # Contract
-/// The party has made exactly this call, with this answer, and holds `after`. Whether and when the call returns is not
-/// promised.
-pub fn wait_for<'a, T, P: Runs<T>, R: RelaxStrategy, W: Wait>(
-    session: SessionOf<'a, T, P>,
-    call: P::Call,
-    holds: Option<Hold>,
-    answer: Answer<()>,
-    after: Option<Hold>,
-    strategy: Strategy<R>,
-    rt: &W,
-) -> SessionOf<'a, T, P>
-    requires stands { Stands holds session }
-    requires may { MayBegin P.tables P.meaning call holds session.permit.key }
-    requires answers { IsAnsweredBy P.tables P.meaning call holds answer after session.permit.key }
-    ensures stands { Stands after result }
-    ensures calls { Calls P.tables call answer (spot session.entry) (spot result) }
-    ensures last { SeesLast result }
-    ensures sees { SeesOn P.meaning call holds session.entry.permit.value result }
-{
-    let _ = (answer, after, strategy);
-    let (next, point, found, session) = opening_round(session, call, holds);
-    match next {
-        Next::Answers(_, _) => session,
-        Next::Continue(_) => wait::<T, P, R, W>(session, call, point, holds, found, rt),
-    }
-}
-
-/// Makes the first round of a call that waits, and is always answered so. This function does not wait: a caller whose
-/// path for a free lock has to be short calls it, and [`go_on`] if it returns `Err`.
-///
-/// # Contract
-/// With `Ok` the party has made exactly this call, with this answer, and holds `after`. With `Err` it waits in the call.
-#[inline(always)]
-pub fn begin<'a, T, P: Runs<T>>(
-    session: SessionOf<'a, T, P>,
-    call: P::Call,
-    holds: Option<Hold>,
-    answer: Answer<()>,
-    after: Option<Hold>,
-) -> Result<SessionOf<'a, T, P>, (P::Point, u64, SessionOf<'a, T, P>)>
-    requires stands { Stands holds session }
-    requires may { MayBegin P.tables P.meaning call holds session.permit.key }
-    requires answers { IsAnsweredBy P.tables P.meaning call holds answer after session.permit.key }
-    ensures ended { IfOk result (λ now. Stands after now × SeesLast now × Calls P.tables call answer (spot session.entry) (spot now)) }
-    ensures waits { IfErr result (λ on. Waits P.tables P.meaning call on.0 holds on.1 (spot session.entry) (spot on.2)) }
-    ensures sees { IfOk result (SeesOn P.meaning call holds session.entry.permit.value) }
-    ensures still { IfErr result (λ on. SeesOn P.meaning call holds session.entry.permit.value on.2) }
-{
-    let _ = (answer, after);
-    let (next, point, found, session) = opening_round(session, call, holds);
-    match next {
-        Next::Answers(_, _) => Ok(session),
-        Next::Continue(_) => Err((point, found, session)),
-    }
-}
-
-/// Goes on with a call that waits, and is always answered so, from where [`begin`] left it.
-///
-/// # Contract
-/// The party has made exactly this call, with this answer, and holds `after`. Whether and when the call returns is not
-/// promised.
-#[inline(always)]
-pub fn go_on<'a, T, P: Runs<T>, R: RelaxStrategy, W: Wait>(
-    on: (P::Point, u64, SessionOf<'a, T, P>),
-    call: P::Call,
-    holds: Option<Hold>,
-    answer: Answer<()>,
-    after: Option<Hold>,
-    strategy: Strategy<R>,
-    rt: &W,
-) -> SessionOf<'a, T, P>
-    requires knows { Knows P.meaning (spot on.2) }
-    requires goes { GoesOn P.tables call on.0 holds on.1 on.2.permit.key (what on.2.permit.view) }
-    requires quiet { StaysQuiet P.meaning call holds }
-    ensures sees { (v : Option T) → SeesOn P.meaning call holds v on.entry.2 → SeesOn P.meaning call holds v result }
-    ensures calls { (p : Spot T P.Call P.Point) → Waits P.tables P.meaning call on.entry.0 holds on.entry.1 p (spot on.entry.2) → IsAnsweredBy P.tables P.meaning call holds answer after p.0 → Stands after result × Calls P.tables call answer p (spot result) }
-    ensures last { SeesLast result }
-{
-    let _ = (answer, after, strategy);
-    let (point, found, session) = on;
-    wait::<T, P, R, W>(session, call, point, holds, found, rt)
-}
-
-/// Makes the first round of a call that waits, whatever its answer is and what the party then holds. This function does
-/// not wait: if it returns `Err`, the caller calls [`wait_on`].
-///
-/// # Contract
-/// With `Ok` the party has made exactly this call, and has been answered as the table says (`ended`). With `Err` it waits
-/// in the call.
-#[inline(always)]
-pub fn first_round<'a, T, P: Runs<T>>(
-    session: SessionOf<'a, T, P>,
-    call: P::Call,
-    holds: Option<Hold>,
-) -> Result<SessionOf<'a, T, P>, (P::Point, u64, SessionOf<'a, T, P>)>
-    requires stands { Stands holds session }
-    requires may { MayBegin P.tables P.meaning call holds session.permit.key }
-    ensures ended { IfOk result (λ now. (a : AnAnswer (Unit {0})) × (after : Option AHold) × Ended P.tables P.meaning call holds a after (spot session.entry) (spot now)) }
-    ensures knows { IfOk result (λ now. Knows P.meaning (spot now) × SeesLast now) }
-    ensures waits { IfErr result (λ on. Waits P.tables P.meaning call on.0 holds on.1 (spot session.entry) (spot on.2)) }
-{
-    let (next, point, found, session) = opening_round(session, call, holds);
-    match next {
-        Next::Answers(_, _) => Ok(session),
-        Next::Continue(_) => Err((point, found, session)),
-    }
-}
-
-/// Goes on with a call that waits from where [`first_round`] left it.
-///
-/// # Contract
-/// The party has been answered as the table says (`ended`). Whether and when the call returns is not promised.
-#[inline(always)]
-pub fn wait_on<'a, T, P: Runs<T>, R: RelaxStrategy, W: Wait>(
-    on: (P::Point, u64, SessionOf<'a, T, P>),
-    call: P::Call,
-    holds: Option<Hold>,
-    strategy: Strategy<R>,
-    rt: &W,
-) -> SessionOf<'a, T, P>
-    requires knows { Knows P.meaning (spot on.2) }
-    requires goes { GoesOn P.tables call on.0 holds on.1 on.2.permit.key (what on.2.permit.view) }
-    requires quiet { StaysQuiet P.meaning call holds }
-    ensures knows { Knows P.meaning (spot result) }
-    ensures ended { (p : Spot T P.Call P.Point) → Under P.tables P.meaning call p (spot on.entry.2) → (a : AnAnswer (Unit {0})) × (after : Option AHold) × Ended P.tables P.meaning call holds a after p (spot result) }
-    ensures last { SeesLast result }
-{
-    let _ = strategy;
-    let (point, found, session) = on;
-    wait::<T, P, R, W>(session, call, point, holds, found, rt)
-}
-
-/// Makes a call that either gets a hold or is refused, in as many steps as it needs.
-///
-/// # Contract
-/// The party has made exactly this call. If the call was granted it holds `after`, else it holds what it held before.
-/// Whether and when the call returns is not promised.
-pub fn try_for<'a, T, P: Runs<T>, W: Wait>(
-    session: SessionOf<'a, T, P>,
-    call: P::Call,
-    holds: Option<Hold>,
-    after: Option<Hold>,
-    rt: &W,
-) -> Result<SessionOf<'a, T, P>, SessionOf<'a, T, P>>
-    requires stands { Stands holds session }
-    requires may { MayBegin P.tables P.meaning call holds session.permit.key }
-    requires tries { IsTry P.tables P.meaning call holds after session.permit.key }
-    ensures granted { IfOk result (λ now. Stands after now × SeesLast now × Calls P.tables call Granted (spot session.entry) (spot now)) }
-    ensures refused { IfErr result (λ now. Stands holds now × Calls P.tables call Refused (spot session.entry) (spot now)) }
-    ensures sees { IfOk result (SeesOn P.meaning call holds session.entry.permit.value) }
-    ensures still { IfErr result (SeesOn P.meaning call holds session.entry.permit.value) }
-{
-    let _ = after;
-    let (made, _, _, session) = first(session, call, holds);
-    let mut next = made;
-    let mut party = session;
-    for _ in rt.forever() {
-        match next {
-            Next::Answers(answer, _) => {
-                if is_granted(answer) {
-                    return Ok(party);
-                }
-                return Err(party);
-            }
-            Next::Continue(point) => {
-                let (made, _, further) = step(party, call, point, holds);
-                next = made;
-                party = further;
-            }
-        }
-    }
-    unreachable!()
-}
-
-/// Makes a call that either gets a hold or is refused, in at most three steps.
-///
-/// # Contract
-/// The party has made exactly this call. If the call was granted it holds `after`, else it holds what it held before.
-#[inline(always)]
-pub fn attempt<'a, T, P: Runs<T>>(
-    session: SessionOf<'a, T, P>,
-    call: P::Call,
-    holds: Option<Hold>,
-    after: Option<Hold>,
-) -> Result<SessionOf<'a, T, P>, SessionOf<'a, T, P>>
-    requires stands { Stands holds session }
-    requires may { MayBegin P.tables P.meaning call holds session.permit.key }
-    requires tries { IsTry P.tables P.meaning call holds after session.permit.key }
-    requires once { IsAnswered P.tables call holds session.permit.key }
-    ensures granted { IfOk result (λ now. Stands after now × SeesLast now × Calls P.tables call Granted (spot session.entry) (spot now)) }
-    ensures refused { IfErr result (λ now. Stands holds now × SeesLast now × Calls P.tables call Refused (spot session.entry) (spot now)) }
-    ensures sees { IfOk result (SeesOn P.meaning call holds session.entry.permit.value) }
-    ensures still { IfErr result (SeesOn P.meaning call holds session.entry.permit.value) }
-{
-    let _ = after;
-    let (answer, _, session, _) = in_three(session, call, holds);
-    if is_granted(answer) {
-        Ok(session)
-    } else {
-        Err(session)
-    }
-}
-
-/// Makes one of two whole calls by one exchange: `won` if it finds the number `ahead.old`, and otherwise `lost`.
-///
-/// # Contract
-/// With `Ok` the party has made exactly the call `won`, which was granted, and holds `after`. With `Err` it holds what it
-/// held before.
-pub fn exchange_for<'a, T, P: Runs<T>>(
-    session: SessionOf<'a, T, P>,
-    won: P::Call,
-    lost: P::Call,
-    holds: Option<Hold>,
-    after: Option<Hold>,
-    ahead: Ahead<P::Point>,
-) -> Result<SessionOf<'a, T, P>, SessionOf<'a, T, P>>
-    requires stands { Stands holds session }
-    requires may { MayBegin P.tables P.meaning won holds session.permit.key }
-    requires looks { MayBegin P.tables P.meaning lost holds session.permit.key × IsLook P.tables lost holds session.permit.key }
-    requires fuses { FusesBy (table_at P.tables session.permit.key) P.meaning (either_call won lost ahead) holds (either_step ((table_at P.tables session.permit.key).start lost holds) ahead) ahead.old ahead.new }
-    requires wins { next_of (table_at P.tables session.permit.key) won ahead.point holds ahead.number ≡ Answers Granted after }
-    ensures granted { IfOk result (λ now. Stands after now × SeesLast now × Calls P.tables won Granted (spot session.entry) (spot now)) }
-    ensures sees { IfOk result (SeesOn P.meaning won holds session.entry.permit.value) }
-    ensures refused { IfErr result (Stands holds) }
-{
-    let _ = after;
-    let start = point_of(&session, lost, holds);
-    P::laws();
-    let Session { permit, seen } = session;
-    let (found, permit, seen) = leap::<T, P, Brand>(permit, seen, start, ahead, won, lost);
-    let session = Session { permit, seen };
-    if found == ahead.old {
-        Ok(session)
-    } else {
-        Err(session)
-    }
-}
-
-/// Makes a call of one step, which is always answered so.
-///
-/// # Contract
-/// The party has made exactly this call, with this answer, and holds `after`.
-pub fn make<'a, T, P: Runs<T>>(
-    session: SessionOf<'a, T, P>,
-    call: P::Call,
-    holds: Option<Hold>,
-    answer: Answer<()>,
-    after: Option<Hold>,
-) -> SessionOf<'a, T, P>
-    requires stands { Stands holds session }
-    requires may { MayBegin P.tables P.meaning call holds session.permit.key }
-    requires answers { IsAnsweredAtOnce P.tables call holds answer after session.permit.key }
-    ensures stands { Stands after result }
-    ensures calls { Calls P.tables call answer (spot session.entry) (spot result) }
-    ensures last { SeesLast result }
-    ensures left { use_at P.meaning (resting holds) ≢ off → IfSome session.entry.permit.value (IsLast result.permit.key result.seen.entries) }
-    ensures sees { SeesOn P.meaning call holds session.entry.permit.value result }
-{
-    let _ = (answer, after);
-    let point = point_of(&session, call, holds);
-    let (_, _, session) = step(session, call, point, holds);
-    session
-}
-
 /// Makes a call of one step, which leaves to the party what it holds.
 ///
 /// # Contract
@@ -354,76 +86,29 @@ pub fn ask<'a, T, P: Runs<T>>(
     }
 }
 
-/// Returns the permit of a party that writes the value, and what the party knows.
-pub fn writer<'a, T, P: Runs<T>>(
-    session: SessionOf<'a, T, P>,
-    holds: Hold,
-) -> (
-    WritePermit<'a, T, Party<P::Call, P::Point>, P>,
-    Watch<Entry<P::Call, T>>,
-)
-    requires stands { Stands (Some holds) session }
-    requires writes { use_at P.meaning (Holding holds) ≡ writes }
-    ensures stands { what (Some result.0.view) ≡ Some (Holding holds) }
-    ensures same { (Some result.0.view ≡ session.entry.permit.view) × (Some result.0.value ≡ session.entry.permit.value) }
-    ensures key { result.0.key ≡ session.entry.permit.key }
-    ensures seen { result.1 ≡ session.entry.seen }
-{
-    let _ = holds;
-    P::laws();
-    let Session { permit, seen } = session;
-    (permit.into_writer(), seen)
-}
-
-/// Returns the permit of a party that writes the value, whatever it holds, and what the party knows.
-pub fn writing<'a, T, P: Runs<T>>(
-    session: SessionOf<'a, T, P>,
-) -> (
-    WritePermit<'a, T, Party<P::Call, P::Point>, P>,
-    Watch<Entry<P::Call, T>>,
-)
-    requires { use_of (use_at P.meaning) (what session.permit.view) ≡ writes }
-    ensures same { (Some result.0.view ≡ session.entry.permit.view) × (Some result.0.value ≡ session.entry.permit.value) }
-    ensures key { result.0.key ≡ session.entry.permit.key }
-    ensures seen { result.1 ≡ session.entry.seen }
-{
-    P::laws();
-    let Session { permit, seen } = session;
-    (permit.into_writer(), seen)
-}
-
-/// Loads the word at place 1, for a holder that writes. The load is no step of a call.
-///
-/// # Contract
-/// The number found is the word of a lock in which the party has the part of its seat (`finds`). The party and its value
-/// stay as they are, and it makes no move.
+/// Loads the word at place 1. The load is no step of a call.
 #[inline(always)]
 pub fn peek<'a, T, P: Runs<T>>(
-    writer: WritePermit<'a, T, Party<P::Call, P::Point>, P>,
+    permit: Permit<'a, T, Party<P::Call, P::Point>, P>,
     seen: Watch<Entry<P::Call, T>>,
 ) -> (
     u64,
-    WritePermit<'a, T, Party<P::Call, P::Point>, P>,
+    Permit<'a, T, Party<P::Call, P::Point>, P>,
     Watch<Entry<P::Call, T>>,
 )
-    requires knows { MayKnow (P.holds writer.key) (P.ways writer.key) seen }
-    ensures seat { result.1.view.0 ≡ writer.entry.view.0 }
-    ensures writes { use_at P.meaning writer.entry.view.0 ≡ writes }
-    ensures value { result.1.value ≡ writer.entry.value }
-    ensures key { result.1.key ≡ writer.entry.key }
-    ensures finds { Peeks P.Word.words P.meaning writer.entry.view.0 result.0 }
-    ensures since { writer.entry.key.name ≡ seen.name → writer.entry.view.2 ≤ length seen.entries → (Since (model_at P.tables) Nothing (writer.entry.key, Some writer.entry.view, seen) (result.1.key, Some result.1.view, result.2)) × (result.1.view.2 ≡ length result.2.entries) }
+    requires second { HasSecond P.Word.words }
+    requires knows { MayKnow (P.holds permit.key) (P.ways permit.key) seen }
+    ensures moved { Moved (Watches (Named (P.holds permit.entry.key) (P.ways permit.entry.key) seen.name) seen result.2 (PeekTold P.tables P.Word.words P.meaning permit.entry.key permit.entry.view) result.0) result.1.view }
+    ensures kept { Keeps (P.ways permit.entry.key) permit.entry.view result.1.view permit.entry.value result.1.value }
+    ensures found { Found (P.ways permit.entry.key) permit.entry.view result.1.view permit.entry.value result.1.value result.2 }
+    ensures key { result.1.key ≡ permit.entry.key }
 {
     P::laws();
-    let permit = writer.into_permit();
-    let (number, permit, seen) = P::Word::load::<
-        T,
-        Party<P::Call, P::Point>,
-        Entry<P::Call, T>,
-        P,
-        Peek<P>,
-    >(permit, seen);
-    (number, permit.into_writer(), seen)
+    P::Word::operate::<T, Party<P::Call, P::Point>, Entry<P::Call, T>, P, Peek<P>>(
+        permit,
+        Operation::Load,
+        seen,
+    )
 }
 
 /// Makes a call of one step of a holder that writes, which then holds `after`. The holder first writes its value, and
@@ -479,8 +164,9 @@ pub fn guarded<'a, T, P: Runs<T> + Release<T, Party<P::Call, P::Point>>, R>(
     requires last { SeesLast session }
     ensures grants { (call : P.Call) (before : Spot T P.Call P.Point) → Calls P.tables call Granted before (spot session.entry) → Grants P.tables P.meaning call before result }
 {
-    let (writer, seen) = writing::<T, P>(session);
-    Guard::new(writer, seen)
+    P::laws();
+    let Session { permit, seen } = session;
+    Guard::new(permit.into_writer(), seen)
 }
 
 /// Makes a call that waits for the lock, and returns the guard that it grants.
@@ -499,12 +185,10 @@ pub fn acquire<'a, T, P: Runs<T> + Release<T, Party<P::Call, P::Point>>, R: Rela
     requires acquires { Acquires P.tables P.meaning call holds session.permit.key }
     ensures { Grants P.tables P.meaning call (spot session.entry) result }
 {
-    match first_round(session, call, holds) {
-        Ok(session) => guarded(session),
-        Err(on) => {
-            let by = Strategy::<R>::named();
-            guarded(wait_on(on, call, holds, by, rt))
-        }
+    let (next, point, found, session) = begin(session, call, holds);
+    match next {
+        Next::Answers(_, _) => guarded(session),
+        Next::Continue(_) => guarded(wait::<T, P, R, W>(session, call, point, holds, found, rt)),
     }
 }
 
@@ -565,8 +249,8 @@ pub fn finish<T, P: Runs<T>>(session: SessionOf<'_, T, P>) -> Left
     left
 }
 
-// Returns the point at which the party begins the call.
-fn point_of<'a, T, P: Runs<T>>(
+/// Returns the point at which the party begins the call.
+pub fn point_of<'a, T, P: Runs<T>>(
     session: &SessionOf<'a, T, P>,
     call: P::Call,
     holds: Option<Hold>,
@@ -586,11 +270,17 @@ fn point_of<'a, T, P: Runs<T>>(
     }
 }
 
-// Takes rounds of a call that waits, with pauses between them, until it is answered. The call's last step was at `point`,
-// and found this number: so a caller whose call is answered at once does not compute how it would go on.
+/// Goes on with a call that waits from where [`begin`] left it. It makes the call's steps in rounds, with pauses between
+/// them, until the call is answered.
+///
+/// The call's last step was at `point`, and found this number: so a caller whose call is answered at once does not
+/// compute how it would go on.
+///
+/// # Contract
+/// The party has been answered as the table says (`ended`). Whether and when the call returns is not promised.
 #[cold]
 #[inline(never)]
-fn wait<'a, T, P: Runs<T>, R: RelaxStrategy, W: Wait>(
+pub fn wait<'a, T, P: Runs<T>, R: RelaxStrategy, W: Wait>(
     session: SessionOf<'a, T, P>,
     call: P::Call,
     point: P::Point,
@@ -618,14 +308,16 @@ fn wait<'a, T, P: Runs<T>, R: RelaxStrategy, W: Wait>(
             given = R::bounded_pause(rt, hints, given);
             due = hints.saturating_mul(2);
         }
-        let (next, point, found, further) = round(party, call, at, holds);
+        let (next, found, session) = step(party, call, at, holds);
+        let made = further((next, at, found, session), call, holds, 0);
+        let (next, point, found, session) = further(made, call, holds, 1);
         match next {
-            Next::Answers(_, _) => return further,
+            Next::Answers(_, _) => return session,
             Next::Continue(to) => {
                 from = point;
                 number = found;
                 at = to;
-                party = further;
+                party = session;
             }
         }
     }
@@ -651,10 +343,13 @@ fn point_after<T, P: Runs<T>>(
     }
 }
 
-// Begins the call, and makes its steps up to the first after which it pauses, but at most three. Returns the point of
-// the last step, and the number that it found.
+/// Begins a call, and makes its steps up to the first after which it pauses (see [`Runs::hints`]), but at most three.
+/// Returns the point of the last step, and the number that it found. If the call goes on, [`wait`] makes the rest.
+///
+/// # Contract
+/// From the session's party to the one returned the call was begun, and goes on or has ended as `comes` says.
 #[inline(always)]
-fn opening_round<'a, T, P: Runs<T>>(
+pub fn begin<'a, T, P: Runs<T>>(
     session: SessionOf<'a, T, P>,
     call: P::Call,
     holds: Option<Hold>,
@@ -674,38 +369,12 @@ fn opening_round<'a, T, P: Runs<T>>(
     ensures last { SeesLast result.3 }
     ensures sees { SeesOn P.meaning call holds session.entry.permit.value result.3 }
 {
-    let made = first(session, call, holds);
-    let (next, point, found, session) = further(made, call, holds, 0);
-    further((next, point, found, session), call, holds, 1)
-}
-
-// Makes the steps of the call from `point` on, as `opening_round` does.
-#[inline(always)]
-fn round<'a, T, P: Runs<T>>(
-    session: SessionOf<'a, T, P>,
-    call: P::Call,
-    point: P::Point,
-    holds: Option<Hold>,
-) -> (
-    Next<P::Point, Answer<()>>,
-    P::Point,
-    u64,
-    SessionOf<'a, T, P>,
-)
-    requires knows { Knows P.meaning (spot session) }
-    requires at { what session.permit.view ≡ Some (Calling call point holds) }
-    requires quiet { StaysQuiet P.meaning call holds }
-    ensures knows { Knows P.meaning (spot result.3) }
-    ensures key { result.3.permit.key ≡ session.entry.permit.key }
-    ensures seat { what result.3.permit.view ≡ Some (seat_after call holds result.0) }
-    ensures comes { (p : Spot T P.Call P.Point) → Under P.tables P.meaning call p (spot session.entry) → Comes P.tables P.meaning call holds result.0 p (spot result.3) }
-    ensures goes { GoesBy P.tables P.meaning call result.1 holds result.2 result.0 session.entry.permit.key }
-    ensures last { SeesLast result.3 }
-    ensures sees { (v : Option T) → SeesOn P.meaning call holds v session.entry → SeesOn P.meaning call holds v result.3 }
-{
-    let (next, found, session) = step(session, call, point, holds);
-    let (next, point, found, session) = further((next, point, found, session), call, holds, 0);
-    further((next, point, found, session), call, holds, 1)
+    further(
+        further(first(session, call, holds), call, holds, 0),
+        call,
+        holds,
+        1,
+    )
 }
 
 // Makes one more step of the call, unless the call is answered or pauses. `due` is 0 after the first step of a round.
@@ -791,16 +460,17 @@ pub fn in_three<'a, T, P: Runs<T>>(
     }
 }
 
-fn is_granted(answer: Answer<()>) -> bool
+/// Returns whether the call was granted.
+pub fn is_granted(answer: Answer<()>) -> bool
     ensures { result ≡ is_granted answer }
 {
     matches!(answer, Answer::Granted)
 }
 
-// Makes the first operation of the call. It is one step, or several; if it is none, a step follows. Returns the point of
-// the last step, and the number that it found. That point is `reached` from the first one.
+/// Makes the first operation of the call. It is one step, or several; if it is none, a step follows. Returns the point of
+/// the last step, and the number that it found. That point is `reached` from the first one.
 #[inline(always)]
-fn first<'a, T, P: Runs<T>>(
+pub fn first<'a, T, P: Runs<T>>(
     session: SessionOf<'a, T, P>,
     call: P::Call,
     holds: Option<Hold>,
@@ -868,9 +538,9 @@ fn begin_by<'a, T, P: Runs<T>>(
     (found, Session { permit, seen })
 }
 
-// Makes an exchange that is the first steps of one of these calls.
+/// Makes an exchange that is the first steps of one of these calls.
 #[inline(always)]
-fn leap<'a, T, P: Runs<T>, K: LeapOf<P::Call, P::Point>>(
+pub fn leap<'a, T, P: Runs<T>, K: LeapOf<P::Call, P::Point>>(
     permit: Permit<'a, T, Party<P::Call, P::Point>, P>,
     seen: Watch<Entry<P::Call, T>>,
     start: P::Point,
@@ -893,9 +563,9 @@ fn leap<'a, T, P: Runs<T>, K: LeapOf<P::Call, P::Point>>(
     permit.exchange::<Leap<P, K>>(ahead.old, ahead.new, seen)
 }
 
-// Makes the step of the call at `point`, or begins the call there. Returns the number found, too.
+/// Makes the step of the call at `point`, or begins the call there. Returns the number found, too.
 #[inline(always)]
-fn step<'a, T, P: Runs<T>>(
+pub fn step<'a, T, P: Runs<T>>(
     session: SessionOf<'a, T, P>,
     call: P::Call,
     point: P::Point,
@@ -948,26 +618,9 @@ fn operate<'a, T, P: Runs<T>, K: CallOf<P::Call>>(
 {
     let _ = call;
     if place > 0 {
-        return match operation {
-            Operation::Load => P::Word::load::<
-                T,
-                Party<P::Call, P::Point>,
-                Entry<P::Call, T>,
-                P,
-                Turn<P, K>,
-            >(permit, seen),
-            Operation::Store(to) => {
-                let (permit, seen) = P::Word::store::<
-                    T,
-                    Party<P::Call, P::Point>,
-                    Entry<P::Call, T>,
-                    P,
-                    Turn<P, K>,
-                >(permit, to, seen);
-                (0, permit, seen)
-            }
-            _ => unreachable!(),
-        };
+        return P::Word::operate::<T, Party<P::Call, P::Point>, Entry<P::Call, T>, P, Turn<P, K>>(
+            permit, operation, seen,
+        );
     }
     match operation {
         Operation::Load => permit.load::<Turn<P, K>>(seen),

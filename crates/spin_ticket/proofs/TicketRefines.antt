@@ -7,14 +7,11 @@ use Rattle.spin_step.proofs.InOrder.{in_order-fresh}
 use Rattle.spin_step.proofs.TicketSteps.{ticket_take-grants, ticket_take-grants_alone, ticket_serve-gives}
 use Rattle.spin_step.proofs.Tickets.{serving-taken, serving-entered, entered_is_served, first-length, enters_in_turn}
 use Rattle.spin_step.specs.TicketCalls.{ticket_table, ticket_memory, word_of, act_of}
-use Rattle.spin_step.specs.Acts.{Table, next_of}
-use Rattle.spin_step.specs.Schedules.{resting}
+use Rattle.spin_step.specs.Acts.{Table}
 use Rattle.spin_step.specs.declared.answer.Answer.{Answer}
-use Rattle.spin_step.specs.declared.answer.Answer.TheVariants.{Granted, Refused}
 use Rattle.spin_step.specs.declared.place.Hold.{Hold}
 use Rattle.spin_step.specs.declared.place.Hold.TheVariants as hold
 use Rattle.spin_step.specs.declared.place.Seat.TheVariants.{Calling, Holding}
-use Rattle.spin_step.specs.declared.stepped.Next.TheVariants.{Answers}
 use Rattle.spin_step.specs.declared.ticket_calls.TicketCall.{TicketCall}
 use Rattle.spin_step.specs.declared.ticket_calls.TicketCall.TheVariants.{Lock, TryLock, Release}
 use Rattle.spin_step.specs.declared.ticket_calls.TicketWords.{TicketWords}
@@ -23,12 +20,11 @@ use Rattle.spin_step.specs.declared.ticket_calls.TicketPoint.TheVariants.{Take, 
 use Rattle.spin_core.specs.Views.{Part, queues, HasPart, IsLockOf}
 use Rattle.spin_core.proofs.Leaving.{serving_word-up}
 use Rattle.spin_core.proofs.Owners.{OfTickets, one_ticket}
-use Rattle.spin_session.specs.Meaning.{Peeks, use_at, ways_of, with_second, FindsAt, SoundOn, part_of, seat_after, ComesFrom, RefinesOn, table_at}
+use Rattle.spin_session.specs.Meaning.{Peeks, use_at, ways_of, with_second, FindsAt, SoundOn, part_of, seat_after, ComesFrom, RefinesOn}
 use Rattle.spin_core.specs.Cell.{reads, writes, Meets}
 use Rattle.spin_core.specs.declared.tie.Opening.{Opening}
 use Rattle.spin_core.specs.declared.trace.Trace.{Trace}
 use Rattle.spin_session.specs.Operating.{Executes, SameSteps}
-use Rattle.spin_session.specs.Turns.{IsReached}
 use Rattle.spin_session.proofs.Executing.{executes_on}
 use Rattle.spin_session.proofs.Refining.{starts_on}
 use Rattle.spin_ticket.specs.Queue.{View, Made, IsQueue, part, ticket_meaning, ticket_tables}

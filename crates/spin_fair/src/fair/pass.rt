@@ -12,8 +12,9 @@ use super::{FairMutex, FairMutexGuard, LockRejectReason, Starvation};
 use spin_core::guard::Guard;
 use spin_core::relax::RelaxStrategy;
 use spin_session::calls::{
-    SessionOf, acquire, after, ask, enter, finish, give, guarded, in_three, try_for, try_to_acquire,
+    SessionOf, acquire, after, ask, enter, finish, give, guarded, in_three, try_to_acquire,
 };
+use spin_session_more::calls::try_for;
 use spin_step::{Answer, Hold};
 use spin_step_more::FairCall;
 use std::marker::{Model, PhantomData};

@@ -17,10 +17,11 @@ use super::reader::{RwLockReadGuard, SharedGuard};
 use super::rule::{Entry, Kind, Party, Reader, RwRule, RwSession, Upgrader, call_of};
 use super::upgradable::RwLockUpgradableGuard;
 use super::writer::RwLockWriteGuard;
-use spin_core::relax::{RelaxStrategy, Strategy};
-use spin_session::calls::{after, ask, attempt, begin, enter, finish, go_on, try_for};
+use spin_core::relax::RelaxStrategy;
+use spin_session::calls::{after, ask, begin, enter, finish, wait};
 use spin_session::session::Session;
-use spin_step::{Answer, Hold};
+use spin_session_more::calls::{attempt, try_for};
+use spin_step::{Answer, Hold, Next};
 use spin_step_more::rw_calls::RwCall;
 use std::marker::{Model, PhantomData};
 use std::sync::Wait;
@@ -381,18 +382,18 @@ pub(super) fn lend<'a, T, K: Kind, R: RelaxStrategy, W: Wait>(
     requires { Stands None session }
     ensures { Lends (call_of K.hold true) Granted (spot session.entry) result }
 {
-    let (call, after) = (call_of(K::hold(), true), Some(K::hold()));
-    match begin(session, call, None, Answer::Granted, after) {
-        Ok(session) => SharedGuard::lent(session),
-        Err(on) => {
-            let by = Strategy::<R>::named();
-            SharedGuard::lent(go_on(on, call, None, Answer::Granted, after, by, rt))
+    let call = call_of(K::hold(), true);
+    let (next, point, found, session) = begin(session, call, None);
+    match next {
+        Next::Answers(_, _) => SharedGuard::lent(session),
+        Next::Continue(_) => {
+            let session = wait::<T, RwRule<T>, R, W>(session, call, point, None, found, rt);
+            SharedGuard::lent(session)
         }
     }
 }
 
 // Waits until the lock admits a writer.
-#[tactic(auto, using(crate::proofs::RwCalls::writes_only))]
 #[inline(always)]
 pub(super) fn grant<'a, T, R: RelaxStrategy, W: Wait>(
     session: RwSession<'a, T>,
@@ -401,12 +402,19 @@ pub(super) fn grant<'a, T, R: RelaxStrategy, W: Wait>(
     requires { Stands None session }
     ensures { Grants Write (spot session.entry) result }
 {
-    let (call, after) = (RwCall::Write, Some(Hold::Write));
-    match begin(session, call, None, Answer::Granted, after) {
-        Ok(session) => RwLockWriteGuard::written(session),
-        Err(on) => {
-            let by = Strategy::<R>::named();
-            RwLockWriteGuard::written(go_on(on, call, None, Answer::Granted, after, by, rt))
+    let (next, point, found, session) = begin(session, RwCall::Write, None);
+    match next {
+        Next::Answers(_, _) => RwLockWriteGuard::written(session),
+        Next::Continue(_) => {
+            let session = wait::<T, RwRule<T>, R, W>(
+                session,
+                RwCall::Write,
+                point,
+                None,
+                found,
+                rt,
+            );
+            RwLockWriteGuard::written(session)
         }
     }
 }

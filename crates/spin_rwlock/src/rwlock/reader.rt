@@ -12,8 +12,9 @@ ghost use Rattle.spin_rwlock.specs.Rw.{IsLent, rw_tables};
 
 use super::rule::{Entry, Kind, Party, Reader, RwRule, RwSession};
 use spin_core::relax::Spin;
-use spin_session::calls::{finish, make};
+use spin_session::calls::finish;
 use spin_session::session::Session;
+use spin_session_more::calls::make;
 use spin_step::Answer;
 use spin_step_more::rw_calls::RwCall;
 use std::marker::PhantomData;

@@ -8,7 +8,7 @@ use super::reader::{RwLockReadGuard, SharedGuard};
 use super::rule::Upgrader;
 use super::writer::RwLockWriteGuard;
 use spin_core::relax::{RelaxStrategy, Spin, Strategy};
-use spin_session::calls::{attempt, make, wait_for};
+use spin_session_more::calls::{attempt, make, wait_for};
 use spin_step::{Answer, Hold};
 use spin_step_more::rw_calls::RwCall;
 use std::sync::Wait;

@@ -16,7 +16,8 @@ use super::upgradable::RwLockUpgradableGuard;
 use spin_core::cell::{Permit, WritePermit};
 use spin_core::relax::Spin;
 use spin_core::trace::Watch;
-use spin_session::calls::{finish, give, writer};
+use spin_session::calls::{finish, give};
+use spin_session::session::Session;
 use spin_step::Hold;
 use spin_step_more::rw_calls::RwCall;
 use std::marker::PhantomData;
@@ -70,8 +71,8 @@ impl<'a, T, R> RwLockWriteGuard<'a, T, R> {
         ensures value { Some (write_value result) ≡ session.entry.permit.value }
         ensures grants { SeesLast session.entry → (call : ACall) (before : RwSpot T) → Calls call Granted before (spot session.entry) → Grants call before result }
     {
-        let (permit, seen) = writer(session, Hold::Write);
-        Self::new(permit, seen)
+        let Session { permit, seen } = session;
+        Self::new(permit.into_writer(), seen)
     }
 
     /// Becomes a reader. Other readers are then admitted too. It never fails.

@@ -6,12 +6,12 @@ ghost use Rattle.spin_ticket.specs.TicketPasses.{After, Calls, TicketSpot, Grant
 ghost use Rattle.spin_ticket.specs.TicketPasses.{Lock, TryLock, IsLocked};
 ghost use Rattle.spin_step.specs.declared.answer.Answer.TheVariants.{Refused, Is};
 
-use super::rule::TicketRule;
+use super::rule::{TicketRule, served};
 use super::{TicketMutex, TicketMutexGuard};
 use spin_core::guard::Guard;
 use spin_core::relax::RelaxStrategy;
 use spin_session::calls::{
-    SessionOf, acquire, after, enter, finish, give, in_three, peek, try_to_acquire,
+    SessionOf, acquire, after, enter, finish, give, in_three, try_to_acquire,
 };
 use spin_step::{Answer, Hold, TicketCall};
 use std::marker::{Model, PhantomData};
@@ -80,7 +80,7 @@ impl<T, R> TicketMutex<T, R> {
         ensures { Unlocks guard.entry result }
     {
         let (writer, seen) = Guard::into_parts(guard);
-        let (number, writer, seen) = peek::<T, TicketRule>(writer, seen);
+        let (number, writer, seen) = served(writer, seen);
         let held = Hold::Ticket(number);
         Pass {
             session: give::<T, TicketRule>(writer, seen, TicketCall::Release, held, None),

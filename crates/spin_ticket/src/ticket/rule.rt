@@ -1,9 +1,12 @@
 //! The rule of a `TicketMutex`: its cell runs the table of tickets. Begin at [`TicketRule`].
-ghost use Rattle.std.specs.Prelude.{refl};
-ghost use Rattle.spin_core.specs.Cell.{use_of};
+ghost use Rattle.std.specs.Prelude.{◌≡◌, ◌≤◌, Some, length, refl};
+ghost use Rattle.spin_core.specs.Cell.{use_of, writes};
+ghost use Rattle.spin_core.specs.Passes.{Nothing};
+ghost use Rattle.spin_core.specs.Spots.{Since};
+ghost use Rattle.spin_core.specs.Traced.{MayKnow};
 ghost use Rattle.spin_core.specs.Values.{untold};
-ghost use Rattle.spin_session.specs.Meaning.{ways_of};
-ghost use Rattle.spin_ticket.specs.Queue.{IsQueue, ticket_meaning, ticket_tables, use_of_party};
+ghost use Rattle.spin_session.specs.Meaning.{Peeks, use_at, ways_of, with_second};
+ghost use Rattle.spin_ticket.specs.Queue.{IsQueue, model, ticket_meaning, ticket_tables, use_of_party};
 
 use super::HINTS_EACH;
 use spin_core::cell::{Left, Rule, WritePermit};
@@ -97,11 +100,31 @@ impl<T> guard::Release<T, Party> for TicketRule {
     // The served number is that of the writer's ticket. A guard does not keep this number. If it did, and the number
     // were tied to the seat, `deref_mut` could not lend the guard's permit.
     fn release(writer: WritePermit<'_, T, Party, TicketRule>) -> Left {
-        let (number, writer, _) = peek::<T, TicketRule>(writer, Watch::nothing());
+        let (number, writer, _) = served(writer, Watch::nothing());
         let (seen, release) = (Watch::nothing(), TicketCall::Release);
         let held = Hold::Ticket(number);
         finish(give::<T, TicketRule>(writer, seen, release, held, None))
     }
 
     ghost same = { λ key view. refl };
+}
+
+// Loads the served number, for a holder that writes. The load is no step of a call. The number found is the word of a
+// lock in which the party has the part of its seat (`finds`). The party and its value stay as they are.
+#[inline(always)]
+pub(super) fn served<'a, T>(
+    writer: WritePermit<'a, T, Party, TicketRule>,
+    seen: Watch<Entry<T>>,
+) -> (u64, WritePermit<'a, T, Party, TicketRule>, Watch<Entry<T>>)
+    requires { MayKnow (IsQueue writer.key) (ways_of ticket_meaning writer.key) seen }
+    ensures seat { result.1.view.0 ≡ writer.entry.view.0 }
+    ensures writes { use_at ticket_meaning writer.entry.view.0 ≡ writes }
+    ensures value { result.1.value ≡ writer.entry.value }
+    ensures key { result.1.key ≡ writer.entry.key }
+    ensures finds { Peeks with_second ticket_meaning writer.entry.view.0 result.0 }
+    ensures since { writer.entry.key.name ≡ seen.name → writer.entry.view.2 ≤ length seen.entries → (Since model Nothing (writer.entry.key, Some writer.entry.view, seen) (result.1.key, Some result.1.view, result.2)) × (result.1.view.2 ≡ length result.2.entries) }
+{
+    <TicketRule as Runs<T>>::laws();
+    let (number, permit, seen) = peek::<T, TicketRule>(writer.into_permit(), seen);
+    (number, permit.into_writer(), seen)
 }

@@ -37,73 +37,31 @@ operate-permit-requires-clause-keeps g c =
     let all = c.laws.ensures.gives p.key p.view a.writer.value call a.holds o.result same is may c.requires.held.0 c.requires.held.1 in
     subst (λ (x : Option g.row.T.Denot × ℕ). Operates g.P.Word.Word.words (g.P.Rule.holds p.key) (g.P.Rule.ways p.key) p.view x.0 x.1 o.result (TurnTold t b true (Some call) p.key p.view)) (λ i. (sym it.ensures.same.1 i, place i)) all
 
-pub returns-clause-seat : goal.returns-clause-seat
-returns-clause-seat g c =
-    let a = c.args in let it = c.into_permit-permit in let p = it.result in let f = c.operate-permit in let t = g.P.Runs.tables in let b = g.P.Runs.meaning in let call = a.call in
-    let held = c.requires.alone (sym (c.laws.ensures.uses a.writer.key (Some a.writer.view)) ∙ it.ensures.use_of_view) in
-    let is : what p.view ≡ Some (Holding a.holds) = ap what it.ensures.same.0 ∙ ap Some held in
-    let from : Spot g.row.T.Denot g.row.P-Call.Denot g.row.P-Point.Denot = (p.key, p.view, a.seen) in
-    let now : Spot g.row.T.Denot g.row.P-Call.Denot g.row.P-Point.Denot = (f.result.1.key, f.result.1.view, f.result.2) in
-    let its = Named (g.P.Rule.holds p.key) (g.P.Rule.ways p.key) a.seen.name in
-    let moved = f.ensures.moved in
-    let ends : EndsWith t call a.holds a.after p.key = rw it.ensures.key c.requires.ends in
-    ap seat_now (seat t b call a.holds a.after from now is ends its f.result.0 f.result.1.view moved)
-
-pub returns-clause-knows : goal.returns-clause-knows
-returns-clause-knows g c =
-    let a = c.args in let it = c.into_permit-permit in let p = it.result in let f = c.operate-permit in let t = g.P.Runs.tables in let b = g.P.Runs.meaning in let call = a.call in
-    let held = c.requires.alone (sym (c.laws.ensures.uses a.writer.key (Some a.writer.view)) ∙ it.ensures.use_of_view) in
-    let is : what p.view ≡ Some (Holding a.holds) = ap what it.ensures.same.0 ∙ ap Some held in
-    let from : Spot g.row.T.Denot g.row.P-Call.Denot g.row.P-Point.Denot = (p.key, p.view, a.seen) in
-    let now : Spot g.row.T.Denot g.row.P-Call.Denot g.row.P-Point.Denot = (f.result.1.key, f.result.1.view, f.result.2) in
-    let its = Named (g.P.Rule.holds p.key) (g.P.Rule.ways p.key) a.seen.name in
-    let moved = f.ensures.moved in
-    let ends : EndsWith t call a.holds a.after p.key = rw it.ensures.key c.requires.ends in
-    knows t b call a.holds a.after from now is ends its f.result.0 f.result.1.view moved
-
-pub returns-clause-name : goal.returns-clause-name
-returns-clause-name g c named =
-    let a = c.args in let it = c.into_permit-permit in let p = it.result in let f = c.operate-permit in let t = g.P.Runs.tables in let b = g.P.Runs.meaning in let call = a.call in
-    let held = c.requires.alone (sym (c.laws.ensures.uses a.writer.key (Some a.writer.view)) ∙ it.ensures.use_of_view) in
-    let is : what p.view ≡ Some (Holding a.holds) = ap what it.ensures.same.0 ∙ ap Some held in
-    let from : Spot g.row.T.Denot g.row.P-Call.Denot g.row.P-Point.Denot = (p.key, p.view, a.seen) in
-    let now : Spot g.row.T.Denot g.row.P-Call.Denot g.row.P-Point.Denot = (f.result.1.key, f.result.1.view, f.result.2) in
-    let its = Named (g.P.Rule.holds p.key) (g.P.Rule.ways p.key) a.seen.name in
-    let moved = f.ensures.moved in
-    let ends : EndsWith t call a.holds a.after p.key = rw it.ensures.key c.requires.ends in
-    keeps_name t b call a.holds a.after from now is ends its f.result.0 f.result.1.view moved (c.laws.ensures.named p.key a.seen.name (ap (λ k. k.name) it.ensures.key ∙ named))
-
-pub returns-clause-same : goal.returns-clause-same
-returns-clause-same g c uses =
-    let a = c.args in let it = c.into_permit-permit in let p = it.result in let f = c.operate-permit in let t = g.P.Runs.tables in let b = g.P.Runs.meaning in let call = a.call in
-    let held = c.requires.alone (sym (c.laws.ensures.uses a.writer.key (Some a.writer.view)) ∙ it.ensures.use_of_view) in
-    let is : what p.view ≡ Some (Holding a.holds) = ap what it.ensures.same.0 ∙ ap Some held in
-    let from : Spot g.row.T.Denot g.row.P-Call.Denot g.row.P-Point.Denot = (p.key, p.view, a.seen) in
-    let now : Spot g.row.T.Denot g.row.P-Call.Denot g.row.P-Point.Denot = (f.result.1.key, f.result.1.view, f.result.2) in
-    let its = Named (g.P.Rule.holds p.key) (g.P.Rule.ways p.key) a.seen.name in
-    let ends : EndsWith t call a.holds a.after p.key = rw it.ensures.key c.requires.ends in
-    let sits = seat t b call a.holds a.after from now is ends its f.result.0 f.result.1.view f.ensures.moved in
-    let all = c.laws.ensures.sees p.key p.view f.result.1.view p.value f.result.1.value f.ensures.kept (λ e. uses (ap (use_of (use_at b)) (sym sits) ∙ e)) in
-    all.1 (λ e. absurd (let no : Some a.writer.value ≡ None = sym it.ensures.same.1 ∙ e in cc (no))) ∙ it.ensures.same.1
-
-pub returns-clause-releases : goal.returns-clause-releases
-returns-clause-releases g c named knew =
+pub returns : goal.returns
+returns g c =
     let a = c.args in let w = a.writer in let it = c.into_permit-permit in let p = it.result in let f = c.operate-permit in let t = g.P.Runs.tables in let b = g.P.Runs.meaning in let call = a.call in
-    let held = c.requires.alone (sym (c.laws.ensures.uses a.writer.key (Some a.writer.view)) ∙ it.ensures.use_of_view) in
+    let held = c.requires.alone (sym (c.laws.ensures.uses w.key (Some w.view)) ∙ it.ensures.use_of_view) in
     let is : what p.view ≡ Some (Holding a.holds) = ap what it.ensures.same.0 ∙ ap Some held in
     let from : Spot g.row.T.Denot g.row.P-Call.Denot g.row.P-Point.Denot = (p.key, p.view, a.seen) in
     let now : Spot g.row.T.Denot g.row.P-Call.Denot g.row.P-Point.Denot = (f.result.1.key, f.result.1.view, f.result.2) in
-    let its = Named (g.P.Rule.holds p.key) (g.P.Rule.ways p.key) a.seen.name in
-    let moved = f.ensures.moved in
+    let its = Named (g.P.Rule.holds p.key) (g.P.Rule.ways p.key) a.seen.name in let moved = f.ensures.moved in
     let ends : EndsWith t call a.holds a.after p.key = rw it.ensures.key c.requires.ends in
     let sits = seat t b call a.holds a.after from now is ends its f.result.0 f.result.1.view moved in
-    let writing : use_of (use_at g.P.Runs.meaning) (what p.view) ≡ writes = ap (use_of (use_at g.P.Runs.meaning)) is ∙ c.requires.held.1 in
-    let all_last = c.laws.ensures.lasts p.key p.view f.result.1.view p.value f.result.1.value f.result.2 f.ensures.kept f.ensures.found
-    (λ e e'. c.requires.stops (ap (use_of (use_at b)) (sym sits) ∙ e')) in
-    let last : IsLast p.key f.result.2.entries w.value = subst (λ o. IfSome o (IsLast p.key f.result.2.entries)) it.ensures.same.1 (all_last.1 (λ e. absurd (let no : off ≡ writes = sym e ∙ writing in cc (no)))) in
-    let all = releases t b call a.holds a.after from now is ends its f.result.0 (c.laws.ensures.named p.key a.seen.name (ap (λ k. k.name) it.ensures.key ∙ named)) f.ensures.key
-    (subst (λ v. mark_of v ≤ length a.seen.entries) (sym it.ensures.same.0) knew) w.value last moved in
-    subst (λ (z : Spot g.row.T.Denot g.row.P-Call.Denot g.row.P-Point.Denot). Releases (model_at t) (λ o. o) call Done w.value z now) (λ i. (it.ensures.key i, it.ensures.same.0 i, a.seen)) all
+    record {
+      seat = ap seat_now sits;
+      knows = knows t b call a.holds a.after from now is ends its f.result.0 f.result.1.view moved;
+      key = f.ensures.key ∙ it.ensures.key;
+      same = λ uses. (c.laws.ensures.sees p.key p.view f.result.1.view p.value f.result.1.value f.ensures.kept (λ e. uses (ap (use_of (use_at b)) (sym sits) ∙ e))).1
+          (λ e. absurd (let no : Some w.value ≡ None = sym it.ensures.same.1 ∙ e in cc (no))) ∙ it.ensures.same.1;
+      name = λ named. keeps_name t b call a.holds a.after from now is ends its f.result.0 f.result.1.view moved (c.laws.ensures.named p.key a.seen.name (ap (λ k. k.name) it.ensures.key ∙ named));
+      releases = λ named knew.
+          let writing : use_of (use_at b) (what p.view) ≡ writes = ap (use_of (use_at b)) is ∙ c.requires.held.1 in
+          let all_last = c.laws.ensures.lasts p.key p.view f.result.1.view p.value f.result.1.value f.result.2 f.ensures.kept f.ensures.found (λ e e'. c.requires.stops (ap (use_of (use_at b)) (sym sits) ∙ e')) in
+          let last : IsLast p.key f.result.2.entries w.value = subst (λ o. IfSome o (IsLast p.key f.result.2.entries)) it.ensures.same.1 (all_last.1 (λ e. absurd (let no : off ≡ writes = sym e ∙ writing in cc (no)))) in
+          let all = releases t b call a.holds a.after from now is ends its f.result.0 (c.laws.ensures.named p.key a.seen.name (ap (λ k. k.name) it.ensures.key ∙ named)) f.ensures.key
+          (subst (λ v. mark_of v ≤ length a.seen.entries) (sym it.ensures.same.0) knew) w.value last moved in
+          subst (λ (z : Spot g.row.T.Denot g.row.P-Call.Denot g.row.P-Point.Denot). Releases (model_at t) (λ o. o) call Done w.value z now) (λ i. (it.ensures.key i, it.ensures.same.0 i, a.seen)) all;
+    }
 
 pub unreachable-requires : goal.unreachable-requires
 unreachable-requires g c =

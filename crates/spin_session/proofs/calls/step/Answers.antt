@@ -10,7 +10,7 @@ use Rattle.spin_session.specs.Operating.{Operates}
 use Rattle.spin_session.specs.Meaning.{rests_at, seat_now, seat_after, model_at, table_at}
 use Rattle.spin_session.specs.Turns.{TurnTold, outcome_of, has_begun, Spot, spot}
 use Rattle.spin_session.proofs.Turned.{turned, in_bounds}
-use Rattle.spin_session.proofs.Course.{reached, quiet_at, comes, same_seat}
+use Rattle.spin_session.proofs.Course.{reached, quiet_at, comes, same_seat, uses_now}
 use Rattle.spin_session.proofs.calls.step.Goals as goal
 
 pub operate-found-requires-clause-keeps : goal.operate-found-requires-clause-keeps
@@ -24,56 +24,33 @@ operate-found-requires-clause-keeps g c =
     subst (λ i. Operates g.P.Word.Word.words (g.P.Rule.holds p.key) (g.P.Rule.ways p.key) p.view p.value i o.result (TurnTold t g.P.Runs.meaning false (Some a.call) p.key p.view)) place
     (c.laws.ensures.turns p.key p.view p.value a.call a.point a.holds o.result same c.requires.at c.requires.knows.2 (quiet_at (table_at t p.key) g.P.Runs.meaning a.call a.point a.holds (what p.view) c.requires.at c.requires.quiet))
 
-pub returns-clause-knows : goal.returns-clause-knows
-returns-clause-knows g c =
-    let a = c.args in let it = a.session in let p = it.permit in let f = c.operate-found in let t = g.P.Runs.tables in let named = Named (g.P.Rule.holds p.key) (g.P.Rule.ways p.key) it.seen.name in
-    let all = turned (table_at t p.key) g.P.Runs.meaning p.view f.result.1.view it.seen f.result.2 c.requires.knows.1 a.call a.point a.holds c.requires.at named
-    (c.laws.ensures.named p.key it.seen.name c.requires.knows.0) f.result.0 f.ensures.moved in (
-      ap (λ k. k.name) f.ensures.key ∙ c.requires.knows.0 ∙ sym all.named,
-      le_of_eq all.knows,
-      subst (λ o. rests_at g.P.Runs.meaning (seat_now o) ≡ true) (sym all.is)
-          (c.laws.ensures.goes p.key (what p.view) a.call a.point a.holds f.result.0 c.requires.at c.requires.knows.2),
-    )
-
-pub returns-clause-seat : goal.returns-clause-seat
-returns-clause-seat g c =
-    let a = c.args in let it = a.session in let p = it.permit in let f = c.operate-found in let t = g.P.Runs.tables in let named = Named (g.P.Rule.holds p.key) (g.P.Rule.ways p.key) it.seen.name in
-    let all = turned (table_at t p.key) g.P.Runs.meaning p.view f.result.1.view it.seen f.result.2 c.requires.knows.1 a.call a.point a.holds c.requires.at named
-    (c.laws.ensures.named p.key it.seen.name c.requires.knows.0) f.result.0 f.ensures.moved in
+pub returns : goal.returns
+returns g c =
+    let a = c.args in let it = a.session in let p = it.permit in let f = c.operate-found in let t = g.P.Runs.tables in let s = g.P.Runs.meaning in
+    let named = Named (g.P.Rule.holds p.key) (g.P.Rule.ways p.key) it.seen.name in let is_named = c.laws.ensures.named p.key it.seen.name c.requires.knows.0 in
+    let all = turned (table_at t p.key) s p.view f.result.1.view it.seen f.result.2 c.requires.knows.1 a.call a.point a.holds c.requires.at named is_named f.result.0 f.ensures.moved in
+    let fine = in_bounds (table_at t p.key) s p.view f.result.1.view it.seen f.result.2 c.requires.knows.1 a.call a.point a.holds c.requires.at named is_named f.result.0 f.ensures.moved in
     let went : filled None c.next.result ≡ next_of (t 0 p.key.value) a.call a.point a.holds f.result.0 = rw (c.table-table.ensures.is, c.table-table.ensures.given) at (c.next.ensures p.key.value) in
     let next = went ∙ (c.laws.ensures.alike p.key.value p.key.start).goes a.call a.point a.holds f.result.0 in
-    all.is ∙ ap Some (ap (seat_after a.call a.holds) (sym next) ∙ same_seat g.row.T.Denot a.call a.holds c.next.result)
-
-pub returns-clause-comes : goal.returns-clause-comes
-returns-clause-comes g c p on =
-    let a = c.args in let it = a.session in let k = it.permit in let f = c.operate-found in let t = g.P.Runs.tables in let named = Named (g.P.Rule.holds k.key) (g.P.Rule.ways k.key) it.seen.name in
-    let is_named = c.laws.ensures.named k.key it.seen.name c.requires.knows.0 in let s = g.P.Runs.meaning in
-    let all = turned (table_at t k.key) s k.view f.result.1.view it.seen f.result.2 c.requires.knows.1 a.call a.point a.holds c.requires.at named is_named f.result.0 f.ensures.moved in
-    let fine = in_bounds (table_at t k.key) s k.view f.result.1.view it.seen f.result.2 c.requires.knows.1 a.call a.point a.holds c.requires.at named is_named f.result.0 f.ensures.moved in
-    let went : filled None c.next.result ≡ next_of (t 0 k.key.value) a.call a.point a.holds f.result.0 = rw (c.table-table.ensures.is, c.table-table.ensures.given) at (c.next.ensures k.key.value) in
-    let next = went ∙ (c.laws.ensures.alike k.key.value k.key.start).goes a.call a.point a.holds f.result.0 in
     let now : Spot g.row.T.Denot g.row.P-Call.Denot g.row.P-Point.Denot = (f.result.1.key, f.result.1.view, f.result.2) in
-    comes t s a.call a.point a.holds p (spot it) now on c.next.result
-    (f.result.0, next, (fine, reached t s a.call a.point a.holds k.key (what k.view) c.requires.at c.requires.knows.2), subst (λ x. Stepped (model_at t) (has_begun (what k.view)) a.call (outcome_of x) (seat_after a.call a.holds x) (spot it) now) (sym next) ((all.made, all.named, f.ensures.key), all.is))
-
-pub returns-clause-goes : goal.returns-clause-goes
-returns-clause-goes g c =
-    let a = c.args in let it = a.session in let k = it.permit in let f = c.operate-found in let t = g.P.Runs.tables in let named = Named (g.P.Rule.holds k.key) (g.P.Rule.ways k.key) it.seen.name in
-    let went : filled None c.next.result ≡ next_of (t 0 k.key.value) a.call a.point a.holds f.result.0 = rw (c.table-table.ensures.is, c.table-table.ensures.given) at (c.next.ensures k.key.value) in (
-      went ∙ (c.laws.ensures.alike k.key.value k.key.start).goes a.call a.point a.holds f.result.0,
-      in_bounds (table_at t k.key) g.P.Runs.meaning k.view f.result.1.view it.seen f.result.2 c.requires.knows.1 a.call a.point a.holds c.requires.at named (c.laws.ensures.named k.key it.seen.name c.requires.knows.0) f.result.0 f.ensures.moved,
-    )
-
-pub returns-clause-last : goal.returns-clause-last
-returns-clause-last g c =
-    let a = c.args in let k = a.session.permit in let f = c.operate-found in let t = g.P.Runs.tables in
-    let quiet = quiet_at (table_at t k.key) g.P.Runs.meaning a.call a.point a.holds (what k.view) c.requires.at c.requires.quiet in
-    subst (λ o. IfSome f.result.1.value (IsLast o f.result.2.entries)) (sym f.ensures.key)
-    (c.laws.ensures.lasts k.key k.view f.result.1.view k.value f.result.1.value f.result.2 f.ensures.kept f.ensures.found (λ e. absurd (quiet e))).0
-
-pub returns-clause-left : goal.returns-clause-left
-returns-clause-left g c uses =
-    let a = c.args in let k = a.session.permit in let f = c.operate-found in let t = g.P.Runs.tables in
-    let quiet = quiet_at (table_at t k.key) g.P.Runs.meaning a.call a.point a.holds (what k.view) c.requires.at c.requires.quiet in
-    subst (λ o. IfSome k.value (IsLast o f.result.2.entries)) (sym f.ensures.key)
-    ((c.laws.ensures.lasts k.key k.view f.result.1.view k.value f.result.1.value f.result.2 f.ensures.kept f.ensures.found (λ e. absurd (quiet e))).1 uses)
+    let quiet = quiet_at (table_at t p.key) s a.call a.point a.holds (what p.view) c.requires.at c.requires.quiet in
+    let lasts = c.laws.ensures.lasts p.key p.view f.result.1.view p.value f.result.1.value f.result.2 f.ensures.kept f.ensures.found (λ e. absurd (quiet e)) in
+    record {
+      knows = (
+        ap (λ k. k.name) f.ensures.key ∙ c.requires.knows.0 ∙ sym all.named,
+        le_of_eq all.knows,
+        subst (λ o. rests_at s (seat_now o) ≡ true) (sym all.is) (c.laws.ensures.goes p.key (what p.view) a.call a.point a.holds f.result.0 c.requires.at c.requires.knows.2),
+      );
+      key = f.ensures.key;
+      seat = all.is ∙ ap Some (ap (seat_after a.call a.holds) (sym next) ∙ same_seat g.row.T.Denot a.call a.holds c.next.result);
+      comes = λ q on. comes t s a.call a.point a.holds q (spot it) now on c.next.result (
+        f.result.0,
+        next,
+        (fine, reached t s a.call a.point a.holds p.key (what p.view) c.requires.at c.requires.knows.2),
+        subst (λ x. Stepped (model_at t) (has_begun (what p.view)) a.call (outcome_of x) (seat_after a.call a.holds x) (spot it) now) (sym next) ((all.made, all.named, f.ensures.key), all.is),
+      );
+      goes = (next, fine);
+      last = subst (λ o. IfSome f.result.1.value (IsLast o f.result.2.entries)) (sym f.ensures.key) lasts.0;
+      left = λ uses. subst (λ o. IfSome p.value (IsLast o f.result.2.entries)) (sym f.ensures.key) (lasts.1 uses);
+      sees = λ uses. let z = c.laws.ensures.sees p.key p.view f.result.1.view p.value f.result.1.value f.ensures.kept (λ e. uses (sym (uses_now s (what f.result.1.view)) ∙ e)) in (z.0, λ on saw. z.1 saw);
+    }

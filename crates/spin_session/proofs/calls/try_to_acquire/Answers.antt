@@ -1,6 +1,6 @@
 use Rattle.std.proofs.Common.{sym, ◌∙◌}
 use Rattle.spin_session.specs.Turns.{spot}
-use Rattle.spin_session.proofs.Course.{acquired_at_once, refused_at_once}
+use Rattle.spin_session.proofs.Course.{acquired_at_once, refused}
 use Rattle.spin_session.proofs.calls.try_to_acquire.Goals as goal
 
 pub guarded-requires-clause-writes : goal.guarded-requires-clause-writes
@@ -17,4 +17,4 @@ returns-then-is_granted-clause-granted g c =
 pub returns-else-is_granted-clause-refused : goal.returns-else-is_granted-clause-refused
 returns-else-is_granted-clause-refused g c =
     let a = c.args in let f = c.in_three-answer in let e = f.ensures in
-    refused_at_once g.P.Runs.tables g.P.Runs.meaning a.call a.holds (spot a.session) (spot f.result.2) e.knows f.result.0 f.result.1 e.ended c.requires.tries (sym c.is_granted.ensures ∙ c.if-is_granted.false)
+    refused g.P.Runs.tables g.P.Runs.meaning a.call a.holds (spot a.session) (spot f.result.2) e.knows f.result.0 f.result.1 e.ended _ c.requires.tries (sym c.is_granted.ensures ∙ c.if-is_granted.false)

@@ -12,11 +12,11 @@ use Rattle.spin_ticket.proofs.ticket.TicketMutex.unlock.Goals as goal
 
 pub give-requires-clause-alone : goal.give-requires-clause-alone
 give-requires-clause-alone g c uses =
-    let k = c.peek-number in peeked_seat k.result.1.view.0 k.result.0 uses (subst (λ v. Peeks with_second ticket_meaning v k.result.0) (sym k.ensures.seat) k.ensures.finds)
+    let k = c.served-number in peeked_seat k.result.1.view.0 k.result.0 uses (subst (λ v. Peeks with_second ticket_meaning v k.result.0) (sym k.ensures.seat) k.ensures.finds)
 
 pub returns : goal.returns
 returns g c =
-    let into = c.into_parts-writer in let (w, seen) = into.result in let k = c.peek-number in let f = c.give in let guard = c.args.guard in
+    let into = c.into_parts-writer in let (w, seen) = into.result in let k = c.served-number in let f = c.give in let guard = c.args.guard in
     let named = ap (λ p. p.key.name) into.ensures.0 ∙ c.requires.0 ∙ ap (λ s. s.name) (sym into.ensures.1) in
     let since = k.ensures.since named (rw (into.ensures.0, into.ensures.1) c.requires.1) in
     let now : TicketSpot g.row.T.Denot = (k.result.1.key, Some k.result.1.view, k.result.2) in

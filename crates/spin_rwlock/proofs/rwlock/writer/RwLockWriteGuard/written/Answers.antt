@@ -10,8 +10,8 @@ use Rattle.spin_rwlock.proofs.rwlock.writer.RwLockWriteGuard.written.Goals as go
 
 pub returns-clause-grants : goal.returns-clause-grants
 returns-clause-grants g c last call before calls =
-    let w = c.writer-permit.ensures in let n = c.new.ensures in let guard = c.new.result in let from = c.args.session in
-    let same : write_spot guard ≡ spot from = λ i. ((ap (λ p. p.key) n.0 ∙ w.key) i, (ap (λ p. Some p.view) n.0 ∙ w.same.0) i, (n.1 ∙ w.seen) i) in
+    let w = c.into_writer.ensures in let n = c.new.ensures in let guard = c.new.result in let from = c.args.session in
+    let same : write_spot guard ≡ spot from = λ i. ((ap (λ p. p.key) n.0 ∙ w.key) i, (ap (λ p. Some p.view) n.0 ∙ w.same.0) i, n.1 i) in
     let there = subst (StandsAt (Some Write)) (sym same) c.requires in (
       (there.0, there.1),
       subst (λ z. IsLast z.0 z.2.entries (write_value guard)) (sym same)

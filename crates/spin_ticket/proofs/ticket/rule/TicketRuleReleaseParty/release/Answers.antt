@@ -6,7 +6,7 @@ use Rattle.spin_ticket.proofs.TicketRefines.{peeked_seat}
 use Rattle.spin_ticket.proofs.ticket.rule.TicketRuleReleaseParty.release.Goals as goal
 
 pub give-requires : goal.give-requires
-give-requires g c = let k = c.peek-number in let w = k.result.1 in record {
+give-requires g c = let k = c.served-number in let w = k.result.1 in record {
   knows = inl c.nothing-seen.ensures;
   alone = λ uses. peeked_seat w.view.0 k.result.0 uses (subst (λ v. Peeks with_second ticket_meaning v k.result.0) (sym k.ensures.seat) k.ensures.finds);
   begins = refl {a = true};

@@ -3,7 +3,7 @@ use Rattle.spin_core.specs.Own.{what}
 use Rattle.spin_session.specs.Meaning.{use_at}
 use Rattle.spin_session.specs.Turns.{spot}
 use Rattle.spin_session.proofs.Course.{at_once, uses_now}
-use Rattle.spin_session.proofs.calls.make.Goals as goal
+use Rattle.spin_session_more.proofs.calls.make.Goals as goal
 
 pub returns : goal.returns
 returns g c =

@@ -2,7 +2,7 @@ use Rattle.std.proofs.Common.{◌≡◌, Some}
 use Rattle.spin_core.specs.Own.{what}
 use Rattle.spin_session.specs.Meaning.{seat_after}
 use Rattle.spin_session.specs.Turns.{Comes, Knows, SeesLast, SeesOn, spot}
-use Rattle.spin_session.proofs.calls.try_for.Given as goal
+use Rattle.spin_session_more.proofs.calls.try_for.Given as goal
 
 -- the party is still in the call that it makes, which so goes on or has ended
 abbrev pub invariant-loop : goal.invariant-loop

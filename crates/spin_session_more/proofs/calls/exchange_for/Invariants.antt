@@ -1,6 +1,6 @@
 use Rattle.std.proofs.Common.{Some}
 use Rattle.spin_session.specs.Turns.{either_call, either_step}
-use Rattle.spin_session.proofs.calls.exchange_for.Given as goal
+use Rattle.spin_session_more.proofs.calls.exchange_for.Given as goal
 
 -- the number found says which call the exchange makes
 abbrev pub ghosts-leap : goal.ghosts-leap

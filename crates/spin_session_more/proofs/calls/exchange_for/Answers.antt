@@ -8,7 +8,7 @@ use Rattle.spin_session.specs.Meaning.{table_at, model_at, seat_after, seat_now}
 use Rattle.spin_session.specs.Turns.{FusesBy, Spot, course_of, next_after, either_call, either_step, spot}
 use Rattle.spin_session.proofs.Course.{quiet_at, uses_now, rests_held}
 use Rattle.spin_session.proofs.Turned.{leapt, knows_then}
-use Rattle.spin_session.proofs.calls.exchange_for.Goals as goal
+use Rattle.spin_session_more.proofs.calls.exchange_for.Goals as goal
 
 pub leap-found-requires-clause-knows : goal.leap-found-requires-clause-knows
 leap-found-requires-clause-knows g c = let it = c.args.session in inr (c.laws.ensures.named it.permit.key it.seen.name c.requires.stands.0)

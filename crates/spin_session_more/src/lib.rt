@@ -1,0 +1,4 @@
+//! Calls of sessions that only larger locks make.
+#![tactic(auto)]
+
+pub mod calls;
