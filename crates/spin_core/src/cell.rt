@@ -7,7 +7,7 @@
 //! its caller what it appended.
 ghost use Rattle.std.specs.Prelude.{◌≡◌, ◌≢◌, ◌⊎◌, ℕ, List, [], Option};
 ghost use Rattle.std.specs.Coded.{coded_option};
-ghost use Rattle.spin_core.specs.Cell.{Ways, off, reads, writes, use_of, Opens, Fixes, Frees, Freeing, Lends, Seen, Rests};
+ghost use Rattle.spin_core.specs.Cell.{Ways, off, reads, writes, use_of, Opens, Starts, Fixes, Frees, Freeing, Lends, Seen, Rests};
 ghost use Rattle.spin_core.specs.CellMemory.{Known, cell_owns, cell_shares, permit_owns, permit_shares, writer_owns, writer_shares};
 
 use crate::trace::{Trace, Watch};
@@ -126,14 +126,25 @@ impl<T, V, P: Rule<T, V>> Cell<T, V, P> {
         }
     }
 
-    /// Consumes the cell and returns its value, without a load of its words.
-    pub fn into_inner(self) -> T {
+    /// Consumes the cell and returns its first word, its value and its `Second`.
+    ///
+    /// # Contract
+    /// The rule holds of them, for some parties, and so does what is known of the value (`Starts`).
+    pub fn into_parts(self) -> (u64, T, P::Second)
+        ensures { Starts (P.holds self) (P.ways self) result.0 result.2 result.1 }
+    {
         let Self {
             marker: _,
-            first: _,
+            first,
             value,
             second,
         } = self;
+        (first, value, second)
+    }
+
+    /// Consumes the cell and returns its value, without a load of its words.
+    pub fn into_inner(self) -> T {
+        let (_, value, second) = self.into_parts();
         let_go(second);
         value
     }

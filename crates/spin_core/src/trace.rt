@@ -60,6 +60,17 @@ impl<E, S> Trace<E, S> {
     }
 }
 
+impl<E, S> Trace<E, S> {
+    /// Compares what a watch knows with the whole list. It does nothing at run time.
+    ///
+    /// # Contract
+    /// The entries known to a watch of this trace are the first ones of the list.
+    pub fn covers(&self, watch: &Watch<E>)
+        requires { self.now.name ≡ watch.now.name }
+        ensures { IsPrefix watch.now.entries self.now.entries }
+    {}
+}
+
 impl<E> Watch<E> {
     /// Returns a watch that knows nothing, under the name of a trace that no longer exists.
     pub fn nothing() -> Watch<E>

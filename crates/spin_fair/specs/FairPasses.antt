@@ -3,11 +3,15 @@ use Rattle.std.specs.Prelude.{ℕ}
 use Rattle.spin_core.specs.Own.{Numbered}
 use Rattle.spin_core.specs.declared.guard.Guard.{Guard}
 use Rattle.spin_core.specs.declared.tie.Opening.{Opening}
+use Rattle.spin_core.specs.declared.trace.Trace.{Trace}
 use Rattle.spin_step.specs.declared.answer.Answer.{Answer}
 use Rattle.spin_step_more.specs.declared.fair_calls.FairCall.{FairCall}
 use Rattle.spin_step_more.specs.declared.fair_calls.FairCall.TheVariants.{Release}
 use Rattle.spin_step_more.specs.declared.fair_calls.FairPoint.{FairPoint}
+use Rattle.spin_session.specs.Meaning.{just_one}
 use Rattle.spin_session.specs.Passes as session
+use Rattle.spin_session.specs.Ending as ending
+pub use Rattle.spin_session.specs.Ending.{Includes, Recalls}
 use Rattle.spin_session.specs.Turns as turns
 use Rattle.spin_session.specs.Turns.{Spot}
 pub use Rattle.spin_session.specs.Passes.{◌⨾◌, After, history, lock_of, new_in, opening_of, party, OpensWith, Holds}
@@ -38,6 +42,10 @@ module _ {T : Type 0} where
   -- from `before` to `now` the pass has written some value, and has then made this call
   abbrev pub WroteSome : FairCall → FairSpot T → FairSpot T → Type 0
   WroteSome = session.WroteSome fair_tables
+
+  -- The history is a schedule of the model. Unless a party still writes the value at its end, the value is the one written last.
+  abbrev pub Ends : Opening T → T × Trace (Done T) (Unit {0}) → Type 0
+  Ends = ending.Ends fair_tables fair_meaning just_one
 
   module _ {P R S : Type 0} where
     -- By this call the party at the spot has acquired the guard, whose value is the one written last.

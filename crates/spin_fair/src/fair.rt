@@ -2,7 +2,7 @@
 ghost use Rattle.std.specs.Prelude.{IfSome, IfOk};
 ghost use Rattle.spin_step.specs.declared.answer.Answer.TheVariants.{Granted};
 ghost use Rattle.spin_step_more.specs.declared.fair_calls.FairCall.TheVariants.{Lock, TryLock, TryLockStarver, Starve};
-ghost use Rattle.spin_fair.specs.FairPasses.{Calls, Grants, OpensWith, new_in, opening};
+ghost use Rattle.spin_fair.specs.FairPasses.{Calls, Ends, Grants, OpensWith, new_in, opening};
 
 use spin_core::cell::Cell;
 use spin_core::guard::{self, Guard};
@@ -20,7 +20,7 @@ mod starvation;
 mod texts;
 
 pub use self::pass::Pass;
-pub use self::rule::{Entry, FairRule, Party};
+pub use self::rule::{Entry, FairRule, History, Party};
 pub use self::starvation::Starvation;
 pub use spin_core::laws::{a_guard_reads_the_last_value_written, two_guards_read_one_value};
 pub use spin_step_more::fair::LockRejectReason;
@@ -84,6 +84,19 @@ impl<T, R> FairMutex<T, R> {
             cell,
             strategy: Strategy::named(),
         }
+    }
+
+    /// Consumes the mutex and returns the value with the lock's whole history.
+    ///
+    /// # Contract
+    /// The history is a schedule of the lock's model. Unless a party still writes the value at its end (by a leaked guard
+    /// or a dropped hold), the value is the one written last (`Ends`). [`covers`](spin_core::trace::Trace::covers) says
+    /// that the history begins with what a pass knew. The call returns.
+    pub fn into_history(self) -> (T, History<T>)
+        ensures { Ends (opening self) result }
+    {
+        let (_, value, history) = self.cell.into_parts();
+        (value, history)
     }
 
     /// Consumes the mutex and returns the value.

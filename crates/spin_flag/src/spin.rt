@@ -3,7 +3,7 @@ ghost use Rattle.std.specs.Prelude.{Option, IfSome};
 ghost use Rattle.std.specs.Fmt.{DisplaysOnOk};
 ghost use Rattle.spin_core.specs.Texts.{lock_text};
 ghost use Rattle.spin_step.specs.declared.flag_calls.FlagCall.TheVariants.{Lock, TryLock};
-ghost use Rattle.spin_flag.specs.Passes.{Grants, OpensWith, new_in, opening};
+ghost use Rattle.spin_flag.specs.Passes.{Ends, Grants, OpensWith, new_in, opening};
 
 use spin_core::cell::Cell;
 use spin_core::guard::{self, Guard};
@@ -22,7 +22,7 @@ mod pass;
 mod rule;
 
 pub use self::pass::Pass;
-pub use self::rule::{Entry, FlagRule, Party};
+pub use self::rule::{Entry, FlagRule, History, Party};
 pub use spin_core::laws::{a_guard_reads_the_last_value_written, two_guards_read_one_value};
 
 /// A mutual exclusion lock with one flag as its state, on which a waiting thread spins.
@@ -107,6 +107,19 @@ impl<T, R> SpinMutex<T, R> {
             cell,
             strategy: Strategy::named(),
         }
+    }
+
+    /// Consumes the mutex and returns the value with the lock's whole history.
+    ///
+    /// # Contract
+    /// The history is a schedule of the lock's model. Unless a party still writes the value at its end (by a leaked guard
+    /// or a dropped hold), the value is the one written last (`Ends`). [`covers`](spin_core::trace::Trace::covers) says
+    /// that the history begins with what a pass knew. The call returns.
+    pub fn into_history(self) -> (T, History<T>)
+        ensures { Ends (opening self) result }
+    {
+        let (_, value, history) = self.cell.into_parts();
+        (value, history)
     }
 
     /// Consumes the mutex and returns the value.

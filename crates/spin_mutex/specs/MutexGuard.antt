@@ -4,7 +4,7 @@ use Rattle.spin_core.specs.Guard.{guard_value, guard_with, held_value as inner_h
 use Rattle.spin_core.specs.declared.tie.Opening.{Opening}
 use Rattle.spin_ticket.specs.TicketPasses as ticket
 use Rattle.spin_ticket.specs.TicketPasses.{TicketCall, TicketSpot}
-pub use Rattle.spin_ticket.specs.TicketPasses.{Lock, TryLock, new_in, OpensWith}
+pub use Rattle.spin_ticket.specs.TicketPasses.{Ends, Lock, TryLock, new_in, OpensWith}
 use Rattle.spin_mutex.specs.declared.mutex.Held.{Held}
 use Rattle.spin_mutex.specs.declared.mutex.Mutex.{Mutex}
 use Rattle.spin_mutex.specs.declared.mutex.MutexGuard.{MutexGuard}

@@ -1,6 +1,6 @@
 //! `Mutex`, which uses only the contract of an inner lock. Begin at [`Mutex::lock`].
 ghost use Rattle.std.specs.Prelude.{◌≡◌, Some, IfSome};
-ghost use Rattle.spin_mutex.specs.MutexGuard.{Grants, Lock, OpensWith, TryLock, held_value, new_in, opening, value_of};
+ghost use Rattle.spin_mutex.specs.MutexGuard.{Ends, Grants, Lock, OpensWith, TryLock, held_value, new_in, opening, value_of};
 
 use spin_core::lock::{Lock, with_guard};
 use spin_core::relax::{RelaxStrategy, Spin};
@@ -102,6 +102,17 @@ impl<T, R> Mutex<T, R> {
         Mutex {
             inner: TicketMutex::new(value),
         }
+    }
+
+    /// Consumes the mutex and returns the value with the mutex's whole history, as `TicketMutex::into_history` does.
+    ///
+    /// # Contract
+    /// The history is a schedule of the model. Unless a party still writes the value at its end (by a leaked guard or a
+    /// dropped hold), the value is the one written last (`Ends`). The call returns.
+    pub fn into_history(self) -> (T, ticket::History<T>)
+        ensures { Ends (opening self) result }
+    {
+        self.inner.into_history()
     }
 
     /// Consumes the mutex and returns the value.

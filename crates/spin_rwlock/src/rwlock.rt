@@ -3,7 +3,7 @@ ghost use Rattle.std.specs.Prelude.{◌≤◌, IfSome};
 ghost use Rattle.spin_step.specs.declared.answer.Answer.TheVariants.{Granted};
 ghost use Rattle.spin_step_more.specs.Readers.{reader_limit};
 ghost use Rattle.spin_step_more.specs.declared.rw_calls.RwCall.TheVariants.{TryRead, Read, TryUpgradeableRead, UpgradeableRead, TryWrite, Write};
-ghost use Rattle.spin_rwlock.specs.RwPasses.{Grants, Lends, OpensWith, new_in, opening};
+ghost use Rattle.spin_rwlock.specs.RwPasses.{Ends, Grants, Lends, OpensWith, new_in, opening};
 
 use self::pass::{grant, lend};
 use spin_core::cell::{Cell, Rule};
@@ -29,7 +29,7 @@ mod writer;
 
 pub use self::pass::Pass;
 pub use self::reader::{ReadHeld, RwLockReadGuard, SharedGuard};
-pub use self::rule::{Entry, Kind, Party, Reader, RwRule, Upgrader};
+pub use self::rule::{Entry, History, Kind, Party, Reader, RwRule, Upgrader};
 pub use self::upgradable::RwLockUpgradableGuard;
 pub use self::writer::{RwLockWriteGuard, WriteHeld};
 pub use spin_core::laws::{a_guard_reads_the_last_value_written, two_guards_read_one_value};
@@ -79,6 +79,19 @@ impl<T, R> RwLock<T, R> {
             cell,
             strategy: PhantomData,
         }
+    }
+
+    /// Consumes the lock and returns the value with the lock's whole history.
+    ///
+    /// # Contract
+    /// The history is a schedule of the lock's model. Unless a party still writes the value at its end (by a leaked guard
+    /// or a dropped hold), the value is the one written last (`Ends`). [`covers`](spin_core::trace::Trace::covers) says
+    /// that the history begins with what a pass knew. The call returns.
+    pub fn into_history(self) -> (T, History<T>)
+        ensures { Ends (opening self) result }
+    {
+        let (_, value, history) = self.cell.into_parts();
+        (value, history)
     }
 
     /// Returns a mutable reference to the value.

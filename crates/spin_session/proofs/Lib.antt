@@ -8,3 +8,4 @@ pub mod Seen
 pub mod Freed
 pub mod Leaping
 pub mod Granted
+pub mod Ending

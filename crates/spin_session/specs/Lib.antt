@@ -2,3 +2,4 @@ pub mod Meaning
 pub mod Turns
 pub mod Operating
 pub mod Passes
+pub mod Ending

@@ -3,11 +3,15 @@ use Rattle.std.specs.Prelude.{ℕ}
 use Rattle.spin_core.specs.Own.{Numbered}
 use Rattle.spin_core.specs.declared.guard.Guard.{Guard}
 use Rattle.spin_core.specs.declared.tie.Opening.{Opening}
+use Rattle.spin_core.specs.declared.trace.Trace.{Trace}
 use Rattle.spin_step.specs.declared.answer.Answer.{Answer}
 pub use Rattle.spin_step.specs.declared.ticket_calls.TicketCall.{TicketCall}
 pub use Rattle.spin_step.specs.declared.ticket_calls.TicketCall.TheVariants.{Lock, TryLock, IsLocked, Release}
 use Rattle.spin_step.specs.declared.ticket_calls.TicketPoint.{TicketPoint}
+use Rattle.spin_session.specs.Meaning.{with_second}
 use Rattle.spin_session.specs.Passes as session
+use Rattle.spin_session.specs.Ending as ending
+pub use Rattle.spin_session.specs.Ending.{Includes, Recalls}
 use Rattle.spin_session.specs.Turns as turns
 use Rattle.spin_session.specs.Turns.{Spot}
 pub use Rattle.spin_session.specs.Passes.{◌⨾◌, After, history, lock_of, new_in, opening_of, party, OpensWith, Holds}
@@ -38,6 +42,10 @@ module _ {T : Type 0} where
   -- from `before` to `now` the pass has written some value, and has then made this call
   abbrev pub WroteSome : TicketCall → TicketSpot T → TicketSpot T → Type 0
   WroteSome = session.WroteSome ticket_tables
+
+  -- The history is a schedule of the model. Unless a party still writes the value at its end, the value is the one written last.
+  abbrev pub Ends : Opening T → T × Trace (Made T) ℕ → Type 0
+  Ends = ending.Ends ticket_tables ticket_meaning with_second
 
   module _ {P R S : Type 0} where
     -- By this call the party at the spot has acquired the guard, whose value is the one written last.

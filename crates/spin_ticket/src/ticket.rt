@@ -2,7 +2,7 @@
 ghost use Rattle.std.specs.Prelude.{Option, IfSome};
 ghost use Rattle.std.specs.Fmt.{DisplaysOnOk};
 ghost use Rattle.spin_core.specs.Texts.{lock_text};
-ghost use Rattle.spin_ticket.specs.TicketPasses.{Grants, Lock, OpensWith, TryLock, new_in, opening};
+ghost use Rattle.spin_ticket.specs.TicketPasses.{Ends, Grants, Lock, OpensWith, TryLock, new_in, opening};
 
 use spin_core::cell::Cell;
 use spin_core::guard::{self, Guard};
@@ -20,7 +20,7 @@ mod pass;
 mod rule;
 
 pub use self::pass::Pass;
-pub use self::rule::{Entry, Party, TicketRule};
+pub use self::rule::{Entry, History, Party, TicketRule};
 pub use spin_core::laws::{a_guard_reads_the_last_value_written, two_guards_read_one_value};
 
 /// A mutual exclusion lock that serves its threads in the order of their tickets, and on which a waiting thread spins.
@@ -91,6 +91,19 @@ impl<T, R> TicketMutex<T, R> {
             cell,
             strategy: Strategy::named(),
         }
+    }
+
+    /// Consumes the mutex and returns the value with the lock's whole history.
+    ///
+    /// # Contract
+    /// The history is a schedule of the lock's model. Unless a party still writes the value at its end (by a leaked guard
+    /// or a dropped hold), the value is the one written last (`Ends`). [`covers`](spin_core::trace::Trace::covers) says
+    /// that the history begins with what a pass knew. The call returns.
+    pub fn into_history(self) -> (T, History<T>)
+        ensures { Ends (opening self) result }
+    {
+        let (_, value, history) = self.cell.into_parts();
+        (value, history)
     }
 
     /// Consumes the mutex and returns the value.

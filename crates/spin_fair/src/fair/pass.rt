@@ -5,12 +5,13 @@ ghost use Rattle.spin_session.specs.Turns.{Stands, history, lock_of, spot};
 ghost use Rattle.spin_step.specs.declared.answer.Answer.TheVariants.{Granted, Refused, Is};
 ghost use Rattle.spin_step_more.specs.declared.fair_calls.FairCall.TheVariants.{Lock, TryLock, TryLockStarver, IsLocked, Starve};
 ghost use Rattle.spin_fair.specs.Fair.{answer_of};
-ghost use Rattle.spin_fair.specs.FairPasses.{After, Calls, FairSpot, Grants, Holds, Unlocks, new_in, opening};
+ghost use Rattle.spin_fair.specs.FairPasses.{After, Calls, FairSpot, Grants, Holds, Recalls, Unlocks, new_in, opening};
 
-use super::rule::FairRule;
+use super::rule::{Entry, FairRule};
 use super::{FairMutex, FairMutexGuard, LockRejectReason, Starvation};
 use spin_core::guard::Guard;
 use spin_core::relax::RelaxStrategy;
+use spin_core::trace::Watch;
 use spin_session::calls::{
     SessionOf, acquire, after, ask, enter, finish, give, guarded, in_three, try_to_acquire,
 };
@@ -220,6 +221,16 @@ impl<'a, T, R> Pass<'a, T, R> {
             session: after(session, &earlier.session),
             strategy,
         }
+    }
+
+    /// Returns what this pass knows of the lock's history. It outlives the lock's borrow.
+    ///
+    /// # Contract
+    /// It is what the pass knows (`Recalls`).
+    pub fn seen(&self) -> Watch<Entry<T>>
+        ensures { Recalls self.now result }
+    {
+        self.session.seen.copy()
     }
 
     /// Compares what two passes of one lock know. It does nothing when it runs.

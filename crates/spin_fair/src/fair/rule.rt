@@ -24,6 +24,9 @@ pub type Party = table::Party<FairCall, FairPoint>;
 /// An entry of the trace of a lock of values of type `T`.
 pub type Entry<T> = table::Entry<FairCall, T>;
 
+/// The whole history of a lock of values of type `T`, at its end.
+pub type History<T> = Trace<Entry<T>>;
+
 /// The rule of a [`FairMutex`](super::FairMutex): its word is the sum of what its holder and its starvers weigh.
 ///
 /// Callers need not name this type. It is a parameter of the type of a guard.

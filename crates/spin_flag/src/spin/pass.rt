@@ -2,14 +2,15 @@
 ghost use Rattle.std.specs.Prelude.{◌≡◌, ◌⊎◌, None, IfOk, IfErr};
 ghost use mathlib.Core.List.{IsPrefix};
 ghost use Rattle.spin_session.specs.Turns.{Stands, history, lock_of, spot};
-ghost use Rattle.spin_flag.specs.Passes.{After, Calls, FlagSpot, Grants, Holds, Unlocks, new_in, opening};
+ghost use Rattle.spin_flag.specs.Passes.{After, Calls, FlagSpot, Grants, Holds, Recalls, Unlocks, new_in, opening};
 ghost use Rattle.spin_step.specs.declared.answer.Answer.TheVariants.{Refused, Is};
 ghost use Rattle.spin_step.specs.declared.flag_calls.FlagCall.TheVariants.{Lock, TryLock, IsLocked};
 
-use super::rule::FlagRule;
+use super::rule::{Entry, FlagRule};
 use super::{SpinMutex, SpinMutexGuard};
 use spin_core::guard::Guard;
 use spin_core::relax::RelaxStrategy;
+use spin_core::trace::Watch;
 use spin_session::calls::{SessionOf, acquire, after, ask, enter, finish, give, try_to_acquire};
 use spin_step::{Answer, FlagCall, Hold};
 use std::marker::{Model, PhantomData};
@@ -175,6 +176,16 @@ impl<'a, T, R> Pass<'a, T, R> {
             session: after(session, &earlier.session),
             strategy,
         }
+    }
+
+    /// Returns what this pass knows of the lock's history. It outlives the lock's borrow.
+    ///
+    /// # Contract
+    /// It is what the pass knows (`Recalls`).
+    pub fn seen(&self) -> Watch<Entry<T>>
+        ensures { Recalls self.now result }
+    {
+        self.session.seen.copy()
     }
 
     /// Compares what two passes of one lock know. It does nothing when it runs.

@@ -19,6 +19,9 @@ pub type Party = table::Party<FlagCall, FlagPoint>;
 /// An entry of the trace of a lock of values of type `T`.
 pub type Entry<T> = table::Entry<FlagCall, T>;
 
+/// The whole history of a lock of values of type `T`, at its end.
+pub type History<T> = Trace<Entry<T>>;
+
 /// The rule of a [`SpinMutex`](super::SpinMutex): its word is 1 while a party holds the lock, else 0.
 ///
 /// Callers need not name this type. It is a parameter of the type of a guard.

@@ -10,7 +10,7 @@ ghost use Rattle.spin_step_more.specs.declared.rw_calls.RwCall.TheVariants.{TryR
 ghost use Rattle.spin_session.specs.Turns.{Stands, spot};
 ghost use Rattle.spin_rwlock.specs.Guards.{shared_value};
 ghost use Rattle.spin_rwlock.specs.Rw.{call_of};
-ghost use Rattle.spin_rwlock.specs.RwPasses.{◌⨾◌, After, Calls, Grants, Holds, Lends, RwSpot, Unlocks, WroteSome, history, lock_of, new_in, opening, opening_of, shared_spot};
+ghost use Rattle.spin_rwlock.specs.RwPasses.{◌⨾◌, After, Calls, Grants, Holds, Lends, Recalls, RwSpot, Unlocks, WroteSome, history, lock_of, new_in, opening, opening_of, shared_spot};
 
 use super::RwLock;
 use super::reader::{RwLockReadGuard, SharedGuard};
@@ -18,6 +18,7 @@ use super::rule::{Entry, Kind, Party, Reader, RwRule, RwSession, Upgrader, call_
 use super::upgradable::RwLockUpgradableGuard;
 use super::writer::RwLockWriteGuard;
 use spin_core::relax::RelaxStrategy;
+use spin_core::trace::Watch;
 use spin_session::calls::{after, ask, begin, enter, finish, wait};
 use spin_session::session::Session;
 use spin_session_more::calls::{attempt, try_for};
@@ -358,6 +359,16 @@ impl<'a, T, R> Pass<'a, T, R> {
             session: after(session, &earlier.session),
             strategy,
         }
+    }
+
+    /// Returns what this pass knows of the lock's history. It outlives the lock's borrow.
+    ///
+    /// # Contract
+    /// It is what the pass knows (`Recalls`).
+    pub fn seen(&self) -> Watch<Entry<T>>
+        ensures { Recalls self.now result }
+    {
+        self.session.seen.copy()
     }
 
     /// Compares what two passes of one lock know. It does nothing when it runs.

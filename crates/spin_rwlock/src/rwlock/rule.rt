@@ -35,6 +35,9 @@ pub type Party = table::Party<RwCall, RwPoint>;
 /// An entry of the trace of a lock of values of type `T`.
 pub type Entry<T> = table::Entry<RwCall, T>;
 
+/// The whole history of a lock of values of type `T`, at its end.
+pub type History<T> = Trace<Entry<T>>;
+
 pub(super) type RwSession<'a, T> = SessionOf<'a, T, RwRule<T>>;
 
 pub(super) type Writer<'a, T> = WritePermit<'a, T, Party, RwRule<T>>;

@@ -2,14 +2,15 @@
 ghost use Rattle.std.specs.Prelude.{◌≡◌, ◌⊎◌, None, IfOk, IfErr};
 ghost use mathlib.Core.List.{IsPrefix};
 ghost use Rattle.spin_session.specs.Turns.{Stands, history, lock_of, spot};
-ghost use Rattle.spin_ticket.specs.TicketPasses.{After, Calls, TicketSpot, Grants, Holds, Unlocks, new_in, opening};
+ghost use Rattle.spin_ticket.specs.TicketPasses.{After, Calls, TicketSpot, Grants, Holds, Recalls, Unlocks, new_in, opening};
 ghost use Rattle.spin_ticket.specs.TicketPasses.{Lock, TryLock, IsLocked};
 ghost use Rattle.spin_step.specs.declared.answer.Answer.TheVariants.{Refused, Is};
 
-use super::rule::{TicketRule, served};
+use super::rule::{Entry, TicketRule, served};
 use super::{TicketMutex, TicketMutexGuard};
 use spin_core::guard::Guard;
 use spin_core::relax::RelaxStrategy;
+use spin_core::trace::Watch;
 use spin_session::calls::{
     SessionOf, acquire, after, enter, finish, give, in_three, try_to_acquire,
 };
@@ -178,6 +179,16 @@ impl<'a, T, R> Pass<'a, T, R> {
             session: after(session, &earlier.session),
             strategy,
         }
+    }
+
+    /// Returns what this pass knows of the lock's history. It outlives the lock's borrow.
+    ///
+    /// # Contract
+    /// It is what the pass knows (`Recalls`).
+    pub fn seen(&self) -> Watch<Entry<T>>
+        ensures { Recalls self.now result }
+    {
+        self.session.seen.copy()
     }
 
     /// Compares what two passes of one lock know. It does nothing when it runs.

@@ -47,6 +47,9 @@ pub type Party = table::Party<TicketCall, TicketPoint>;
 /// An entry of the trace of a lock of values of type `T`.
 pub type Entry<T> = table::Entry<TicketCall, T>;
 
+/// The whole history of a lock of values of type `T`, at its end.
+pub type History<T> = Trace<Entry<T>, u64>;
+
 impl<T> Runs<T> for TicketRule {
     type Call = TicketCall;
 

@@ -1,0 +1,30 @@
+-- What the owner of a lock knows of it at its end.
+use Rattle.std.specs.Prelude.{◌≡◌, ℕ, List}
+use mathlib.Core.List.{IsPrefix}
+use Rattle.spin_core.specs.Cell.{writers_of}
+use Rattle.spin_core.specs.Own.{Numbered}
+use Rattle.spin_core.specs.Values.{IsLast}
+use Rattle.spin_core.specs.declared.tie.Opening.{Opening}
+use Rattle.spin_core.specs.declared.trace.Trace.{Trace}
+use Rattle.spin_core.specs.declared.trace.Watch.{Watch}
+use Rattle.spin_step.specs.Acts.{Table}
+use Rattle.spin_step.specs.Schedules.{Entry}
+use Rattle.spin_step.specs.declared.answer.Answer.{Answer}
+use Rattle.spin_step.specs.declared.place.Seat.{Seat}
+use Rattle.spin_session.specs.Meaning.{Meaning, Beside, RunsOn, use_of_party}
+use Rattle.spin_session.specs.Turns.{Spot, history, lock_of}
+
+-- The whole history of this lock is a schedule of its model that leads to the lock's words and to these parties. Unless one of them still
+-- writes the value, the value is the one written last.
+abbrev pub Ends : {W V C L S : Type 0} → (ℕ → V → Table W V C L (Answer V)) → Meaning C L → Beside S → Opening V → V × Trace (Entry C V) S → Type 0
+Ends {C = C} {L = L} t s k opening end =
+    (word : ℕ) × (parties : List (Numbered (Seat C L))) × RunsOn t s k opening word end.1 parties × (writers_of (use_of_party s) parties ≡ 0 → IsLast opening end.1.entries end.0)
+
+module _ {V C L : Type 0} where
+  -- the watch knows of the lock's history what the pass knows
+  abbrev pub Recalls : Spot V C L → Watch (Entry C V) → Type 0
+  Recalls pass seen = (seen.name ≡ lock_of pass) × (seen.entries ≡ history pass)
+
+  -- the whole history of the lock contains all that some pass knew which had done this
+  abbrev pub Includes : {S : Type 0} → (Spot V C L → Type 0) → Trace (Entry C V) S → Type 0
+  Includes did whole = (pass : Spot V C L) × did pass × IsPrefix (history pass) whole.entries
