@@ -1,18 +1,15 @@
 -- If the trace of a lock on threads is a schedule of its model, then all that the model's laws say of this schedule
 -- holds of the lock.
-use Rattle.std.proofs.Common.{◌≡◌, ◌≢◌, ◌⊎◌, inr, ⊎_elim, ℕ, suc, ◌+◌, ◌≤◌, true, false, Option, Some, None, List, [], ◌∷◌, ◌++◌, length, map, slice_get, refl, sym, ap, ◌∙◌, subst, arith}
-use Rattle.std.specs.List.{All, list_all}
+use Rattle.std.proofs.Common.{◌≡◌, ◌≢◌, ◌⊎◌, inr, ⊎_elim, ℕ, suc, ◌+◌, ◌≤◌, false, Option, Some, None, List, [], ◌∷◌, ◌++◌, length, map, slice_get, refl, sym, ap, ◌∙◌, subst, arith}
+use Rattle.std.specs.List.{All}
 use Rattle.std.specs.Option.{option_map}
-use Rattle.std.proofs.lemmas.Bool.{and_parts, false≢true}
 use Rattle.std.proofs.lemmas.List.{append-nil}
 use Rattle.std.proofs.lemmas.Option.{slice_get_past, slice_get_within, slice_get-map, get_or_from_slice_get}
 use Rattle.std.proofs.lemmas.List.Elements.{All-nil, All-cons, All-head, All-tail, All-same, All-map}
 use Rattle.spin_core.specs.Own.{Numbered, IsRun, present_from, kind}
-use Rattle.spin_core.specs.Run.{AreOfCalls, is_of_call, sits}
+use Rattle.spin_core.specs.Run.{AreOfCalls, sits}
 use Rattle.spin_step.specs.declared.place.Seat.{Seat}
 use Rattle.spin_step.specs.declared.place.Seat.TheVariants.{Idle}
-use Rattle.spin_step.specs.declared.schedule.Move.{Move}
-use Rattle.spin_step.specs.declared.schedule.Move.TheVariants.{Weak}
 use Rattle.spin_step.specs.Acts.{Table}
 use Rattle.spin_step.specs.Machines.{Machine}
 use Rattle.spin_step.specs.Schedules.{State, Entry, after, at_first}
@@ -21,7 +18,7 @@ use Rattle.spin_world_core.specs.Users.{seen_after}
 use Rattle.spin_world_core.proofs.Shapes.{Notes}
 use Rattle.spin_world_core.proofs.Steps.{played, Plays}
 use Rattle.spin_world_core.proofs.Reached as reached
-use Rattle.spin_laws.specs.Between.{Between, NoneFailsSpuriously, is_sure}
+use Rattle.spin_laws.specs.Between.{Between, NoneFailsSpuriously}
 
 module _ {W V C L A X S : Type 0} (m : Machine W V C L A) (seat_of : X → Seat C L) (words_of : W → ℕ × S) where
   abbrev seats : List (Option (X × ℕ)) → List (Seat C L)
@@ -90,13 +87,7 @@ module _ {W V C L A B X S : Type 0} {t : Table W V C L B} {by : Machine W V C L 
   -- threads make a move `Weak` only where closures make the value
   pub none_fails : m.lock_kind.makes_value ≡ false → (log : List (Entry C V)) → AreOfCalls m log → NoneFailsSpuriously log
   none_fails strong [] fits = refl
-  none_fails strong (e ∷ es) fits =
-      let each = and_parts (is_of_call m e.1) (list_all (λ x. is_of_call m x.1) es) fits in
-      rw (by_move e.1 each.0) (none_fails strong es each.1)
-    where
-      by_move : (move : Move C V) → is_of_call m move ≡ true → is_sure move ≡ true
-      by_move Weak is = absurd (false≢true (sym strong ∙ is))
-      by_move _ is = refl
+  none_fails strong (e ∷ es) fits = grind (arith, strong, fits, none_fails strong es)
 
   pub between : (log : List (Entry C V)) (words : ℕ × S) (parties : List (Numbered X)) → NoneFailsSpuriously log → IsRun m seat_of words_of log words parties → Between m seat_of words_of log words parties
   between log words parties sure (came, w, value, is, words_is, led, played, rested, fits) =

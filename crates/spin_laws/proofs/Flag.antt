@@ -1,11 +1,11 @@
 -- A flag is granted within four rounds. Its holder leaves within two rounds, and a waiting party takes two rounds to make
 -- its exchange.
-use Rattle.spin_laws.proofs.Names.{seat_of, ◌≡◌, ℕ, ◌≤◌, ◌⊎◌, ◌||◌, Bool, true, false, Option, Some, None, List, [], ◌∷◌, slice_get, refl, arith, ◌==◌, Holder, is_empty, entries, Hold, Calling, Next, Answers, Answer, Move, Step, Weak, Machine, goes_on, after, at_first, Seen, scene_at, entries_after, empty_is, ◌-◌, filter, not, Done, flag_machine, get-set_same, eqb_self, Invariant, StandsSo, Test, grants_any, refuses_weakly}
+use Rattle.spin_laws.proofs.Names.{seat_of, ◌≡◌, ℕ, ◌≤◌, ◌⊎◌, ◌||◌, Bool, true, false, Option, Some, List, [], ◌∷◌, refl, arith, ◌==◌, Holder, is_empty, entries, Hold, Calling, Answer, Move, Step, Machine, after, at_first, Seen, scene_at, empty_is, ◌-◌, filter, not, Done, flag_machine, get-set_same, eqb_self, Invariant, Test, grants_any, refuses_weakly}
 use Rattle.spin_step.specs.declared.flag_calls.FlagCall.{FlagCall}
-use Rattle.spin_step.specs.declared.flag_calls.FlagCall.TheVariants.{Lock, Release}
+use Rattle.spin_step.specs.declared.flag_calls.FlagCall.TheVariants.{Lock}
 use Rattle.spin_step.specs.declared.flag_calls.FlagPoint.{FlagPoint}
 use Rattle.spin_step.specs.declared.flag_calls.FlagPoint.TheVariants.{Second}
-use Rattle.spin_world.proofs.FlagOwed.{flag_notes, flag_facts}
+use Rattle.spin_world.proofs.FlagOwed.{flag_facts}
 use Rattle.spin_laws.specs.Flag.{LocksInFour, IsDeadlockFree}
 use Rattle.spin_laws.proofs.Endless.{at_last}
 use Rattle.spin_laws.proofs.Waiting.{holds_lock}
@@ -39,18 +39,6 @@ module _ {V : Type 0} (v : V) where
         (goal p Step x.outcome (seat_of x.after p) ≡ true) ⊎ ((i : FlagPoint) × (seat_of x.after p ≡ Some (Calling Lock i h)) × Unit {0} × (Nobody seen → rank_by i ≤ rank_by l - 1))
     own seen l good there b is = grind (arith, get-set_same, nobody_holds)
 
-    -- a step that makes a party a holder is a grant
-    comes : (seen : World) (q : ℕ) (c : FlagCall) (l : FlagPoint) (h : Option Hold) (b : Bool) → seen.state.words ≡ b → holds_lock (entries q seen.plain) ≡ false
-        → let x = scene_at m seen q Step (Some (Calling c l h)) in (goal q Step x.outcome (seat_of x.after q) ≡ true) ⊎ (holds_lock (entries_after seen.plain x.change (entries q seen.plain)) ≡ false)
-    comes seen q c l h b is none = grind (arith, is, none, empty_is (entries q seen.plain).holders)
-
-    releases : (q : ℕ) (c : FlagCall) (l : FlagPoint) (h : Option Hold) (w : Bool) (u : Option V) → StandsSo (flag_notes v) holds_lock q c l h → (a : Answer V) × ((m.step w u c l h).next ≡ Answers a None)
-    releases q Release l h w u so = (Done, refl)
-    releases q c l h w u so = absurd (grind (arith, so))
-
-    weak : (seen : World) (l : FlagPoint) (next : Next FlagPoint (Answer V)) → let n = goes_on seen.state p Lock h next in goal p Weak n.outcome (slice_get n.next.seats p) ≡ true
-    weak seen l next = grind (arith, eqb_self)
-
     leaves : leaving.Leaves (flag_facts v) goal p Lock h (λ l. Unit {0}) holds_lock rank_by 2
     leaves =
         record {
@@ -58,9 +46,9 @@ module _ {V : Type 0} (v : V) where
           not_its = λ l at so. grind (arith, so);
           reads = λ q h is. grind (arith, is);
           own = λ seen l good there at. own seen l good there seen.state.words refl;
-          weak = λ seen l next at may. weak seen l next;
-          comes = λ seen l q d i j w there none opens. comes seen q d i j seen.state.words refl none;
-          releases = releases;
+          weak = λ seen l next at may. grind (arith, eqb_self);
+          comes = λ seen l q d i j w there none opens. grind (arith, none, empty_is (entries q seen.plain).holders);
+          releases = λ q d i j w u so. (Done, grind (arith, so));
           strong = λ q d i j next so may. grind (arith, so, may);
           few = λ l. grind arith;
           some = λ l. grind arith;

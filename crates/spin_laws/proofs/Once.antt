@@ -168,11 +168,7 @@ module _ {V : Type 0} (value : Option V) where
           y = scene_at m seen q Step (Some (Calling d i j))
 
           by : (b : Bool) → is_running q s.phase ≡ b → walk.Reaches f x y ⊎ walk.Falls f x seen l q y n
-          by true runs =
-              let two : 2 ≤ suc n = subst (λ b. (if b then 2 else 0) ≤ suc n) runs (within.theirs q ne) in
-              let its = w.2 q (theirs_run s.phase q (rw runs (omega arith))) in
-              ⊎_elim inl (λ (done : y.after.plain.phase ≡ complete). inr (record { his = rw done (omega arith); mine = rw done (omega (arith, two)); others = rw done (λ o other not_his. omega arith) }))
-              (run_ends q d i j at (same_point d i j its.0 its.1 (sym at ∙ its.2)))
+          by true runs = grind (arith, theirs_run, s, y, run_ends, same_point, runs)
           by false rests =
               ⊎_elim (λ (same : y.after.plain.phase ≡ s.phase). inr (record { his = rw (same, rests) (omega arith); mine = rw same (omega arith); others = rw same (λ o other not_his. omega arith) }))
               (λ (began : (s.phase ≡ nothing) × (y.after.plain.phase ≡ running q)).

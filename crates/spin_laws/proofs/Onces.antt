@@ -4,7 +4,7 @@ use Rattle.std.proofs.Common.{◌≡◌, ℕ, zero, suc, ◌+◌, ◌==◌, if�
 use lib.Seq.{drop-length}
 use Rattle.std.specs.Option.{option_map}
 use Rattle.std.specs.List.{list_all}
-use Rattle.std.proofs.lemmas.Bool.{and_parts, eqb-false}
+use Rattle.std.proofs.lemmas.Bool.{and_parts}
 use Rattle.std.proofs.lemmas.List.{append_assoc}
 use Rattle.spin_step.specs.Plain.{Plain, is_complete, once_word}
 use Rattle.spin_core.specs.Own.{Numbered, by_party, entries_by}
@@ -80,11 +80,7 @@ module _ (given : Option (Unit {0})) where
 
   -- so a step has the same outcome with the present value as with the value `tt`
   step_same : (s : World) → HasIt s → (c : OnceCall (Unit {0})) (l : OncePoint) (h : Option Hold) → (t given).step s.words (Some tt) c l h ≡ (t given).step s.words s.value c l h
-  step_same s has c l h = by_word (s.words == 2) refl
-    where
-      by_word : (b : Bool) → (s.words == 2) ≡ b → (t given).step s.words (Some tt) c l h ≡ (t given).step s.words s.value c l h
-      by_word true is = ap (λ v. (t given).step s.words v c l h) (sym (has (eqb-true s.words 2 is)))
-      by_word false other = looks_where_complete given s.words (Some tt) s.value c l h (λ e. eqb-false s.words 2 other e)
+  step_same s has c l h = grind (arith, has, looks_where_complete given s.words (Some tt) s.value c l h)
 
   -- a move of a party whose closure does not fail has the same outcome in the object's schedule
   own_same : (f : ℕ → Bool) (s : World) (p : ℕ) (move : OneMove) (o : Option (Seat (OnceCall (Unit {0})) Point)) → HasIt s → is_plain move ≡ true
@@ -93,9 +89,7 @@ module _ (given : Option (Unit {0})) where
   own_same f s p move o has plain = grind (arith, plain, named_kept)
 
   happens_same : (f : ℕ → Bool) (s : World) (p : ℕ) (move : OneMove) → f p ≡ false → HasIt s → is_plain move ≡ true → (happens (t given) (object f s) p (renamed move (f p))).outcome ≡ (happens (m given) s p move).outcome
-  happens_same f s p move fine has plain =
-      ap (λ o. (moves_at (t given) (object f s) p (renamed move (f p)) o).outcome) (named_get f s.seats p)
-      ∙ ap (λ b. (moves_at (t given) (object f s) p (renamed move b) (option_map (λ y. seat_named y b) (slice_get s.seats p))).outcome) fine ∙ own_same f s p move (slice_get s.seats p) has plain
+  happens_same f s p move fine has plain = rw (named_get f s.seats p, fine) (own_same f s p move (slice_get s.seats p) has plain)
 
   -- after each beginning of these entries, if the word says that there is a value, there is one
   abbrev HasAlways : World → List Made → Type 0
@@ -135,8 +129,7 @@ module _ (given : Option (Unit {0})) where
   as_object n es played = ap (λ o. after (t given) o (foretold es)) (sym (first_named given (will_fail es) n)) ∙ (all_alike given es (From n) played).0
 
   lies : (o : Option (Unit {0})) → is_some o ≡ true → o ≡ Some tt
-  lies None is = absurd (let d : false ≡ true = is in cc)
-  lies (Some v) is = refl
+  lies o is = grind (arith, is)
 
   complete_by : (s : Plain) → once_word s ≡ 2 → is_complete s.phase ≡ true
   complete_by s is = grind (arith, is)

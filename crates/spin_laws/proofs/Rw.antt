@@ -1,9 +1,9 @@
 -- A party that has asked to upgrade gets its upgrade in three rounds. All other readers leave within the first two
 -- rounds.
 use Rattle.spin_step.specs.Plain.{comes, given}
-use Rattle.spin_laws.proofs.Names.{Plays, seat_of, ◌≡◌, ℕ, ◌≤◌, ◌==◌, Bool, true, false, Option, Some, None, List, [], ◌∷◌, slice_get, refl, sym, ◌∙◌, arith, Plain, Kind, reading, upgradable, asking, writing, Holder, Change, gets, releases, turns, is_holder, with_kind, count_kind, weight, rw_word, entries, apply_some, IsOpenStep, IsExclusive, ◌-◌, ◌⊎◌, ◌||◌, filter, sum_by-cons, list_any, same_kind, without_holder, effect, apply, is_open, is_open_to, Ask, entries_after, entries-own, against, one_of, by_kinds, all_kinds, sum-less, Answer, Done, Hold, Seat, Calling, Next, Answers, Move, Step, Weak, Machine, after, at_first, goes_on, Seen, Scene, scene_at, opening, seen_after, get-set_same, eqb_self, Invariant, in_call, StandsSo, calls_so, RwCall, Upgrade, RwPoint, Asking, rw_machine, rw_notes, rw_facts, holder_by, Test, grants, refuses_weakly, UpgradesInThree, UpgradesAtLast}
+use Rattle.spin_laws.proofs.Names.{Plays, seat_of, ◌≡◌, ℕ, ◌≤◌, ◌==◌, Bool, true, false, Option, Some, List, [], ◌∷◌, refl, sym, ◌∙◌, arith, Plain, Kind, reading, upgradable, asking, writing, Holder, Change, gets, releases, turns, is_holder, with_kind, count_kind, weight, rw_word, entries, apply_some, IsOpenStep, IsExclusive, ◌-◌, ◌⊎◌, ◌||◌, filter, sum_by-cons, list_any, same_kind, without_holder, effect, apply, is_open, is_open_to, Ask, entries_after, entries-own, against, one_of, by_kinds, all_kinds, sum-less, Answer, Done, Hold, Seat, Calling, Move, Step, Machine, after, at_first, Seen, Scene, scene_at, opening, seen_after, get-set_same, eqb_self, Invariant, in_call, StandsSo, calls_so, RwCall, Upgrade, RwPoint, Asking, rw_machine, rw_notes, rw_facts, holder_by, Test, grants, refuses_weakly, UpgradesInThree, UpgradesAtLast}
 use Rattle.spin_step.proofs.Exclusive.{Lets, lets}
-use Rattle.spin_world.proofs.RwNames.{Entries, one_of_each, only_asking-word, Release}
+use Rattle.spin_world.proofs.RwNames.{Entries, one_of_each, only_asking-word}
 use Rattle.spin_step_more.proofs.Readers.{beside_asking}
 use Rattle.spin_step_more.proofs.Upgrading.{alone_when_gone}
 use Rattle.std.proofs.Common.{true≢false}
@@ -70,9 +70,6 @@ module _ {V : Type 0} (v : V) (cap : ℕ) where
     abbrev goal : Test V RwCall RwPoint (Answer V)
     goal q move o x = grants m p q move o x || refuses_weakly p q move o x
 
-    weak : (seen : World) (next : Next RwPoint (Answer V)) → let n = goes_on seen.state p Upgrade (Some hold.Upgradable) next in goal p Weak n.outcome (slice_get n.next.seats p) ≡ true
-    weak seen next = grind (arith, eqb_self)
-
     abbrev its : Option (Seat RwCall RwPoint)
     its = Some (Calling Upgrade Asking (Some hold.Upgradable))
 
@@ -104,9 +101,9 @@ module _ {V : Type 0} (v : V) (cap : ℕ) where
           not_its = λ l at so. grind (arith, at, so);
           reads = λ q h is. grind (arith, is);
           own = own_at;
-          weak = λ seen l next at may. weak seen next;
-          comes = comes_at;
-          releases = releases_at;
+          weak = λ seen l next at may. grind (arith, eqb_self);
+          comes = λ seen l q d i j w there none opens. grind (arith, no_reader, w, there, none, opens);
+          releases = λ q d i j w u so. (Done, grind (arith, so));
           strong = λ q d i j next so may. grind (arith, so, may);
           few = λ l. omega arith;
           some = λ l. omega arith;
@@ -115,15 +112,6 @@ module _ {V : Type 0} (v : V) (cap : ℕ) where
         own_at : (seen : World) (l : RwPoint) → Invariant f seen → seat_of seen p ≡ Some (Calling Upgrade l (Some hold.Upgradable)) → at_upgrade l → let x = scene_at m seen p Step (Some (Calling Upgrade l (Some hold.Upgradable))) in
             (goal p Step x.outcome (seat_of x.after p) ≡ true) ⊎ ((i : RwPoint) × (seat_of x.after p ≡ Some (Calling Upgrade i (Some hold.Upgradable))) × at_upgrade i × (((q : ℕ) → any_of reading (entries q seen.plain) ≡ false) → 1 ≤ 1 - 1))
         own_at seen l good there at = grind (arith, true≢false, open_now, own)
-
-        comes_at : (seen : World) (l : RwPoint) (q : ℕ) (d : RwCall) (i : RwPoint) (j : Option Hold) → leaving.Waits f goal p Upgrade (Some hold.Upgradable) at_upgrade (any_of reading) (λ l. 1) 1 seen l
-            → seat_of seen q ≡ Some (Calling d i j) → any_of reading (entries q seen.plain) ≡ false → let y = scene_at m seen q Step (Some (Calling d i j)) in IsOpenStep seen.plain q y.change
-            → (goal q Step y.outcome (seat_of y.after q) ≡ true) ⊎ (any_of reading (entries_after seen.plain y.change (entries q seen.plain)) ≡ false)
-        comes_at seen l q d i j w there none opens = grind (arith, no_reader)
-
-        releases_at : (q : ℕ) (c : RwCall) (l : RwPoint) (h : Option Hold) (w : ℕ) (u : Option V) → StandsSo (rw_notes v cap) (any_of reading) q c l h → (a : Answer V) × ((m.step w u c l h).next ≡ Answers a None)
-        releases_at q Release l (Some hold.Read) w u so = (Done, refl)
-        releases_at q c l h w u so = absurd (grind (arith, so))
 
   asking_at : (p : ℕ) (c : RwCall) (l : RwPoint) (h : Option Hold) → StandsSo (rw_notes v cap) (any_of asking) p c l h → Some (Calling c l h) ≡ Some (Calling Upgrade Asking (Some hold.Upgradable))
   asking_at p c l h stands = grind (arith, stands)

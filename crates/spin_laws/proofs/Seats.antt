@@ -1,11 +1,11 @@
 -- A seat is granted within four rounds. Parties that have a seat leave within two rounds, and a waiting party takes two
 -- rounds to look and make its exchange.
-use Rattle.spin_laws.proofs.Names.{seat_of, cases_eq, ◌≡◌, ℕ, ◌≤◌, ◌⊎◌, ◌==◌, Bool, true, false, Option, Some, None, List, nat_lt, refl, arith, entries, Hold, Calling, Answers, Answer, Move, Step, after, at_first, Seen, scene_at, ◌-◌, if◌then◌else◌, entries_after, empty_is, seats, lt-ltb, Done, SeatsMachine, seats_machine, get-set_same, Invariant, StandsSo, Test, grants_any}
+use Rattle.spin_laws.proofs.Names.{seat_of, cases_eq, ◌≡◌, ℕ, ◌≤◌, ◌⊎◌, ◌==◌, Bool, true, false, Option, Some, List, nat_lt, refl, arith, entries, Hold, Calling, Answer, Move, Step, after, at_first, Seen, scene_at, ◌-◌, if◌then◌else◌, empty_is, seats, lt-ltb, Done, SeatsMachine, seats_machine, get-set_same, Invariant, Test, grants_any}
 use Rattle.spin_seats.specs.declared.calls.SeatsCall.{SeatsCall}
-use Rattle.spin_seats.specs.declared.calls.SeatsCall.TheVariants.{Enter, Leave}
+use Rattle.spin_seats.specs.declared.calls.SeatsCall.TheVariants.{Enter}
 use Rattle.spin_seats.specs.declared.calls.SeatsPoint.{SeatsPoint}
 use Rattle.spin_seats.specs.declared.calls.SeatsPoint.TheVariants.{First, Exchange}
-use Rattle.spin_world_seats.proofs.Owed.{seats_notes, seats_facts}
+use Rattle.spin_world_seats.proofs.Owed.{seats_facts}
 use Rattle.spin_laws.specs.Seats.{SeatsSomebodyInFour, SeatsAreDeadlockFree}
 use Rattle.spin_laws.proofs.Endless.{at_last}
 use Rattle.spin_laws.proofs.Flag.{nobody_holds}
@@ -43,15 +43,6 @@ module _ (n : ℕ) (some : 1 ≤ n) where
         (goal p Step x.outcome (seat_of x.after p) ≡ true) ⊎ ((i : SeatsPoint) × (seat_of x.after p ≡ Some (Calling Enter i h)) × Unit {0} × (Nobody seen → rank_by i ≤ rank_by l - 1))
     own seen l good there = grind (arith, get-set_same, nobody_holds, good.encodes, room, cases_eq seen.state.words 0)
 
-    -- a step that makes a party a holder is a grant
-    comes : (seen : World) (q : ℕ) (c : SeatsCall) (l : SeatsPoint) (h : Option Hold) → holds_lock (entries q seen.plain) ≡ false
-        → let x = scene_at m seen q Step (Some (Calling c l h)) in (goal q Step x.outcome (seat_of x.after q) ≡ true) ⊎ (holds_lock (entries_after seen.plain x.change (entries q seen.plain)) ≡ false)
-    comes seen q c l h none = grind (arith, none, empty_is (entries q seen.plain).holders)
-
-    releases : (q : ℕ) (c : SeatsCall) (l : SeatsPoint) (h : Option Hold) (w : ℕ) (u : Option (Unit {0})) → StandsSo (seats_notes n) holds_lock q c l h → (a : Answer (Unit {0})) × ((m.step w u c l h).next ≡ Answers a None)
-    releases q Leave l h w u so = (Done, refl)
-    releases q c l h w u so = absurd (grind (arith, so))
-
     leaves : leaving.Leaves (seats_facts n) goal p Enter h (λ l. Unit {0}) holds_lock rank_by 2
     leaves =
         record {
@@ -60,8 +51,8 @@ module _ (n : ℕ) (some : 1 ≤ n) where
           reads = λ q h is. grind (arith, is);
           own = λ seen l good there at. own seen l good there;
           weak = λ seen l next at may. absurd (grind (arith, may));
-          comes = λ seen l q d i j w there none opens. comes seen q d i j none;
-          releases = releases;
+          comes = λ seen l q d i j w there none opens. grind (arith, none, empty_is (entries q seen.plain).holders);
+          releases = λ q d i j w u so. (Done, grind (arith, so));
           strong = λ q d i j next so may. grind (arith, may);
           few = λ l. grind arith;
           some = λ l. grind arith;

@@ -323,7 +323,7 @@ module _ {V : Type 0} (v : V) (first : ℕ) where
     -- the party takes its ticket, whose number was the next one
     own_taken : (seen : World) (j r : ℕ) → (w : walk.Waits f x seen (Take j)) → walk.Within f x seen (Take j) (suc r) → walk.After f x seen p (its seen (Take j)) → seen.state.words.next ≡ j → nat_lt seen.state.words.next ticket_limit ≡ true → walk.Own f x seen (Take j) r (its seen (Take j))
     own_taken seen j r w within made e left =
-        inr (Await j, at, tt, omega (arith, bit_few (first_party sc.after.plain.tickets == p), some_wait), λ o other not_its. others_now o other)
+        inr (Await j, at, tt, omega (arith, bit_few (first_party sc.after.plain.tickets == p), fresh, doorway_two n (N - seen.plain.next) (omega (arith, one_left))), λ o other not_its. others_now o other)
       where
         s : Plain
         s = seen.plain
@@ -331,23 +331,17 @@ module _ {V : Type 0} (v : V) (first : ℕ) where
         sc : Scene TicketWords V TicketCall TicketPoint (Answer V)
         sc = its seen (Take j)
 
-        is : (seen.state.words.next == j) ≡ true
-        is = eq-eqb seen.state.words.next j e
-
         at : seat_of sc.after p ≡ Some (Calling Lock (Await j) None)
-        at = rw (is, left) (get-set_same seen.state.seats p _ _ w.0)
+        at = rw (eq-eqb seen.state.words.next j e, left) (get-set_same seen.state.seats p _ _ w.0)
 
         taken : (sc.after.plain.next ≡ s.next + 1) × (sc.after.plain.tickets ≡ s.tickets ++ queued p s.next false ∷ [])
-        taken = rw (is, left) (refl, refl)
+        taken = rw (eq-eqb seen.state.words.next j e, left) (refl, refl)
 
         fresh : doorway n (N - s.next) true ≤ suc r
         fresh = omega (arith, within.mine, ap (doorway n (N - s.next)) (eq-eqb j s.next (sym e ∙ next_is seen (Take j) w)))
 
         one_left : s.next + 1 ≤ N
         one_left = omega (arith, made.fine, taken.0)
-
-        some_wait : 1 ≤ r
-        some_wait = omega (arith, fresh, doorway_two n (N - s.next) (omega (arith, one_left)))
 
         few_ahead : j - serving_word sc.after.plain + 1 ≤ n
         few_ahead = near sc.after (Await j) (at, tt, made.known, made.good) j refl

@@ -5,6 +5,8 @@ use Rattle.std.proofs.lemmas.List.{append_cancel_right}
 use Rattle.spin_seated.specs.declared.history.Entry.{Entry}
 use Rattle.spin_seated.specs.declared.history.Known.{Known}
 use Rattle.spin_seated.specs.Histories.{Machine, BeginsWith, entry, calls_by, after, state, IsLegalFrom, IsLegal, holds, IsTracked, Made, Met, Turned, held_then}
+use Rattle.std.proofs.lemmas.List.{append_cancel_left, nil_from_length}
+use Rattle.std.proofs.lemmas.List.Elements.{filter-append}
 
 module _ {X : Type 0} where
   pub begins_here : (xs : List X) → BeginsWith xs xs
@@ -14,20 +16,11 @@ module _ {X : Type 0} where
   begins_longer xs ys zs b = record { rest = b.rest ++ zs; is = ap (λ (l : List X). l ++ zs) b.is ∙ append_assoc ys b.rest zs }
 
   nothing_more : (xs ys : List X) → xs ++ ys ≡ xs → ys ≡ []
-  nothing_more xs [] same = refl
-  nothing_more xs (y ∷ ys) same = absurd (omega (arith, length-append xs (y ∷ ys), ap length same))
-
-  no_length : (xs : List X) → length xs ≡ 0 → xs ≡ []
-  no_length [] none_left = refl
-  no_length (x ∷ xs) some_left = absurd (omega arith)
+  nothing_more xs ys same = append_cancel_left xs ys [] (same ∙ sym (append-nil xs))
 
 module _ {C A : Type 0} where
-  joined : (b : Bool) (e : Entry C A) (xs ys zs : List (Entry C A)) → zs ≡ xs ++ ys → (if b then e ∷ zs else zs) ≡ (if b then e ∷ xs else xs) ++ ys
-  joined b e xs ys zs is = grind arith
-
   pub calls_by-append : (p : ℕ) (xs ys : List (Entry C A)) → calls_by p (xs ++ ys) ≡ calls_by p xs ++ calls_by p ys
-  calls_by-append p [] ys = refl
-  calls_by-append p (e ∷ es) ys = joined (e.pass == p) e (calls_by p es) (calls_by p ys) (calls_by p (es ++ ys)) (calls_by-append p es ys)
+  calls_by-append p xs ys = rw filter-append refl
 
   pub calls_by-own : (p : ℕ) (c : C) (a : A) → calls_by p (entry p c a ∷ []) ≡ entry p c a ∷ []
   calls_by-own p c a = ap (λ (b : Bool). if b then entry p c a ∷ [] else []) (eq-eqb p p refl)
@@ -40,7 +33,7 @@ module _ {C A : Type 0} where
   none_between p all mid first more some same =
       let one : calls_by p mid ≡ calls_by p first ++ calls_by p some.rest = ap (calls_by p) some.is ∙ calls_by-append p first some.rest in
       let two : calls_by p all ≡ calls_by p mid ++ calls_by p more.rest = ap (calls_by p) more.is ∙ calls_by-append p mid more.rest in
-      let none_left : calls_by p some.rest ≡ [] = no_length (calls_by p some.rest)
+      let none_left : calls_by p some.rest ≡ [] = nil_from_length (calls_by p some.rest)
       (omega (arith, ap length one, ap length two, ap length same, length-append (calls_by p first) (calls_by p some.rest), length-append (calls_by p mid) (calls_by p more.rest))) in
       one ∙ (ap (λ (l : List (Entry C A)). calls_by p first ++ l) none_left ∙ append-nil (calls_by p first))
 

@@ -1,5 +1,6 @@
 -- The one history of a lock's calls, what each pass knows of it, and what a step tells.
-use Rattle.std.specs.Prelude.{◌≡◌, ◌≢◌, ℕ, ◌+◌, ◌<◌, ◌≤◌, Bool, true, cond, if◌then◌else◌, ◌==◌, List, [], ◌∷◌, ◌++◌, Option, Some, None, slice_index, slice_set, map}
+use Rattle.std.specs.Prelude.{◌≡◌, ◌≢◌, ℕ, ◌+◌, ◌<◌, ◌≤◌, Bool, true, cond, ◌==◌, List, [], ◌∷◌, ◌++◌, Option, Some, None, slice_index, slice_set, map}
+use Rattle.std.specs.List.{filter}
 use Rattle.std.specs.List.{range_with_len}
 use mathlib.Core.Option.{some}
 use lib.ListN.{get_elem?}
@@ -49,8 +50,7 @@ module _ {C A : Type 0} where
 
   -- the calls of one pass, in their order in the history
   abbrev pub calls_by : ℕ → List (Entry C A) → List (Entry C A)
-  calls_by p [] = []
-  calls_by p (e ∷ es) = if e.pass == p then e ∷ calls_by p es else calls_by p es
+  calls_by p es = filter (λ e. e.pass == p) es
 
 module _ {K C A : Type 0} where
   -- the calls that a pass knows to be its own
