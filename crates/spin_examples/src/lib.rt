@@ -8,6 +8,7 @@ pub mod adding;
 pub mod after;
 pub mod any_lock;
 pub mod batch;
+pub mod ending;
 pub mod from_rust;
 pub mod guide;
 pub mod order;

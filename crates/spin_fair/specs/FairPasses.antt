@@ -43,7 +43,7 @@ module _ {T : Type 0} where
   abbrev pub WroteSome : FairCall → FairSpot T → FairSpot T → Type 0
   WroteSome = session.WroteSome fair_tables
 
-  -- The history is a schedule of the model. Unless a party still writes the value at its end, the value is the one written last.
+  -- The history is a schedule of the model. Unless a party still writes the value, the value is the one written last.
   abbrev pub Ends : Opening T → T × Trace (Done T) (Unit {0}) → Type 0
   Ends = ending.Ends fair_tables fair_meaning just_one
 

@@ -44,7 +44,7 @@ module _ {T : Type 0} where
   abbrev pub WroteSome : FlagCall → FlagSpot T → FlagSpot T → Type 0
   WroteSome = session.WroteSome flag_tables
 
-  -- The history is a schedule of the model. Unless a party still writes the value at its end, the value is the one written last.
+  -- The history is a schedule of the model. Unless a party still writes the value, the value is the one written last.
   abbrev pub Ends : Opening T → T × Trace (Done T) (Unit {0}) → Type 0
   Ends = ending.Ends flag_tables flag_meaning just_one
 

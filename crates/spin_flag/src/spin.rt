@@ -112,9 +112,9 @@ impl<T, R> SpinMutex<T, R> {
     /// Consumes the mutex and returns the value with the lock's whole history.
     ///
     /// # Contract
-    /// The history is a schedule of the lock's model. Unless a party still writes the value at its end (by a leaked guard
-    /// or a dropped hold), the value is the one written last (`Ends`). [`covers`](spin_core::trace::Trace::covers) says
-    /// that the history begins with what a pass knew. The call returns.
+    /// The history is a schedule of the lock's model. Unless a party still writes the value at its end (a guard was
+    /// leaked, or a hold dropped), the value is the one written last (`Ends`). The history begins with what a pass knew
+    /// ([`covers`](spin_core::trace::Trace::covers)). The call returns.
     pub fn into_history(self) -> (T, History<T>)
         ensures { Ends (opening self) result }
     {

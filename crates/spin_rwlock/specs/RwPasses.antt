@@ -45,7 +45,7 @@ module _ {T : Type 0} where
   abbrev pub WroteSome : RwCall → RwSpot T → RwSpot T → Type 0
   WroteSome = session.WroteSome rw_tables
 
-  -- The history is a schedule of the model. Unless a party still writes the value at its end, the value is the one written last.
+  -- The history is a schedule of the model. Unless a party still writes the value, the value is the one written last.
   abbrev pub Ends : Opening T → T × Trace (Entry RwCall T) (Unit {0}) → Type 0
   Ends = ending.Ends rw_tables rw_meaning just_one
 

@@ -14,11 +14,13 @@ use Rattle.spin_step.specs.declared.place.Seat.{Seat}
 use Rattle.spin_session.specs.Meaning.{Meaning, Beside, RunsOn, use_of_party}
 use Rattle.spin_session.specs.Turns.{Spot, history, lock_of}
 
--- The whole history of this lock is a schedule of its model that leads to the lock's words and to these parties. Unless one of them still
--- writes the value, the value is the one written last.
-abbrev pub Ends : {W V C L S : Type 0} → (ℕ → V → Table W V C L (Answer V)) → Meaning C L → Beside S → Opening V → V × Trace (Entry C V) S → Type 0
+-- The whole history of this lock is a schedule of its model that leads to the lock's words and to these parties. Unless
+-- one of them still writes the value, the value is the one written last.
+abbrev pub Ends : {W V C L S : Type 0} → (ℕ → V → Table W V C L (Answer V)) → Meaning C L → Beside S → Opening V
+    → V × Trace (Entry C V) S → Type 0
 Ends {C = C} {L = L} t s k opening end =
-    (word : ℕ) × (parties : List (Numbered (Seat C L))) × RunsOn t s k opening word end.1 parties × (writers_of (use_of_party s) parties ≡ 0 → IsLast opening end.1.entries end.0)
+    (word : ℕ) × (parties : List (Numbered (Seat C L))) × RunsOn t s k opening word end.1 parties
+    × (writers_of (use_of_party s) parties ≡ 0 → IsLast opening end.1.entries end.0)
 
 module _ {V C L : Type 0} where
   -- the watch knows of the lock's history what the pass knows

@@ -4,6 +4,7 @@ use spin::mutex::{FairMutex, SpinMutex, TicketMutex};
 use spin::{LazyLock, Mutex, Once, RwLock};
 use spin_examples::after::set_then_get;
 use spin_examples::batch::Batch;
+use spin_examples::ending::end_after;
 use spin_examples::from_rust::{
     add_from_two, add_one, add_starving, give_back, set_elsewhere, take,
 };
@@ -41,6 +42,36 @@ fn a_reader_after_a_joined_writer_reads_what_it_wrote(rt: HostRuntime) {
     let (writer, (found, reader)) = set_then_get(&rt, &lock, 7);
     drop((writer, reader));
     equal(&rt, (found, lock.into_inner()), (7, 7));
+}
+
+#[test]
+fn the_owner_of_a_lock_gets_its_value_and_its_history(rt: HostRuntime) {
+    let (value, history) = end_after(&rt, SpinMutex::new(6), 7, 8);
+    drop(history);
+    equal(&rt, [7, 8].contains(&value), true);
+}
+
+#[test]
+fn each_lock_ends_with_its_last_value(rt: HostRuntime) {
+    let (ticket, fair): (TicketMutex<u64>, FairMutex<u64>) = (
+        TicketMutex::new(6),
+        FairMutex::new(6),
+    );
+    let (total, limit): (Mutex<u64>, RwLock<u64>) = (Mutex::new(6), RwLock::new(6));
+    let write = |value: u64| {
+        *ticket.lock(&rt) = value;
+        *fair.lock(&rt) = value;
+        *total.lock(&rt) = value;
+        *limit.write(&rt) = value;
+    };
+    join(&rt, || write(7), || write(7));
+    let values = [
+        ticket.into_history().0,
+        fair.into_history().0,
+        total.into_history().0,
+        limit.into_history().0,
+    ];
+    equal(&rt, values, [7, 7, 7, 7]);
 }
 
 #[test]

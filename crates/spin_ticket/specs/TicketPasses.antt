@@ -43,7 +43,7 @@ module _ {T : Type 0} where
   abbrev pub WroteSome : TicketCall → TicketSpot T → TicketSpot T → Type 0
   WroteSome = session.WroteSome ticket_tables
 
-  -- The history is a schedule of the model. Unless a party still writes the value at its end, the value is the one written last.
+  -- The history is a schedule of the model. Unless a party still writes the value, the value is the one written last.
   abbrev pub Ends : Opening T → T × Trace (Made T) ℕ → Type 0
   Ends = ending.Ends ticket_tables ticket_meaning with_second
 
