@@ -1,6 +1,6 @@
 -- Suppose that what a waiting call asks is open. In as many rounds as an undisturbed call takes steps, the call is
 -- answered, or another party changes a word, or the call's own exchange fails spuriously.
-use Rattle.spin_laws.proofs.Names.{seat_of, ◌≡◌, ℕ, ◌+◌, ◌-◌, ◌<◌, ◌≤◌, ◌⊎◌, ◌==◌, ◌&&◌, ◌||◌, Bool, true, false, not, Option, Some, List, [], ◌∷◌, ◌++◌, length, slice_get, if◌then◌else◌, refl, ap, sym, ◌∙◌, subst, arith, inl, inr, ⊎_elim, cases_eq, cases_lt, eqb-true, ne_eqb, false≢true, Plain, Change, Hold, Seat, Calling, Next, Continue, Answers, Move, Step, Weak, Outcome, Mark, joined, Machine, Seen, Scene, scene, opening, State, happens, after, at_first, goes_on, seen_after, eqb_self, get-set_same, state-seen_after, Test, occurs, MovesOn, AreRounds, is_step}
+use Rattle.spin_laws.proofs.Names.{seat_of, ◌≡◌, ℕ, ◌+◌, ◌-◌, ◌<◌, ◌≤◌, ◌⊎◌, ◌==◌, ◌&&◌, ◌||◌, Bool, true, false, not, Option, Some, List, [], ◌∷◌, ◌++◌, length, slice_get, if◌then◌else◌, refl, ap, sym, ◌∙◌, subst, arith, inl, inr, ⊎_elim, cases_eq, cases_lt, eqb-true, ne_eqb, false≢true, Plain, Change, Hold, Calling, Next, Continue, Answers, Move, Step, Outcome, Mark, joined, Machine, Seen, Scene, scene, opening, State, happens, after, at_first, goes_on, seen_after, eqb_self, get-set_same, state-seen_after, Test, occurs, MovesOn, AreRounds, is_step}
 use Rattle.spin_world_core.proofs.Names.{StepKind, by_step, AllOf, Leaves, UndisturbedTakes, is_open_now, steps_alone, Lawful, Every, IsInTime, Keeps, and_from, encoded, mark_of, scene_of}
 use Rattle.spin_world_core.specs.Spans.{own_count}
 use Rattle.spin_laws.specs.Alone.{same_numbers, disturbs, ends_or_fails, AnsweredOrDisturbed}
@@ -118,13 +118,10 @@ module _ {W V C L A : Type 0} (m : Machine W V C L A) (p : ℕ) (c : C) (h : Opt
           let less : taken + 1 < most = subst (λ n. n < most) since.5 (soon since.0 since.1 older since.2 (rw since.3 opens) since.4) in
           inr (inr (rw (eqb_self p) (record { point = i; at = rw same (get-set_same seen.state.seats p (Calling c i h) _ q.at); marks = inr since; few = omega (arith, less); encodes = keeps.encodes })))
 
-      refused_there : (d : C) (j : Option Hold) (next : Next L A) (x : Option (Seat C L)) → stop p Weak (goes_on seen.state p d j next).outcome x ≡ true
-      refused_there d j next x = grind (arith, eqb_self)
-
       own : (move : Move C V) → Keeps m (scene m seen p move) → IsInTime m (scene m seen p move) → Comes (scene m seen p move)
       own =
           of_call m seen p c q.point h q.at (λ sc. Keeps m sc → IsInTime m sc → Comes sc) (λ move kind keeps time. inr (inr (rw (eqb_self p) q)))
-          (own_went _ _ _ _ (m.step seen.state.words seen.state.value c q.point h).next refl) (λ next may keeps time. inl (refused_there c h next _))
+          (own_went _ _ _ _ (m.step seen.state.words seen.state.value c q.point h).next refl) (λ next may keeps time. inl (grind (arith, eqb_self)))
 
       event : (r : ℕ) (move : Move C V) → Keeps m (scene m seen r move) → IsInTime m (scene m seen r move) → Comes (scene m seen r move)
       event r move keeps time = grind (arith, own, beside, cases_eq)

@@ -1,32 +1,24 @@
 -- The counts of a call: what the model's laws say of a call's steps holds for the call of a pass.
-use Rattle.std.proofs.Common.{◌≡◌, ℕ, ◌≤◌, suc, Option, Some, None, List, [], ◌∷◌, ◌++◌, refl, sym, ap, ◌∙◌, subst, arith}
+use Rattle.std.proofs.Common.{◌≡◌, ℕ, ◌≤◌, suc, Option, List, [], ◌∷◌, ◌++◌, refl, sym, ap, ◌∙◌, subst, arith}
 use Rattle.spin_core.specs.Own.{Numbered}
 use Rattle.spin_core.specs.Passes.{IsCall, Made}
 use Rattle.spin_step.specs.Calls.{Mark, limit}
 use Rattle.spin_step.specs.declared.place.Hold.{Hold}
-use Rattle.spin_step.specs.declared.place.Seat.{Seat}
-use Rattle.spin_step.specs.declared.place.Seat.TheVariants.{Calling}
 use Rattle.spin_step.specs.declared.schedule.Move.TheVariants.{Step}
-use Rattle.spin_step.specs.declared.schedule.Outcome.{Outcome}
-use Rattle.spin_step.specs.declared.schedule.Outcome.TheVariants.{Answered}
 use Rattle.spin_step.specs.Acts.{Table}
 use Rattle.spin_step.specs.Machines.{Machine}
 use Rattle.spin_step.specs.Schedules.{Entry}
-use Rattle.spin_world_core.specs.Runs.{Seen, opening, own_count, failures, changes, EndsWithin, ContinuesWithin, InTime, asked}
+use Rattle.spin_world_core.specs.Runs.{Seen, opening, own_count, failures, changes, EndsWithin, ContinuesWithin}
 use Rattle.spin_world_core.specs.Users.{seen_after}
 use Rattle.spin_world_core.proofs.Shapes.{Notes}
 use Rattle.spin_world_core.proofs.Steps.{played, Plays}
 use Rattle.spin_world_core.proofs.Every.{kept}
 use Rattle.spin_laws.specs.Counts.{AfterEachStep, IsWithinLimit, KeepsLimits, StepsOfCall}
-use Rattle.spin_laws.proofs.Calls.{event, span_of, one_more, longer, IsAnswered, Call, call_of}
+use Rattle.spin_laws.proofs.Calls.{span_of, one_more, longer, IsAnswered, Call, call_of}
 
 module _ {W V C L A B : Type 0} {t : Table W V C L B} {by : Machine W V C L A} {k : Notes t} (facts : Plays by k) where
   abbrev m : Machine W V C L A
   m = played t by
-
-  in_time_by : (p : ℕ) (c : C) (l : L) (h : Option Hold) (a : A) (span : List Mark) (o : Outcome A V) (seat : Option (Seat C L)) → seat ≡ Some (Calling c l h) → o ≡ Answered a None → InTime m.lock_kind p span o (asked m seat)
-      → EndsWithin (limit m.lock_kind (m.asks c h)) m.lock_kind p span
-  in_time_by p c l h a span o seat there comes in_time = grind (arith, there, comes, in_time)
 
   -- the party's span after the answering step is its span in the history with this step
   span_is : (p : ℕ) (start : Seen W V C L) (old new : List (Entry C V)) (c : C) (h : Option Hold) (a : A) (n : ℕ) (it : IsAnswered facts p start old new c h a n)
@@ -52,7 +44,7 @@ module _ {W V C L A B : Type 0} {t : Table W V C L B} {by : Machine W V C L A} {
         moves = call.moves ∙ ap suc (sym it.count ∙ ap (own_count p) is);
         held = h;
         so_far = subst (AfterEachStep (ContinuesWithin (limit m.lock_kind (m.asks c h)) m.lock_kind) p) (ap (λ (z : Seen W V C L). z.span p) it.leads) it.so_far;
-        in_time = subst (EndsWithin (limit m.lock_kind (m.asks c h)) m.lock_kind p) is (in_time_by p c it.point h a (span_of facts p it.seen) (event facts it.seen (p, Step)).outcome (event facts it.seen (p, Step)).seat it.there it.comes timely.in_time);
+        in_time = subst (EndsWithin (limit m.lock_kind (m.asks c h)) m.lock_kind p) is (grind (arith, it.there, it.comes, timely.in_time));
         retries = subst (λ span. failures p span ≤ changes m.lock_kind p span) is (timely.retries p);
       }
 

@@ -9,12 +9,9 @@ stretch-append schedule start (suc a) b =
     let same : (suc a + b ≡ suc (a + b)) × (suc start + a ≡ start + suc a) = (omega arith, omega arith) in grind (arith, same, stretch-append schedule (suc start) a b)
 
 module _ {W V C L A : Type 0} (m : Machine W V C L A) where
-  both : (s : State W V C L) (xs ys : List (ℕ × Move C V)) (test : Test V C L A) → occurs m test s xs ≡ true → occurs m test s (xs ++ ys) ≡ true
-  both s xs ys test found = occurs-append m test s xs ys ∙ or_left (occurs m test s xs) (occurs m test (after m s xs) ys) found
-
   -- a party that moves on in a stretch also does so in a longer one
   longer : (s : State W V C L) (xs ys : List (ℕ × Move C V)) (p : ℕ) (o : Option (Seat C L)) → MovesOn m s xs p o → MovesOn m s (xs ++ ys) p o
-  longer s xs ys p o moves = grind (arith, both)
+  longer s xs ys p o moves = grind (arith, occurs-append, or_left)
 
   module _ (s : State W V C L) (schedule : ℕ → ℕ × Move C V) (fair : IsFair m s schedule) where
     abbrev there : ℕ → State W V C L

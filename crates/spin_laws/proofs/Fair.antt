@@ -1,8 +1,8 @@
 -- While a starver waits, a fair lock is granted within five rounds. The holder leaves within two rounds. The starver then
 -- takes three: it finds the flag clear, sets the flag, and stops starving. If another party sets the flag earlier, the
 -- other party is granted the lock by its next step.
-use Rattle.spin_laws.proofs.Names.{seat_of, cases_eq, Next, suc, Bool, entries, entries-other, empty_is, if◌then◌else◌, ◌-◌, resting, ◌≡◌, ℕ, ◌==◌, true, false, Option, Some, None, List, [], ◌∷◌, length, refl, ap, arith, not, ◌≤◌, ◌⊎◌, inl, inr, ⊎_elim, Plain, Kind, writing, Holder, is_empty, is_holder, is_starver, without_holder, holder, IsOpenStep, Hold, filter, subst, Answer, Seat, Calling, Holding, Move, Step, Machine, after, at_first, get-set_same, Seen, Scene, scene_at, opening, seen_after, eqb_self, Plays, Invariant, in_call, row_tells, calls_so, StandsSo, fair_machine}
-use Rattle.spin_world.proofs.FairNames.{fair, fair_is_locked-tells, Write, Starver, FairCall, Lock, StarverLock, Release, FairPoint, First, SetFlag, Await, Unregister, asks_of, is_set}
+use Rattle.spin_laws.proofs.Names.{seat_of, cases_eq, Next, suc, Bool, entries, entries-other, empty_is, if◌then◌else◌, ◌≡◌, ℕ, ◌==◌, true, false, Option, Some, None, List, [], ◌∷◌, length, refl, ap, arith, not, ◌≤◌, ◌⊎◌, inl, inr, ⊎_elim, Plain, Kind, writing, Holder, is_empty, is_holder, is_starver, without_holder, holder, IsOpenStep, Hold, filter, subst, Answer, Seat, Calling, Holding, Move, Step, Machine, after, at_first, get-set_same, Seen, Scene, scene_at, opening, seen_after, eqb_self, Plays, Invariant, in_call, row_tells, calls_so, fair_machine}
+use Rattle.spin_world.proofs.FairNames.{fair, fair_is_locked-tells, Write, Starver, FairCall, Lock, StarverLock, Release, FairPoint, First, SetFlag, Await, Unregister, is_set}
 use Rattle.spin_world.proofs.FairOwed.{fair_notes, fair_facts}
 use Rattle.spin_laws.specs.Fair.{grants_lock, LocksInFive, StarversAreDeadlockFree}
 use Rattle.spin_laws.proofs.Endless.{at_last}
@@ -45,9 +45,6 @@ theirs_by true (Some (Calling c Unregister h)) = 1
 theirs_by true (Some (Calling c l h)) = 4
 theirs_by true his = 5
 theirs_by false his = 0
-
-theirs_begun : (b : Bool) (d : FairCall) (e : FairPoint) (i j : Option Hold) → theirs_by b (Some (Calling d e i)) ≤ theirs_by b (Some (resting j)) - 1
-theirs_begun b d e i j = grind arith
 
 theirs_some : (his : Option FairSeat) → 1 ≤ theirs_by true his
 theirs_some his = grind arith
@@ -105,9 +102,6 @@ module _ {V : Type 0} (v : V) (cap patience : ℕ) where
         abbrev y : Scene ℕ V FairCall FairPoint (Answer V)
         y = sc seen p c l h
 
-        granted : l ≡ Unregister → walk.Reaches f x y
-        granted is = grind (arith, is, get-set_same seen.state.seats p (Holding Write) _ there)
-
         goes_clear : its_point l → (l ≡ Unregister → ⊥) → s.holders ≡ [] → is_set seen.state.words ≡ false
             → ((seat_of y.after p ≡ Some (Calling c Unregister h)) × (is_empty y.after.plain.holders ≡ false) × (l ≡ SetFlag)) ⊎ ((seat_of y.after p ≡ Some (Calling c SetFlag h)) × (is_empty y.after.plain.holders ≡ true) × (l ≡ Await))
         goes_clear at ne none clear = grind (arith, at, ne, none, clear, get-set_same seen.state.seats p (Calling c Unregister h) _ there, get-set_same seen.state.seats p (Calling c SetFlag h) _ there)
@@ -119,7 +113,7 @@ module _ {V : Type 0} (v : V) (cap patience : ℕ) where
         own n within opens at ne b is = grind (arith, others_same, goes_clear, empty_is, flag, goes_set)
 
         own_by : (n : ℕ) → walk.Within f x seen l (suc n) → IsOpenStep s p y.change → its_point l → walk.Own f x seen l n y
-        own_by n within opens at = ⊎_elim (λ (is : l ≡ Unregister). inl (granted is)) (λ (ne : l ≡ Unregister → ⊥). own n within opens at ne (is_empty s.holders) refl) (point_cases l)
+        own_by n within opens at = ⊎_elim (λ (is : l ≡ Unregister). inl (grind (arith, is, get-set_same seen.state.seats p (Holding Write) _ there))) (λ (ne : l ≡ Unregister → ⊥). own n within opens at ne (is_empty s.holders) refl) (point_cases l)
 
       some_starve : seat_of seen p ≡ Some (Calling c l h) → its_point l → is_empty s.starvers ≡ false
       some_starve there at = grind (arith, own_some, row_tells, in_call)
@@ -177,19 +171,16 @@ module _ {V : Type 0} (v : V) (cap patience : ℕ) where
           steps = λ seen l n w within q d i j ne at made. steps seen w.3 l n within w.0 w.1 q d i j ne at made (holds_lock (entries q seen.plain)) refl;
           weak = λ seen l next at may. absurd (grind (arith, at, may));
           refuses = λ seen l w q d i j next ne there may. inr (λ o. omega (arith, strong seen w.3 l q d i j next there may (holds_lock (entries q seen.plain)) refl o));
-          begins = λ seen l w q d i j ne there may. let low = theirs_begun (holds_lock (entries q seen.plain)) d i j j in rw there (omega (arith, low), λ is. low);
+          begins = λ seen l w q d i j ne there may. rw there (grind arith, λ is. grind arith);
           leaks = λ s l q h. grind arith;
           busy = λ seen l q w ne some. busy seen w.3 l q (holds_lock (entries q seen.plain)) refl some;
           some = λ seen l w none. some seen w.3 l w.0 w.1 none;
         }
 
-  its_call_is : (p : ℕ) (c : FairCall) (l : FairPoint) (h : Option Hold) → (asks_of patience c h).waits ≡ true → StandsSo (fair_notes v cap patience) (λ e. not (is_empty e.starvers)) p c l h → its_call c h × its_point l
-  its_call_is p c l h asks stands = grind (arith, asks, stands)
-
   pub locks_in_five : (n : ℕ) (past : List (ℕ × Move FairCall V)) (rounds : List (List (ℕ × Move FairCall V))) → LocksInFive m n past rounds
   locks_in_five n past rounds p c l h there asks with_it are few =
       let seen = seen_after m (opening m n) past in
-      let at = its_call_is p c l h asks (calls_so f n past (λ e. not (is_empty e.starvers)) p there (starves_own p seen.plain.starvers with_it)) in
+      let at : its_call c h × its_point l = grind (arith, asks, calls_so f n past (λ e. not (is_empty e.starvers)) p there (starves_own p seen.plain.starvers with_it)) in
       walk.ends f (x p c h at.0) (walks p c h at.0) n past rounds l there at.1 tt tt are
       (λ w. let fit = λ (b : Bool) (his : Option FairSeat). loads_fit (is_empty seen.plain.holders) b l his in record { mine = omega (arith, few, (fit true None).0); theirs = λ q ne. omega (arith, few, (fit (holds_lock (entries q seen.plain)) (seat_of seen q)).1) })
 

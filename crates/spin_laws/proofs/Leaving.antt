@@ -1,6 +1,6 @@
 -- A proof that several locks share. If all holders of one kind do nothing but release, they leave within the first two
 -- rounds. Then the waiting party can continue.
-use Rattle.spin_laws.proofs.Names.{seat_of, apply_some, seen_after, opening, cases_eq, suc, ◌<◌, cases_lt, ◌≡◌, ℕ, ◌≤◌, ◌⊎◌, ◌+◌, Bool, true, false, Option, Some, None, List, length, slice_get, refl, ap, ◌∙◌, arith, inl, inr, ⊎_elim, IsOpenStep, entries, entries-other, entries-own, Hold, Seat, Idle, Calling, Next, Answers, Move, Step, Weak, Machine, goes_on, resting, may_read, after, at_first, Seen, Scene, scene_at, joined, entries_of, Table, machine_of, ◌-◌, no_entries, entries_after, get-set_same, Plays, Invariant, Notes, StandsSo, Test, occurs, AreRounds}
+use Rattle.spin_laws.proofs.Names.{seat_of, apply_some, cases_eq, suc, ◌<◌, cases_lt, ◌≡◌, ℕ, ◌≤◌, ◌⊎◌, ◌+◌, Bool, true, false, Option, Some, None, List, length, slice_get, refl, ap, ◌∙◌, arith, inl, inr, ⊎_elim, IsOpenStep, entries, entries-other, entries-own, Hold, Seat, Idle, Calling, Next, Answers, Move, Step, Weak, Machine, goes_on, may_read, after, at_first, Seen, Scene, scene_at, joined, entries_of, Table, machine_of, ◌-◌, no_entries, entries_after, get-set_same, Plays, Invariant, Notes, StandsSo, Test, occurs, AreRounds}
 use Rattle.spin_step.specs.Parties.{Entries}
 use Rattle.spin_laws.proofs.Waiting.{is_busy}
 use Rattle.spin_laws.proofs.Loads.{Wait}
@@ -12,12 +12,6 @@ abbrev load_by : {C L : Type 0} → ℕ → Bool → Option (Seat C L) → ℕ
 load_by bound true (Some (Calling c l h)) = bound + 1
 load_by bound true o = bound + 2
 load_by bound false o = 0
-
-load_few : {C L : Type 0} (bound : ℕ) (b : Bool) (o : Option (Seat C L)) → load_by bound b o ≤ 2 + bound
-load_few bound b o = grind arith
-
-load_begun : {C L : Type 0} (bound : ℕ) (b : Bool) (c : C) (l : L) (i h : Option Hold) → load_by bound b (Some (Calling c l i)) ≤ load_by {C = C} {L = L} bound b (Some (resting h)) - 1
-load_begun bound b c l i h = grind arith
 
 load_none : {C L : Type 0} (bound n : ℕ) (b : Bool) (o : Option (Seat C L)) → load_by bound b o ≤ suc n → n < bound → b ≡ false
 load_none bound n b o few less = grind (arith, few, less)
@@ -108,7 +102,7 @@ module _ {W V C L A : Type 0} {t : Table W V C L A} {n : Notes t} (f : Plays (ma
           steps = λ seen l r w within q d i j ne there made. grind (arith, gone seen l q d i j w there made, same_load seen q, made.opens);
           weak = leaves.weak;
           refuses = λ seen l w q d i j next ne there may. inr (λ o. rw (strong_there seen w.3 q d i j next there may) (omega arith));
-          begins = λ seen l w q d i j ne there may. let low = load_begun bound (holds q seen) d i j j in rw there (omega (arith, low), λ is. low);
+          begins = λ seen l w q d i j ne there may. rw there (grind arith, λ is. grind arith);
           leaks = λ s l q h. grind arith;
           busy = λ seen l q w ne long. busy seen w.3 q (holds q seen) refl long;
           some = λ seen l w none. omega (arith, none.mine, leaves.some l);
@@ -119,4 +113,4 @@ module _ {W V C L A : Type 0} {t : Table W V C L A} {n : Notes t} (f : Plays (ma
         → AreRounds m s rounds → 2 + bound ≤ length rounds → occurs m goal s (joined rounds) ≡ true
     two_rounds number past rounds l there at are long =
         walk.ends f x walks number past rounds l there at tt tt are
-        (λ w. record { mine = omega (arith, leaves.few l, long); theirs = λ q ne. omega (arith, long, load_few bound (test (entries q (seen_after m (opening m number) past).plain)) (slice_get (seen_after m (opening m number) past).state.seats q)) })
+        (λ w. record { mine = omega (arith, leaves.few l, long); theirs = λ q ne. grind (arith, long) })

@@ -53,9 +53,6 @@ point_cases l = grind arith
 same_point : {V : Type 0} (d : OnceCall V) (i : OncePoint) (j : Option Hold) (e : OnceCall V) (g : Option Hold) → Some (Calling d i j) ≡ Some (Calling e Run g) → i ≡ Run
 same_point d i j e g is = cc (is)
 
-told_where : (s : Plain) → once_word s ≡ 2 → s.phase ≡ complete
-told_where s is = grind (arith, is)
-
 runs_where : (s : Plain) → once_word s ≡ 1 → (q : ℕ) × (s.phase ≡ running q)
 runs_where s is = grind arith
 
@@ -139,10 +136,6 @@ module _ {V : Type 0} (value : Option V) where
       abbrev sc : Event
       sc = scene_at m seen p Step (Some (Calling c l h))
 
-      -- if the call's own closure runs, the call's step reaches the goal
-      ended : l ≡ Run → walk.Reaches f x sc
-      ended is = grind (arith, is, closure, eqb_self p)
-
       goes : (phase : Phase) → s.phase ≡ phase → (phase ≡ complete → ⊥) → (l ≡ Run → ⊥) → (seat_of sc.after p ≡ Some (Calling c (onward phase p l).0 h)) × (sc.after.plain.phase ≡ (onward phase p l).1)
       goes phase is unmade ne = grind (arith, word_is seen w.3, is, unmade, ne, closure, get-set_same seen.state.seats p (Calling c (onward phase p l).0 h) _ w.0)
 
@@ -152,7 +145,7 @@ module _ {V : Type 0} (value : Option V) where
       own_at n within (running q) is ne = grind (arith, goes (running q) is, ne, w.2 q is, w.0, ne_eqb q p, is)
 
       own : (n : ℕ) → walk.Within f x seen l (suc n) → walk.Own f x seen l n sc
-      own n within = ⊎_elim (λ (is : l ≡ Run). inl (ended is)) (own_at n within s.phase refl) (point_cases l)
+      own n within = ⊎_elim (λ (is : l ≡ Run). inl (grind (arith, is, closure, eqb_self p))) (own_at n within s.phase refl) (point_cases l)
 
       -- the step that ends another party's closure reaches the goal, or there is a value after it
       run_ends : (q : ℕ) (d : OnceCall V) (i : OncePoint) (j : Option Hold) → seat_of seen q ≡ Some (Calling d i j) → i ≡ Run
@@ -234,7 +227,7 @@ module _ {V : Type 0} (value : Option V) where
   pub answers_in_one : (n : ℕ) (past : Entries V) (rounds : List (Entries V)) → AnswersInOne m n past rounds
   answers_in_one n past rounds p c l h there is are some =
       let seen = seen_after m (opening m n) past in
-      walk.ends f (ready p c h) (ready_walks p c h) n past rounds l there tt (told_where seen.plain (sym (word_there n past) ∙ is)) tt are (λ w. record { mine = omega (arith, some); theirs = λ q ne. omega arith })
+      walk.ends f (ready p c h) (ready_walks p c h) n past rounds l there tt (grind (arith, word_there n past, is)) tt are (λ w. record { mine = omega (arith, some); theirs = λ q ne. omega arith })
 
   pub somebody_runs : (n : ℕ) (past : Entries V) → SomebodyRuns m n past
   somebody_runs n past is =

@@ -11,7 +11,7 @@ use Rattle.spin_step_more.specs.declared.fair_calls.FairPoint.TheVariants.{Look,
 use Rattle.spin_world.proofs.FairOwed.{fair_facts}
 use Rattle.spin_world.proofs.FairNames.{is_starver-from_entries}
 use Rattle.spin_laws.specs.Starving.{MayStarveWhere, Starves}
-use Rattle.spin_laws.proofs.Around.{Within, forever_where}
+use Rattle.spin_laws.proofs.Around.{forever_where}
 
 module _ {V : Type 0} (v : V) (cap patience : ℕ) where
   abbrev m : Machine ℕ V FairCall FairPoint (Answer V)
@@ -77,8 +77,5 @@ module _ {V : Type 0} (v : V) (cap patience : ℕ) where
     registered : is_starver 0 (seen_after m (opening m 2) past).plain.starvers ≡ true
     registered = grind (arith, (calls (fair_facts v cap patience) 2 past 0 seated).knows, is_starver-from_entries 0 (seen_after m (opening m 2) past).plain.starvers)
 
-    turns : Within m (ends_or_weak 0) start (1, Begin StarverLock) turn start ((1, Begin StarverLock) ∷ turn)
-    turns = record { fair = grind (arith, more); back = grind (arith, more); none = grind (arith, more) }
-
     pub registered_starves : MayStarveWhere Starves m 2 (waits_or_starves patience)
-    registered_starves = forever_where m Starves (λ p. ends_or_weak p) 2 past start there (1, Begin StarverLock) turn 0 Lock SetFlag None refl turns registered
+    registered_starves = forever_where m Starves (λ p. ends_or_weak p) 2 past start there (1, Begin StarverLock) turn 0 Lock SetFlag None refl (record { fair = grind (arith, more); back = grind (arith, more); none = grind (arith, more) }) registered

@@ -1,7 +1,7 @@
 -- A party that has asked to upgrade gets its upgrade in three rounds. All other readers leave within the first two
 -- rounds.
 use Rattle.spin_step.specs.Plain.{comes, given}
-use Rattle.spin_laws.proofs.Names.{Plays, seat_of, ◌≡◌, ℕ, ◌≤◌, ◌==◌, Bool, true, false, Option, Some, List, [], ◌∷◌, refl, sym, ◌∙◌, arith, Plain, Kind, reading, upgradable, asking, writing, Holder, Change, gets, releases, turns, is_holder, with_kind, count_kind, weight, rw_word, entries, apply_some, IsOpenStep, IsExclusive, ◌-◌, ◌⊎◌, ◌||◌, filter, sum_by-cons, list_any, same_kind, without_holder, effect, apply, is_open, is_open_to, Ask, entries_after, entries-own, against, one_of, by_kinds, all_kinds, sum-less, Answer, Done, Hold, Seat, Calling, Move, Step, Machine, after, at_first, Seen, Scene, scene_at, opening, seen_after, get-set_same, eqb_self, Invariant, in_call, StandsSo, calls_so, RwCall, Upgrade, RwPoint, Asking, rw_machine, rw_notes, rw_facts, holder_by, Test, grants, refuses_weakly, UpgradesInThree, UpgradesAtLast}
+use Rattle.spin_laws.proofs.Names.{Plays, seat_of, ◌≡◌, ℕ, ◌≤◌, ◌==◌, Bool, true, false, Option, Some, List, [], ◌∷◌, refl, sym, ◌∙◌, arith, Plain, Kind, reading, upgradable, asking, writing, Holder, Change, gets, releases, turns, is_holder, with_kind, count_kind, weight, rw_word, entries, apply_some, IsOpenStep, IsExclusive, ◌-◌, ◌⊎◌, ◌||◌, filter, sum_by-cons, list_any, same_kind, without_holder, effect, apply, is_open, is_open_to, Ask, entries_after, entries-own, against, one_of, by_kinds, all_kinds, sum-less, Answer, Done, Seat, Calling, Move, Step, Machine, after, at_first, Seen, Scene, scene_at, opening, seen_after, get-set_same, eqb_self, Invariant, in_call, calls_so, RwCall, Upgrade, RwPoint, Asking, rw_machine, rw_notes, rw_facts, holder_by, Test, grants, refuses_weakly, UpgradesInThree, UpgradesAtLast}
 use Rattle.spin_step.proofs.Exclusive.{Lets, lets}
 use Rattle.spin_world.proofs.RwNames.{Entries, one_of_each, only_asking-word}
 use Rattle.spin_step_more.proofs.Readers.{beside_asking}
@@ -113,13 +113,10 @@ module _ {V : Type 0} (v : V) (cap : ℕ) where
             (goal p Step x.outcome (seat_of x.after p) ≡ true) ⊎ ((i : RwPoint) × (seat_of x.after p ≡ Some (Calling Upgrade i (Some hold.Upgradable))) × at_upgrade i × (((q : ℕ) → any_of reading (entries q seen.plain) ≡ false) → 1 ≤ 1 - 1))
         own_at seen l good there at = grind (arith, true≢false, open_now, own)
 
-  asking_at : (p : ℕ) (c : RwCall) (l : RwPoint) (h : Option Hold) → StandsSo (rw_notes v cap) (any_of asking) p c l h → Some (Calling c l h) ≡ Some (Calling Upgrade Asking (Some hold.Upgradable))
-  asking_at p c l h stands = grind (arith, stands)
-
   pub upgrades_in_three : (n : ℕ) (past : List (ℕ × Move RwCall V)) (rounds : List (List (ℕ × Move RwCall V))) → UpgradesInThree m n past rounds
   upgrades_in_three n past rounds p c l h there found are long =
       let seen = seen_after m (opening m n) past in
-      let at = asking_at p c l h (calls_so f n past (any_of asking) p there (any_own asking p seen.plain.holders ∙ found)) in
+      let at : Some (Calling c l h) ≡ Some (Calling Upgrade Asking (Some hold.Upgradable)) = grind (arith, calls_so f n past (any_of asking) p there (any_own asking p seen.plain.holders ∙ found)) in
       leaving.two_rounds f (goal p) p Upgrade (Some hold.Upgradable) at_upgrade (any_of reading) (λ l. 1) 1 (leaves p) n past rounds Asking (there ∙ at) tt are long
 
   pub upgrades_at_last : (n : ℕ) (past : List (ℕ × Move RwCall V)) (schedule : ℕ → ℕ × Move RwCall V) → UpgradesAtLast m n past schedule

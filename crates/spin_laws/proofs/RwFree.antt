@@ -1,13 +1,11 @@
 -- A read-write lock is free of deadlock. All readers leave within the first two rounds. A holder that does more than
 -- read is then alone, and makes one of its moves in each round.
-use Rattle.spin_laws.proofs.Names.{seat_of, Knows, good, cases_eq, scene, eqb-true, empty_is, ◌<◌, one_of, eq-eqb, row_tells, in_call, StandsFor, ne_eqb, entries-other, max, suc, not, resting, ◌≡◌, ℕ, ◌+◌, ◌≤◌, ◌==◌, Bool, true, false, Option, Some, None, List, [], ◌∷◌, length, slice_get, refl, ap, sym, ◌∙◌, arith, Plain, Kind, reading, upgradable, asking, writing, Holder, Change, releases, turns, count_kind, weight, rw_word, apply_some, IsOpenStep, IsExclusive, ◌-◌, ◌⊎◌, ◌||◌, ◌&&◌, subst, inl, inr, ⊎_elim, nat_lt, min, if◌then◌else◌, lt-ltb, sum_by-cons, same_kind, upgrader, all_kinds, by_kinds, reader_limit, Answer, Hold, Seat, Idle, Calling, Next, Move, Step, Weak, Mark, Machine, after, at_first, goes_on, get-set_same, Seen, Scene, scene_at, opening, seen_after, eqb_self, Plays, Invariant, calls, RwCall, RwPoint, rw_machine, rw_notes, rw_facts, Test, grants_any, without_holder, with_kind, filter, list_any, list_all, entries, is_empty}
+use Rattle.spin_laws.proofs.Names.{seat_of, good, cases_eq, scene, eqb-true, empty_is, ◌<◌, one_of, eq-eqb, row_tells, in_call, StandsFor, ne_eqb, entries-other, max, suc, not, resting, ◌≡◌, ℕ, ◌+◌, ◌≤◌, ◌==◌, Bool, true, false, Option, Some, None, List, [], ◌∷◌, length, slice_get, refl, ap, sym, ◌∙◌, arith, Plain, Kind, reading, upgradable, asking, writing, Holder, Change, releases, turns, count_kind, weight, rw_word, apply_some, IsOpenStep, IsExclusive, ◌-◌, ◌⊎◌, ◌||◌, ◌&&◌, subst, inl, inr, ⊎_elim, nat_lt, min, if◌then◌else◌, lt-ltb, sum_by-cons, same_kind, upgrader, all_kinds, by_kinds, reader_limit, Answer, Hold, Seat, Idle, Calling, Next, Move, Step, Weak, Machine, after, at_first, goes_on, get-set_same, Seen, Scene, scene_at, opening, seen_after, eqb_self, Plays, Invariant, calls, RwCall, RwPoint, rw_machine, rw_notes, rw_facts, Test, grants_any, without_holder, with_kind, filter, list_any, list_all, entries, is_empty}
 use Rattle.spin_laws.specs.Rw.{GrantsSomebody, RwIsDeadlockFree, refuses_any, leading, rounds_by, rounds_beside}
 use Rattle.spin_world.proofs.RwNames.{Write, Exchange, Release, Entries, Read, UpgradeableRead, may_turn, read, read_upgradable}
-use Rattle.spin_step_more.specs.RwCalls.{asks_of}
 use Rattle.spin_step_more.specs.declared.rw_calls.RwPoint.TheVariants.{First}
 use Rattle.std.proofs.Common.{sum_by, true≢false}
 use Rattle.spin_laws.proofs.Endless.{at_last}
-use Rattle.spin_laws.specs.Rounds.{is_release}
 use Rattle.spin_laws.proofs.Waiting.{is_busy}
 use Rattle.spin_laws.proofs.Loads.{Wait}
 use Rattle.spin_laws.proofs.Loads as walk
@@ -67,14 +65,10 @@ all_its u (h ∷ hs) none = grind (arith, none, all_its u hs)
 reads_some : (hs : List Holder) → is_empty hs ≡ false → only_read hs ≡ true → reads hs ≡ true
 reads_some hs some all = grind arith
 
--- a test and its negation: one of the two passes
-same_answer : (b : Bool) → (if b then b else not b) ≡ true
-same_answer b = grind arith
-
 -- if all holders of a party only read, they pass the test `reads_so` (below) of a reader, or of a party without
 -- holders
 reads_or_not : (hs : List Holder) → only_read hs ≡ true → (only_read hs && (if reads hs then reads hs else not (reads hs))) ≡ true
-reads_or_not hs all = rw all (same_answer (reads hs))
+reads_or_not hs all = rw all (grind arith)
 
 -- some party other than u holds
 witness : (u : ℕ) (hs : List Holder) → beside u hs ≡ true → (q : ℕ) × (q ≡ u → ⊥) × (is_empty (its q hs) ≡ false)
@@ -544,16 +538,6 @@ module _ {V : Type 0} (v : V) (cap : ℕ) (some : 1 ≤ cap) where
     asks_not : (seen : World) → Invariant f seen → (q : ℕ) (j : Option Hold) → seat_of seen q ≡ Some (resting j) → (q == u) ≡ true → is_asking (kind_of u seen.plain.holders) ≡ false
     asks_not seen good q j at is = grind (arith, eqb-true)
 
-    rests_in : (j : Option Hold) → leaves (Some (resting j)) ≡ false
-    rests_in j = grind arith
-
-    release_leaves : (d : RwCall) (i : RwPoint) (j : Option Hold) → is_release (asks_of d j) ≡ true → leaves (Some (Calling d i j)) ≡ true
-    release_leaves d i j is = grind (arith, is)
-
-    begins_by : (seen : World) → Invariant f seen → (l : RwPoint) (q : ℕ) (d : RwCall) (i : RwPoint) (j : Option Hold) → seat_of seen q ≡ Some (resting j)
-        → (x.theirs seen.plain l q (Some (Calling d i j)) ≤ walk.theirs f x seen l q) × (is_release (m.asks d j) ≡ true → x.theirs seen.plain l q (Some (Calling d i j)) ≤ walk.theirs f x seen l q - 1)
-    begins_by seen good l q d i j at = grind (arith, leaves, rests_in, theirs_begun, room, beside, reads, release_leaves, theirs_leaving, asks_not)
-
     known_after : (seen : World) (q : ℕ) (move : Move RwCall V) (l : RwPoint) → walk.Waits f x seen l → walk.Reaches f x (scene m seen q move) ⊎ Known (scene m seen q move).after
     known_after seen q move l w =
         walk.plain_kept f x (λ s. (o : ℕ) → (o ≡ u → ⊥) → only_read (its o s.holders) ≡ true) seen l w q w.2
@@ -590,22 +574,18 @@ module _ {V : Type 0} (v : V) (cap : ℕ) (some : 1 ≤ cap) where
               ⊎_elim (λ (is : q ≡ u). its_steps seen w.3 l n within w.2 q d i j ne at made w.0 is) (λ (other : q ≡ u → ⊥). reader_steps seen w.3 l n within w.2 q d i j ne at made w.0 other) (cases_eq q u);
           weak = λ seen l next at may. weak seen p c None next;
           refuses = λ seen l w q d i j next ne at may. inl (weak seen q d j next);
-          begins = λ seen l w q d i j ne at may. begins_by seen w.3 l q d i j at;
+          begins = λ seen l w q d i j ne at may. (grind (arith, theirs_begun, room, beside, reads, w.3, at), λ is. grind (arith, leaves, theirs_leaving, room, beside, reads, asks_not, w.3, at, is));
           leaks = λ s l q h. omega arith;
           busy = λ seen l q w ne long. busy_by seen w.3 l q long;
           some = some_load;
         }
-
-  -- a waiting call of a party that holds nothing is no upgrade
-  come_at : (c : RwCall) (l : RwPoint) (p : ℕ) (s : Plain) (span : List Mark) → (asks_of c None).waits ≡ true → Knows (rw_notes v cap) c l None p s span → at_come c
-  come_at c l p s span asks knows = grind (arith, asks, knows)
 
   pub grants_somebody : (n : ℕ) (past : List (ℕ × Move RwCall V)) (rounds : List (List (ℕ × Move RwCall V))) → GrantsSomebody m n past rounds
   grants_somebody n past rounds p c l there asks are few =
       let seen = seen_after m (opening m n) past in
       let hs = seen.plain.holders in
       let u = lead p hs in
-      let at = come_at c l p seen.plain (seen.span p) asks (calls f n past p there).knows in
+      let at : at_come c = grind (arith, asks, (calls f n past p there).knows) in
       let known : Known p u c at seen = λ q ne. others_read p q hs (one_leads seen.plain (good f n past).exclusive) ne in
       walk.ends f (x p u c at) (walks p u c at) n past rounds l there tt known tt are
       (λ w.

@@ -1,5 +1,5 @@
 -- In how many rounds a `lock` is granted: first until the call has its ticket, and then with this ticket.
-use Rattle.spin_laws.proofs.Names.{seat_of, Knows, empty_is, max, ◌++◌, ◌⊎◌, cases_lt, resting, if◌then◌else◌, ◌≡◌, ℕ, ◌+◌, ◌-◌, ◌<◌, ◌≤◌, ◌==◌, Bool, true, false, not, Option, Some, None, List, [], ◌∷◌, refl, ap, sym, ◌∙◌, arith, filter, slice_get, Plain, Change, is_empty, apply_some, IsOpenStep, Seen, scene, opening, ticket_machine, Plays, after, at_first, seen_after, zero, ticket_limit, Answer, Hold, Calling, Holding, Move, Step, TicketWords, TicketCall, TicketPoint, Take, suc, ◌*◌, ◌&&◌, subst, inr, ⊎_elim, length, nat_lt, and_parts, cases_eq, eqb-true, ne_eqb, eq-eqb, lt-ltb, Seat, Next, BelongsTo, Mark, joined, Machine, occurs, AreRounds, grants, Scene, scene_at, State, happens, eqb_self, get-set_same, Invariant, in_call, good_after, state-seen_after, good, state_is, numbers_are, StandsSo, calls_so, calls, EntersInRounds, IsNeverStarved, LocksInRounds, slice_get_past, length-happens}
+use Rattle.spin_laws.proofs.Names.{seat_of, Knows, empty_is, max, ◌++◌, ◌⊎◌, cases_lt, resting, if◌then◌else◌, ◌≡◌, ℕ, ◌+◌, ◌-◌, ◌<◌, ◌≤◌, ◌==◌, Bool, true, false, not, Option, Some, None, List, [], ◌∷◌, refl, ap, sym, ◌∙◌, arith, filter, slice_get, Plain, Change, is_empty, apply_some, IsOpenStep, Seen, scene, opening, ticket_machine, Plays, after, at_first, seen_after, zero, ticket_limit, Answer, Hold, Calling, Holding, Move, Step, TicketWords, TicketCall, TicketPoint, Take, suc, ◌*◌, ◌&&◌, subst, inr, ⊎_elim, length, nat_lt, and_parts, cases_eq, eqb-true, ne_eqb, eq-eqb, lt-ltb, Seat, Next, BelongsTo, Mark, joined, Machine, occurs, AreRounds, grants, Scene, scene_at, State, happens, eqb_self, get-set_same, Invariant, in_call, good_after, state-seen_after, good, state_is, numbers_are, calls_so, calls, EntersInRounds, IsNeverStarved, LocksInRounds, slice_get_past, length-happens}
 use Rattle.spin_world.proofs.TicketNames.{Entries, Numbered, enters_in_turn, serving-taken, stands, serving-moves, asks_of, bit, Lock, Release, Await, queued, Queued, LoadNext, Serve, is_first, serving_word}
 use Rattle.spin_world.proofs.TicketOwed.{ticket_notes, ticket_facts}
 use Rattle.spin_step.specs.TicketKind.{ticket}
@@ -294,9 +294,6 @@ module _ {V : Type 0} (v : V) (first : ℕ) where
         near : t - serving_word s + 1 ≤ n
         near = let here = in_queue p t (serving_word s) s.tickets numbered.1 mine in omega (arith, here.0, here.1, w.2, most_tickets seen w.3, numbered.0)
 
-    own_ticket : (seen : World) (t r : ℕ) → (w : walk.Waits f x seen (Await t)) → walk.Own f x seen (Await t) r (its seen (Await t))
-    own_ticket seen t r w = grind (arith, turn_of, first_turn, eqb_self, ne_eqb, serving_is, behind, get-set_same, cases_eq, own, mine)
-
     -- Before p has a ticket
 
     no_ticket : (seen : World) (l : TicketPoint) → walk.Waits f x seen l → at_door l → is_empty (own p seen.plain.tickets) ≡ true
@@ -366,7 +363,7 @@ module _ {V : Type 0} (v : V) (first : ℕ) where
         left = left_is seen (Take j) w r within w.1 (omega (arith, next_grows seen.plain (its seen (Take j)).change, made.fine))
 
     own_by : (seen : World) (l : TicketPoint) (r : ℕ) → (w : walk.Waits f x seen l) → walk.Within f x seen l (suc r) → walk.After f x seen p (its seen l) → walk.Own f x seen l r (its seen l)
-    own_by seen (Await t) r w within made = own_ticket seen t r w
+    own_by seen (Await t) r w within made = grind (arith, turn_of, first_turn, eqb_self, ne_eqb, serving_is, behind, get-set_same, cases_eq, own, mine)
     own_by seen LoadNext r w within made = goes_for_next seen LoadNext w r within w.1 refl (λ o his. refl) (rw (left_is seen LoadNext w r within w.1 made.fine) (get-set_same seen.state.seats p _ _ w.0)) refl
     own_by seen (Take j) r w within made = own_take seen j r w within made
     own_by seen l r w within made = absurd (grind (arith, w.1))
@@ -439,9 +436,6 @@ module _ {V : Type 0} (v : V) (first : ℕ) where
     busy_by : (seen : World) (l : TicketPoint) → walk.Waits f x seen l → (t q : ℕ) → 1 ≤ ahead t (serving_word seen.plain) seen.plain.tickets q (seat_of seen q) → is_busy (seat_of seen q) ≡ true
     busy_by seen l w t q long = grind (arith, empty_is, some, his_sits, ahead_other, cases_eq)
 
-    busy_at : (seen : World) (l : TicketPoint) → walk.Waits f x seen l → (q : ℕ) → 1 ≤ theirs_by N seen.plain l q (seat_of seen q) → is_busy (seat_of seen q) ≡ true
-    busy_at seen l w q long = grind (arith, busy_by, next)
-
     some_load : (seen : World) (l : TicketPoint) → walk.Waits f x seen l → walk.Within f x seen l 0 → ⊥
     some_load seen (Await t) w none =
         grind (arith, none.mine, none.theirs (first_party seen.plain.tickets), behind seen (Await t) w t refl, ahead_own, some seen (Await t) w t refl, cases_eq (first_party seen.plain.tickets) p, eq-eqb)
@@ -454,10 +448,6 @@ module _ {V : Type 0} (v : V) (first : ℕ) where
     loads_few : (seen : World) (l : TicketPoint) → walk.Waits f x seen l → walk.Within f x seen l (max 2 (3 * n - 2) + (N - seen.plain.next))
     loads_few seen l w = grind (arith, bit_few, near, ahead_most, left_few, doorway_fits, next, door_few)
 
-    begins_by : (seen : World) (l : TicketPoint) → walk.Waits f x seen l → (q : ℕ) (c : TicketCall) (i : TicketPoint) (h : Option Hold) → seat_of seen q ≡ Some (resting h) → m.begin c h ≡ Some i
-        → theirs_by N seen.plain l q (Some (Calling c i h)) ≤ theirs_by N seen.plain l q (seat_of seen q) - 1
-    begins_by seen l w q c i h at may = grind (arith, first_begins, next)
-
     walks : walk.Walks f x
     walks =
         record {
@@ -467,15 +457,11 @@ module _ {V : Type 0} (v : V) (first : ℕ) where
           steps = λ seen l r w within q c i h ne at made. inr (steps_by seen l r w within q c i h ne at made);
           weak = λ seen l next at may. absurd (strong Lock l None next may);
           refuses = λ seen l w q c i h next ne at may. absurd (strong c i h next may);
-          begins = λ seen l w q c i h ne at may. let low = begins_by seen l w q c i h at may in (omega (arith, low), λ is. low);
+          begins = λ seen l w q c i h ne at may. (grind (arith, first_begins, next, w, at, may), λ is. grind (arith, first_begins, next, w, at, may));
           leaks = λ s l q h. grind arith;
-          busy = λ seen l q w ne long. busy_at seen l w q long;
+          busy = λ seen l q w ne long. grind (arith, busy_by, next, long, w);
           some = some_load;
         }
-
-  await_at : (t p : ℕ) (c : TicketCall) (l : TicketPoint) (h : Option Hold) → StandsSo (ticket_notes v first) (λ e. waits_by t e.tickets) p c l h
-      → Some (Calling c l h) ≡ Some (Calling Lock (Await t) None)
-  await_at t p c l h is = grind (arith, eqb-true, and_parts)
 
   -- a waiting call is at a point of a `lock`
   lock_at : (N p : ℕ) (c : TicketCall) (l : TicketPoint) (h : Option Hold) (s : Plain) (span : List Mark) → (asks_of c h).waits ≡ true → Knows (ticket_notes v first) c l h p s span → N < ticket_limit → (Some (Calling c l h) ≡ Some (Calling Lock l None)) × at_lock N l
@@ -511,7 +497,7 @@ module _ {V : Type 0} (v : V) (first : ℕ) where
 
     pub enters_in_rounds : (rounds : List (List (ℕ × Move TicketCall V))) → EntersInRounds m n past rounds
     enters_in_rounds rounds p t c l h there with_it are long =
-        let at = await_at t p c l h (calls_so f n past (λ e. waits_by t e.tickets) p there (ap (λ (e : Entries). waits_by t e.tickets) with_it ∙ rw (eqb_self t) refl)) in
+        let at : Some (Calling c l h) ≡ Some (Calling Lock (Await t) None) = grind (arith, eqb-true, and_parts, calls_so f n past (λ e. waits_by t e.tickets) p there (ap (λ (e : Entries). waits_by t e.tickets) with_it ∙ rw (eqb_self t) refl)) in
         let long_here : 3 * (t - serving_word seen.plain) + 1 ≤ length rounds = omega (arith, long, ap (λ z. t - z) numbers.1) in
         granted_in p (Await t) rounds (there ∙ at) tt are
         (λ w. record { mine = omega (arith, bit_few (first_party seen.plain.tickets == p), long_here); theirs = λ q ne. omega (arith, long_here, ahead_most t (serving_word seen.plain) seen.plain.tickets q (seat_of seen q), left_few (seat_of seen q)) })

@@ -1,6 +1,6 @@
 -- What events keep of a party that waits in a call, of a party that has leaked, and of others.
 use Rattle.spin_laws.proofs.Names.{seat_of, not, is_empty, goes_on, ◌⊎◌, ⊎_elim, cases_eq, is_step, eqb_self, ◌≡◌, ℕ, ◌==◌, ◌&&◌, ◌||◌, Bool, true, false, Option, Some, None, List, [], ◌∷◌, ◌++◌, refl, arith, eqb-true, false≢true, may_read, and_parts, Machine, State, happens, resting, after, is_owners, Seen, Scene, scene, Hold, Seat, Calling, Holding, Leaked, Gone, Next, Move, Outcome, Test, occurs, is_awaited, MovesOn, get-set_other, seat_with}
-use Rattle.spin_world_core.proofs.Names.{true≢false, option_map, seen_by_owner, slice_get-map, scene_of, scene_at, skipped, StepKind, Step, Weak}
+use Rattle.spin_world_core.proofs.Names.{true≢false, seen_by_owner, slice_get-map, scene_of, scene_at, skipped, StepKind, Step, Weak}
 use Rattle.spin_step.specs.StepKinds as step_kind
 use Rattle.spin_world_core.proofs.Owners.{all-get}
 use Rattle.spin_step.specs.Parties.{Entries}
@@ -33,10 +33,6 @@ is_busy _ = false
 -- a party with these entries in the plain lock holds the lock
 abbrev pub holds_lock : Entries → Bool
 holds_lock e = not (is_empty e.holders)
-
--- a party that has left (`has_left`) has also left after the owner's use of the value
-seen_left : {C L : Type 0} (o : Option (Seat C L)) → has_left o ≡ true → has_left (option_map seen_by_owner o) ≡ true
-seen_left o left = grind (arith, left)
 
 -- a party that is idle, holds or has leaked is in no call
 
@@ -71,7 +67,7 @@ module _ {W V C L A : Type 0} (m : Machine W V C L A) where
 
   -- a party that has leaked stays so or is gone, and moves no more
   away : (seen : Seen W V C L) (q d : ℕ) → has_left (seat_of seen d) ≡ true → (move : Move C V) → let sc = scene m seen q move in (has_left (seat_of sc.after d) ≡ true) × (q ≡ d → is_idle sc.outcome ≡ true)
-  away seen q d left move = grind (arith, get-set_other {X = Seat C L}, slice_get-map (seen_by_owner {C = C} {L = L}), left, seen_left)
+  away seen q d left move = grind (arith, get-set_other {X = Seat C L}, slice_get-map (seen_by_owner {C = C} {L = L}), left)
 
   -- the move of the party d, with the seat o, that a round waits for
   abbrev pub awaited_of : ℕ → Option (Seat C L) → Test V C L A

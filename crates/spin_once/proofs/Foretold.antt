@@ -130,8 +130,7 @@ abbrev Came : Type 0
 Came = Option (View × ℕ)
 
 abbrev marked : List Made → Came → Came
-marked log None = None
-marked log (Some u) = Some (u.0, length (foretold (take u.1 log)))
+marked log came = option_map (λ u. (u.0, length (foretold (take u.1 log)))) came
 
 kinds_marked : (log : List Made) (came : List Came) → map kind (map (marked log) came) ≡ map kind came
 kinds_marked log [] = refl

@@ -1,5 +1,5 @@
 -- Each step keeps the rule of a value that is made once, and appends its moves to the trace.
-use Rattle.std.proofs.Common.{◌≡◌, ◌≢◌, Bool, true, false, ℕ, zero, suc, ◌+◌, replicate, ◌<◌, List, [], ◌∷◌, Option, Some, None, refl, sym, ap, ◌∙◌, subst, arith}
+use Rattle.std.proofs.Common.{◌≡◌, ◌≢◌, Bool, true, false, ℕ, zero, suc, ◌+◌, ◌<◌, List, [], ◌∷◌, Option, Some, None, refl, sym, ap, ◌∙◌, subst, arith}
 use mathlib.Core.Logic.{◌⊎◌, inl, inr}
 use Rattle.spin_core.specs.Cell.{off, reads, writes, use_of, alone, Fixed, Opens, Rests, Lends, Knowing, readers_of, writers_of, no_fact}
 use Rattle.spin_core.specs.Own.{Numbered, what, IsRun, Runs, Tells}
@@ -18,13 +18,13 @@ use Rattle.spin_session.specs.Turns.{outcome_of, has_begun}
 use Rattle.spin_step.specs.Acts.{operation_by}
 use Rattle.spin_step.specs.OnceCalls.{act_of}
 use Rattle.spin_step.specs.Operations.{wrapped}
-use Rattle.spin_step.specs.Schedules.{Entry, State}
+use Rattle.spin_step.specs.Schedules.{Entry}
 use Rattle.spin_step.specs.declared.once_calls.OnceCall.TheVariants.{TryCallOnceOk, Wait}
 use Rattle.spin_step.specs.declared.once_calls.OncePoint.{OncePoint}
 use Rattle.spin_step.specs.declared.once_calls.OncePoint.TheVariants.{Look, Run}
 use Rattle.spin_step.specs.declared.place.Seat.TheVariants.{Idle, Calling}
 use Rattle.spin_step.specs.declared.schedule.Move.TheVariants.{Write, Weak, Step}
-use Rattle.spin_once.specs.Model.{Point, model}
+use Rattle.spin_once.specs.Model.{model}
 use Rattle.spin_once.specs.OnceValues.{Valued, bare, bare_trace, given_of, made, AtMostOne, IsMade, lent_key}
 use Rattle.spin_once.specs.Once.{Call, View, OneMove, HasClosure, IsAt, use_of_view, use_of_party, Word, reader, in_call, is_run, is_running, is_done, IsMadeFrom, once_ways, seat_of, words_of, Says, IsOnce, Told, next_at, view_of, turn, turn_by, fails_by}
 use Rattle.spin_once.specs.declared.once_core.rule.Key.{Key}
@@ -173,9 +173,6 @@ module _ {T S : Type 0} (makes : S → T → Type 0) (key : Key T S) where
       let met = tie.opens (model given) seat_of words_of Word name Content (steps.way makes key) use_of_view no_fact 0 (bare_trace t) named (ap bare empty) (rw is refl) (steps.meets makes key 0 tt [] (refl, refl)) in
       let few : AtMostOne 0 (made key.opening.value t.entries) = rw (is, empty) (λ other. refl, omega arith) in ([], tt, ((met.0, few), met.1), (tt, same))
 
-  abbrev idle_state : ℕ → State ℕ (Unit {0}) (Call) Point
-  idle_state k = record { words = 2; value = Some tt; seats = replicate k Idle }
-
   one_more : (more : ℕ) → 1 + more ≡ suc more
   one_more more = omega arith
 
@@ -184,7 +181,7 @@ module _ {T S : Type 0} (makes : S → T → Type 0) (key : Key T S) where
   unfolding IsOnce
   starts_made t named empty value is is_made =
       let first : Numbered View = (reader, 0, 0) in let met = steps.meets makes key 2 tt (reader ∷ []) (omega arith, refl) in
-      let runs : IsRun (model (Some tt)) seat_of words_of [] (2, tt) (first ∷ []) = (Some (reader, 0) ∷ [], 2, Some tt, refl, refl, (λ more. ap idle_state (one_more more)), (λ more. refl), (((omega arith), refl), λ q le. refl), refl) in
+      let runs : IsRun (model (Some tt)) seat_of words_of [] (2, tt) (first ∷ []) = (Some (reader, 0) ∷ [], 2, Some tt, refl, refl, (λ more. rw one_more refl), (λ more. refl), (((omega arith), refl), λ q le. refl), refl) in
       let here : IsRun (model given) seat_of words_of (bare t.entries) (2, t.word) (first ∷ []) = rw (is, empty) runs in
       let only : made key.opening.value t.entries ≡ value ∷ [] = rw (is, empty) refl in
       let few : AtMostOne 2 (made key.opening.value t.entries) = rw only (λ other. absurd (other refl), omega arith) in
