@@ -29,6 +29,10 @@ unfoldable pub known_owns : {T : Type 0} → (T → Gv) → ℕ → List T → F
 known_owns c γ [] = ftrue
 known_owns c γ (x ∷ l) = at_least logs γ (map c (x ∷ l))
 
+-- one of two lists is a prefix of the other
+abbrev pub OneIsPrefix : {T : Type 0} → List T → List T → Type 0
+OneIsPrefix k l = IsPrefix k l ⊎ IsPrefix l k
+
 -- m is the longer of two lists, and has both as prefixes
 abbrev pub KnowsBoth : {T : Type 0} → List T → List T → List T → Type 0
 KnowsBoth k l m = IsPrefix k m × IsPrefix l m × ((m ≡ k) ⊎ (m ≡ l))

@@ -1,9 +1,9 @@
 //! A log that only grows and has a name, and what is known of it. Begin with [`Trace`].
-ghost use Rattle.std.specs.Prelude.{◌≡◌, ◌⊎◌, ℕ, List, []};
+ghost use Rattle.std.specs.Prelude.{◌≡◌, ℕ, List, []};
 ghost use Rattle.std.specs.Coded.{coded_list};
 ghost use mathlib.Core.List.{IsPrefix};
 ghost use denote.Sharing.{said};
-ghost use Rattle.spin_core.specs.Logs.{log_owns, log_shares, known_owns, KnowsBoth};
+ghost use Rattle.spin_core.specs.Logs.{log_owns, log_shares, known_owns, KnowsBoth, OneIsPrefix};
 
 use crate::cell::let_go;
 use std::marker::{Model, PhantomData};
@@ -132,7 +132,7 @@ impl<E> Watch<E> {
     /// The entries known to one of the watches are a prefix of those known to the other.
     pub fn compare(&self, other: &Watch<E>)
         requires { self.now.name ≡ other.now.name }
-        ensures { IsPrefix self.now.entries other.now.entries ⊎ IsPrefix other.now.entries self.now.entries }
+        ensures { OneIsPrefix self.now.entries other.now.entries }
     {
         let _ = self.later(other);
     }

@@ -1,8 +1,9 @@
 //! A log that only grows, and snapshots of it. Both are ghost state: tokens that have no bytes and cost
 //! nothing at run time. Begin with [`BlankLog::new`] and [`Snapshot`].
-ghost use Rattle.std.specs.Prelude.{◌≡◌, ◌⊎◌, ℕ, List, [], ◌∷◌, ◌++◌, ⊤};
+ghost use Rattle.std.specs.Prelude.{◌≡◌, ℕ, List, [], ◌∷◌, ◌++◌, ⊤};
 ghost use Rattle.std.specs.Coded.{coded_list};
 ghost use mathlib.Core.List.{IsPrefix};
+ghost use Rattle.spin_core.specs.Logs.{OneIsPrefix};
 ghost use denote.Sharing.{said};
 ghost use Rattle.spin_core.specs.Logs.{log_owns, log_shares, known_owns};
 ghost use Rattle.spin_history.specs.History.{blank_owns, closed_owns};
@@ -251,7 +252,7 @@ impl<T, H: History> Snapshot<T, H> {
     /// # Contract
     /// The entries of one snapshot are a prefix of the other's.
     pub fn compare(&self, other: &Snapshot<T, H>)
-        ensures { IsPrefix self.now.entries other.now.entries ⊎ IsPrefix other.now.entries self.now.entries }
+        ensures { OneIsPrefix self.now.entries other.now.entries }
     {}
 
     /// Adds what another snapshot knows to this one.

@@ -62,3 +62,8 @@ module _ {T : Type 0} where
     -- The writer has written the guard's value, so this is the one written last, and has then made this call.
     abbrev pub Unlocks : RwCall → RwLockWriteGuard T R → RwSpot T → Type 0
     Unlocks call guard now = Wrote call (write_value guard) (write_spot guard) now × IsLast (opening_of (write_spot guard)) (history now) (write_value guard)
+
+  module _ {R K : Type 0} {kind : Ghosts K} where
+    -- If the writer knows its lock's history, it has written its value, and has become the reader with this guard by this call.
+    abbrev pub Lowers : RwCall → RwLockWriteGuard T R → SharedGuard T K R kind → Type 0
+    Lowers call writer reader = Holds writer → Unlocks call writer (shared_spot reader)

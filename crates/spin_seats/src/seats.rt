@@ -1,6 +1,6 @@
 //! A spinning lock of `N` seats: a counting semaphore. Begin with [`Seats::new`] and [`Seats::enter`].
-ghost use Rattle.std.specs.Prelude.{◌≡◌, ◌≤◌, ◌⊎◌, Some, None, IfSome, IfOk, IfErr};
-ghost use mathlib.Core.List.{IsPrefix};
+ghost use Rattle.std.specs.Prelude.{◌≡◌, ◌≤◌, Some, None, IfSome, IfOk, IfErr};
+ghost use Rattle.spin_core.specs.Logs.{OneIsPrefix};
 ghost use Rattle.spin_step.specs.declared.answer.Answer.TheVariants.{Granted, Refused, Count as Counted, Done as Left};
 ghost use Rattle.spin_step.specs.declared.place.Hold.TheVariants.{Read};
 ghost use Rattle.spin_session.specs.Turns.{Stands, history, lock_of, spot};
@@ -293,7 +293,7 @@ impl<'a, const N: usize> Pass<'a, N> {
     /// The history that one of the passes knows is a prefix of the history that the other knows.
     pub fn compare(&self, other: &Pass<'_, N>)
         requires { lock_of self.now ≡ lock_of other.now }
-        ensures { IsPrefix (history self.now) (history other.now) ⊎ IsPrefix (history other.now) (history self.now) }
+        ensures { OneIsPrefix (history self.now) (history other.now) }
     {
         self.session.seen.compare(&other.session.seen);
     }

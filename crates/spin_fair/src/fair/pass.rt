@@ -1,6 +1,6 @@
 //! The calls of a [`FairMutex`] by a thread that keeps track of them. Begin at [`FairMutex::pass`].
-ghost use Rattle.std.specs.Prelude.{◌≡◌, ◌⊎◌, None, IfOk, IfErr};
-ghost use mathlib.Core.List.{IsPrefix};
+ghost use Rattle.std.specs.Prelude.{◌≡◌, None, IfOk, IfErr};
+ghost use Rattle.spin_core.specs.Logs.{OneIsPrefix};
 ghost use Rattle.spin_session.specs.Turns.{Stands, history, lock_of, spot};
 ghost use Rattle.spin_step.specs.declared.answer.Answer.TheVariants.{Granted, Refused, Is};
 ghost use Rattle.spin_step_more.specs.declared.fair_calls.FairCall.TheVariants.{Lock, TryLock, TryLockStarver, IsLocked, Starve};
@@ -168,7 +168,7 @@ impl<'a, T, R> Pass<'a, T, R> {
         self,
     ) -> Result<FairMutexGuard<'a, T, R>, (LockRejectReason, Pass<'a, T, R>)>
         ensures granted { IfOk result (Grants TryLockStarver self.entry) }
-        ensures refused { IfErr result (λ told. Calls TryLockStarver (answer_of told.0) self.entry told.1) }
+        ensures refused { IfErr result (λ e. Calls TryLockStarver (answer_of e.0) self.entry e.1) }
     {
         let Self { session, strategy } = self;
         let (answer, _, session, _) = in_three(session, FairCall::TryLockStarver, None);
@@ -240,7 +240,7 @@ impl<'a, T, R> Pass<'a, T, R> {
     /// histories has the calls of both passes, in the order in which each pass made them.
     pub fn compare(&self, other: &Pass<'_, T, R>)
         requires { lock_of self.now ≡ lock_of other.now }
-        ensures { IsPrefix (history self.now) (history other.now) ⊎ IsPrefix (history other.now) (history self.now) }
+        ensures { OneIsPrefix (history self.now) (history other.now) }
     {
         self.session.seen.compare(&other.session.seen);
     }

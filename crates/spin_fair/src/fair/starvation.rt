@@ -63,7 +63,7 @@ impl<'a, T, R> Starvation<'a, T, R> {
     /// ```
     pub fn try_lock_fair(self) -> Result<FairMutexGuard<'a, T, R>, Starvation<'a, T, R>>
         ensures granted { IfOk result (Grants StarverTryLockFair self.entry) }
-        ensures refused { IfErr result (λ starver. Calls StarverTryLockFair Refused self.entry starver) }
+        ensures refused { IfErr result (Calls StarverTryLockFair Refused self.entry) }
     {
         let Self { session, strategy } = self;
         match try_to_acquire(session, FairCall::StarverTryLockFair, Some(Hold::Starver)) {
@@ -94,7 +94,7 @@ impl<'a, T, R> Starvation<'a, T, R> {
     /// ```
     pub fn try_lock(self) -> Result<FairMutexGuard<'a, T, R>, Starvation<'a, T, R>>
         ensures granted { IfOk result (Grants StarverTryLock self.entry) }
-        ensures refused { IfErr result (λ starver. Calls StarverTryLock Refused self.entry starver) }
+        ensures refused { IfErr result (Calls StarverTryLock Refused self.entry) }
     {
         let Self { session, strategy } = self;
         match try_to_acquire(session, FairCall::StarverTryLock, Some(Hold::Starver)) {

@@ -1,7 +1,7 @@
 //! What a party does, and knows of the trace. Begin with [`Account::get`] and [`Account::come`]; [`Account::claim`]
 //! gives the value or the right to make it.
-ghost use Rattle.std.specs.Prelude.{◌≡◌, ◌≤◌, ◌⊎◌, ℕ, Some, None, true, false, length, IfErr, IfSome};
-ghost use mathlib.Core.List.{IsPrefix};
+ghost use Rattle.std.specs.Prelude.{◌≡◌, ◌≤◌, ℕ, Some, None, true, false, length, IfErr, IfSome};
+ghost use Rattle.spin_core.specs.Logs.{OneIsPrefix};
 ghost use Rattle.spin_core.specs.Cell.{use_of, Moved, Keeps};
 ghost use Rattle.spin_core.specs.Own.{what};
 ghost use Rattle.spin_core.specs.Passes.{mark_of};
@@ -79,7 +79,7 @@ impl<'a, T, S: Seed<T>> Account<'a, T, S> {
     /// Compares what two accounts of one cell know. It does nothing when it runs.
     pub(crate) fn compare(&self, other: &Account<'_, T, S>)
         requires { self.now.seen.name ≡ other.now.seen.name }
-        ensures { IsPrefix self.now.seen.entries other.now.seen.entries ⊎ IsPrefix other.now.seen.entries self.now.seen.entries }
+        ensures { OneIsPrefix self.now.seen.entries other.now.seen.entries }
     {
         self.seen.compare(&other.seen);
     }

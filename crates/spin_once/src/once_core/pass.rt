@@ -1,6 +1,6 @@
 //! A thread's record of its calls of a `Once` or a `LazyLock`. Begin with [`Pass`].
-ghost use Rattle.std.specs.Prelude.{◌≡◌, ◌⊎◌, false, IfSome};
-ghost use mathlib.Core.List.{IsPrefix};
+ghost use Rattle.std.specs.Prelude.{◌≡◌, false, IfSome};
+ghost use Rattle.spin_core.specs.Logs.{OneIsPrefix};
 ghost use Rattle.spin_core.specs.Own.{what};
 ghost use Rattle.spin_session.specs.Turns.{has_begun};
 ghost use Rattle.spin_step.specs.declared.answer.Answer.TheVariants.{Is};
@@ -95,7 +95,7 @@ impl<'a, T, S: Seed<T>, R> Pass<'a, T, S, R> {
     /// pass made them.
     pub fn compare(&self, other: &Pass<'_, T, S, R>)
         requires { lock_of self.now ≡ lock_of other.now }
-        ensures { IsPrefix (history self.now) (history other.now) ⊎ IsPrefix (history other.now) (history self.now) }
+        ensures { OneIsPrefix (history self.now) (history other.now) }
     {
         self.account.compare(&other.account);
     }

@@ -1,7 +1,7 @@
 //! The calls of an [`RwLock`] by a thread that keeps track of them. Begin at [`RwLock::pass`].
-ghost use Rattle.std.specs.Prelude.{◌≡◌, ◌⊎◌, ◌≤◌, true, false, None, IfOk, IfErr};
+ghost use Rattle.std.specs.Prelude.{◌≡◌, ◌≤◌, true, false, None, IfOk, IfErr};
 ghost use Rattle.std.specs.Option.{IfSome};
-ghost use mathlib.Core.List.{IsPrefix};
+ghost use Rattle.spin_core.specs.Logs.{OneIsPrefix};
 ghost use Rattle.spin_core.specs.Calls.{AnswersOf, AnswersOfShared};
 ghost use Rattle.spin_core.specs.Values.{IsLast};
 ghost use Rattle.spin_step.specs.declared.answer.Answer.TheVariants.{Granted, Refused, Count, Done};
@@ -285,7 +285,7 @@ impl<'a, T, R> Pass<'a, T, R> {
     // Tries to come as a reader of this kind.
     fn try_lend<K: Kind, W: Wait>(self, rt: &W) -> Result<SharedGuard<'a, T, K, R>, Pass<'a, T, R>>
         ensures granted { IfOk result (Lends (call_of K.hold false) Granted self.entry) }
-        ensures refused { IfErr result (λ pass. Calls (call_of K.hold false) Refused self.entry pass) }
+        ensures refused { IfErr result (Calls (call_of K.hold false) Refused self.entry) }
     {
         let Self { session, strategy } = self;
         match try_for(
@@ -378,7 +378,7 @@ impl<'a, T, R> Pass<'a, T, R> {
     /// histories has the calls of both passes, in the order in which each pass made them.
     pub fn compare(&self, other: &Pass<'_, T, R>)
         requires { lock_of self.now ≡ lock_of other.now }
-        ensures { IsPrefix (history self.now) (history other.now) ⊎ IsPrefix (history other.now) (history self.now) }
+        ensures { OneIsPrefix (history self.now) (history other.now) }
     {
         self.session.seen.compare(&other.session.seen);
     }

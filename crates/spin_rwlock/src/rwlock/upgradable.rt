@@ -47,8 +47,8 @@ impl<'a, T, R> SharedGuard<'a, T, Upgrader, R> {
     /// ```
     #[tactic(auto, using(crate::proofs::RwCalls::tries_to_upgrade, crate::proofs::RwCalls::upgrade_at_once, crate::proofs::RwCalls::may_raise))]
     pub fn try_upgrade(self) -> Result<RwLockWriteGuard<'a, T, R>, Self>
-        ensures granted_value { IfOk result (λ guard. Some (write_value guard) ≡ shared_value self.entry) }
-        ensures refused_value { IfErr result (λ guard. shared_value guard ≡ shared_value self.entry) }
+        ensures granted_value { IfOk result (λ g. Some (write_value g) ≡ shared_value self.entry) }
+        ensures refused_value { IfErr result (λ g. shared_value g ≡ shared_value self.entry) }
         ensures granted { IfOk result (Grants TryUpgrade (shared_spot self.entry)) }
         ensures refused { IfErr result (Lends TryUpgrade Refused (shared_spot self.entry)) }
     {
@@ -65,8 +65,8 @@ impl<'a, T, R> SharedGuard<'a, T, Upgrader, R> {
     /// # Contract
     /// Like that of `try_upgrade`.
     pub fn try_upgrade_weak(self) -> Result<RwLockWriteGuard<'a, T, R>, Self>
-        ensures granted_value { IfOk result (λ guard. Some (write_value guard) ≡ shared_value self.entry) }
-        ensures refused_value { IfErr result (λ guard. shared_value guard ≡ shared_value self.entry) }
+        ensures granted_value { IfOk result (λ g. Some (write_value g) ≡ shared_value self.entry) }
+        ensures refused_value { IfErr result (λ g. shared_value g ≡ shared_value self.entry) }
         ensures granted { IfOk result (Grants TryUpgrade (shared_spot self.entry)) }
         ensures refused { IfErr result (Lends TryUpgrade Refused (shared_spot self.entry)) }
     {

@@ -53,7 +53,7 @@ pub struct WriteHeld<'a, T, R = Spin> {
 
 impl<'a, T, R> RwLockWriteGuard<'a, T, R> {
     ghost use Rattle.spin_rwlock.specs.Guards.{RwSpot, shared_value, write_value, write_held_value, shared_spot, write_spot, write_held_spot, Holds};
-    ghost use Rattle.spin_rwlock.specs.RwPasses.{Calls, Grants, Unlocks};
+    ghost use Rattle.spin_rwlock.specs.RwPasses.{Calls, Grants, Lowers, Unlocks};
 
     fn new(writer: Writer<'a, T>, seen: Watch<Entry<T>>) -> Self
         ensures { (result.writer ≡ writer.entry) × (result.seen ≡ seen) }
@@ -97,7 +97,7 @@ impl<'a, T, R> RwLockWriteGuard<'a, T, R> {
     /// ```
     pub fn downgrade(self) -> RwLockReadGuard<'a, T, R>
         ensures value { shared_value result ≡ Some (write_value self.entry) }
-        ensures made { Holds self.entry → Unlocks Downgrade self.entry (shared_spot result) }
+        ensures made { Lowers Downgrade self.entry result }
     {
         self.lend()
     }
@@ -122,7 +122,7 @@ impl<'a, T, R> RwLockWriteGuard<'a, T, R> {
     /// ```
     pub fn downgrade_to_upgradeable(self) -> RwLockUpgradableGuard<'a, T, R>
         ensures value { shared_value result ≡ Some (write_value self.entry) }
-        ensures made { Holds self.entry → Unlocks DowngradeToUpgradeable self.entry (shared_spot result) }
+        ensures made { Lowers DowngradeToUpgradeable self.entry result }
     {
         self.lend()
     }
@@ -131,7 +131,7 @@ impl<'a, T, R> RwLockWriteGuard<'a, T, R> {
     #[tactic(auto, using(crate::proofs::RwCalls::may_lower))]
     fn lend<K: Kind>(self) -> SharedGuard<'a, T, K, R>
         ensures value { shared_value result ≡ Some (write_value self.entry) }
-        ensures made { Holds self.entry → Unlocks (downgrade_to K.hold) self.entry (shared_spot result) }
+        ensures made { Lowers (downgrade_to K.hold) self.entry result }
     {
         let (call, after) = (downgrade_to(K::hold()), Some(K::hold()));
         SharedGuard::lent(self.leave(call, after))

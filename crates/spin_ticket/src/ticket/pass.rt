@@ -1,6 +1,6 @@
 //! The calls of a [`TicketMutex`] by a thread that keeps track of them. Begin at [`TicketMutex::pass`].
-ghost use Rattle.std.specs.Prelude.{◌≡◌, ◌⊎◌, None, IfOk, IfErr};
-ghost use mathlib.Core.List.{IsPrefix};
+ghost use Rattle.std.specs.Prelude.{◌≡◌, None, IfOk, IfErr};
+ghost use Rattle.spin_core.specs.Logs.{OneIsPrefix};
 ghost use Rattle.spin_session.specs.Turns.{Stands, history, lock_of, spot};
 ghost use Rattle.spin_ticket.specs.TicketPasses.{After, Calls, TicketSpot, Grants, Holds, Recalls, Unlocks, new_in, opening};
 ghost use Rattle.spin_ticket.specs.TicketPasses.{Lock, TryLock, IsLocked};
@@ -198,7 +198,7 @@ impl<'a, T, R> Pass<'a, T, R> {
     /// histories has the calls of both passes, in the order in which each pass made them.
     pub fn compare(&self, other: &Pass<'_, T, R>)
         requires { lock_of self.now ≡ lock_of other.now }
-        ensures { IsPrefix (history self.now) (history other.now) ⊎ IsPrefix (history other.now) (history self.now) }
+        ensures { OneIsPrefix (history self.now) (history other.now) }
     {
         self.session.seen.compare(&other.session.seen);
     }
