@@ -1,27 +1,32 @@
 -- What a pass of a read-write lock knows, and what its calls do.
-use Rattle.std.specs.Prelude.{ℕ}
+use Rattle.std.specs.Prelude.{ℕ, List}
 use Rattle.std.specs.Option.{IfSome}
+use Rattle.spin_core.specs.Cell.{Starts, Ways}
 use Rattle.spin_core.specs.Own.{Numbered}
 use Rattle.spin_core.specs.Values.{IsLast}
 use Rattle.spin_core.specs.declared.tie.Opening.{Opening}
-use Rattle.spin_core.specs.declared.trace.Trace.{Trace}
 use Rattle.spin_step.specs.declared.answer.Answer.{Answer}
 use Rattle.spin_step.specs.declared.answer.Answer.TheVariants.{Granted}
-use Rattle.spin_step.specs.Schedules.{Entry}
 use Rattle.spin_step_more.specs.declared.rw_calls.RwCall.{RwCall}
-use Rattle.spin_session.specs.Meaning.{just_one}
 use Rattle.spin_session.specs.Passes as session
-use Rattle.spin_session.specs.Ending as ending
 pub use Rattle.spin_session.specs.Ending.{Includes, Recalls}
 use Rattle.spin_session.specs.Turns as turns
 pub use Rattle.spin_session.specs.Passes.{◌⨾◌, After, history, lock_of, new_in, opening_of, party, OpensWith}
-use Rattle.spin_rwlock.specs.Rw.{View, rw_meaning, rw_tables}
+use Rattle.spin_rwlock.specs.Rw.{View, rw_tables}
 pub use Rattle.spin_rwlock.specs.Guards.{RwSpot, shared_spot, write_spot, Holds}
 use Rattle.spin_rwlock.specs.Guards.{shared_value, write_value}
 use Rattle.spin_rwlock.specs.declared.rwlock.RwLock.{RwLock}
 use Rattle.spin_rwlock.specs.declared.rwlock.reader.SharedGuard.{SharedGuard}
 use Rattle.spin_rwlock.specs.declared.rwlock.rule.Kind.{Ghosts}
 use Rattle.spin_rwlock.specs.declared.rwlock.writer.RwLockWriteGuard.{RwLockWriteGuard}
+
+-- what was fixed when a lock under any rule was made
+abbrev pub key_of : {T R V P K S : Type 0} → RwLock T R V P K S → K
+key_of lock = lock.cell
+
+-- The history of a lock under this rule is a schedule of the model. Unless a party still writes the value, the value is the one written last.
+abbrev pub Ends : {T V S : Type 0} → (ℕ → S → List V → Type 0) → Ways T V S → T × S → Type 0
+Ends holds ways end = (word : ℕ) × Starts holds ways word end.1 end.0
 
 module _ {T R P S : Type 0} where
   -- what was fixed when the lock was made: the name of its history, and the value that it opened with
@@ -44,10 +49,6 @@ module _ {T : Type 0} where
   -- from `before` to `now` the pass has written some value, and has then made this call
   abbrev pub WroteSome : RwCall → RwSpot T → RwSpot T → Type 0
   WroteSome = session.WroteSome rw_tables
-
-  -- The history is a schedule of the model. Unless a party still writes the value, the value is the one written last.
-  abbrev pub Ends : Opening T → T × Trace (Entry RwCall T) (Unit {0}) → Type 0
-  Ends = ending.Ends rw_tables rw_meaning just_one
 
   module _ {R K : Type 0} {kind : Ghosts K} where
     -- By this call, so answered, the party at `before` is a reader with this guard, whose value is the one written last.

@@ -3,7 +3,7 @@ ghost use Rattle.std.specs.Prelude.{◌≤◌, IfSome};
 ghost use Rattle.spin_step.specs.declared.answer.Answer.TheVariants.{Granted};
 ghost use Rattle.spin_step_more.specs.Readers.{reader_limit};
 ghost use Rattle.spin_step_more.specs.declared.rw_calls.RwCall.TheVariants.{TryRead, Read, TryUpgradeableRead, UpgradeableRead, TryWrite, Write};
-ghost use Rattle.spin_rwlock.specs.RwPasses.{Ends, Grants, Lends, OpensWith, new_in, opening};
+ghost use Rattle.spin_rwlock.specs.RwPasses.{Ends, Grants, Lends, OpensWith, key_of, new_in, opening};
 
 use self::pass::{grant, lend};
 use spin_core::cell::{Cell, Rule};
@@ -79,19 +79,6 @@ impl<T, R> RwLock<T, R> {
             cell,
             strategy: PhantomData,
         }
-    }
-
-    /// Consumes the lock and returns the value with the lock's whole history.
-    ///
-    /// # Contract
-    /// The history is a schedule of the lock's model. Unless a party still writes the value at its end (a guard was
-    /// leaked, or a hold dropped), the value is the one written last (`Ends`). The history begins with what a pass knew
-    /// ([`covers`](spin_core::trace::Trace::covers)). The call returns.
-    pub fn into_history(self) -> (T, History<T>)
-        ensures { Ends (opening self) result }
-    {
-        let (_, value, history) = self.cell.into_parts();
-        (value, history)
     }
 
     /// Returns a mutable reference to the value.
@@ -313,6 +300,19 @@ impl<T, R, V, P: Rule<T, V>> RwLock<T, R, V, P> {
     /// Only that the call returns.
     pub fn into_inner(self) -> T {
         self.cell.into_inner()
+    }
+
+    /// Consumes the lock and returns the value with the lock's whole history.
+    ///
+    /// # Contract
+    /// The history is a schedule of the lock's model. Unless a party still writes the value at its end (a guard was
+    /// leaked, or a hold dropped), the value is the one written last (`Ends`). The history begins with what a pass knew
+    /// ([`covers`](spin_core::trace::Trace::covers)). The call returns.
+    pub fn into_history(self) -> (T, P::Second)
+        ensures { Ends (P.holds (key_of self)) (P.ways (key_of self)) result }
+    {
+        let (_, value, history) = self.cell.into_parts();
+        (value, history)
     }
 }
 
