@@ -1,6 +1,7 @@
 -- What a pass of a `LazyLock` knows, and what its calls do.
 use Rattle.std.specs.Prelude.{ℕ}
 pub use Rattle.spin_once.specs.Passes.{◌⨾◌, After, AreOfOne, Calls, Gets, Gives, Has, Never, OpensWith, TellsValue, WroteNone, given, history, lock_of, new_in, opening_of, party, schedule}
+use Rattle.spin_step.specs.declared.once_calls.OnceCall.TheVariants.{CallOnce}
 use Rattle.spin_once.specs.Accounts.{Place}
 use Rattle.spin_once.specs.declared.lazylock.LazyLock.{LazyLock}
 use Rattle.spin_once.specs.declared.lazylock.Initialiser.{Initialiser}
@@ -23,3 +24,11 @@ module _ {T F M : Type 0} where
   -- what is promised of the value, as a pass keeps it
   abbrev pub promise_of : Place T (Initialiser F M) → M
   promise_of pass = pass.0.seed.value.promise
+
+  -- by one `CallOnce` the pass has got this value; if the pass wrote it, it keeps the promise
+  abbrev pub Forces : (M → T → Type 0) → Place T (Initialiser F M) → T → Place T (Initialiser F M) → Type 0
+  Forces keeps before value now = Gets (CallOnce tt) (keeps (promise_of before)) before value now
+
+  -- by one `CallOnce` a party at `before` has got this value, as in `Forces`
+  abbrev pub Forced : (M → T → Type 0) → Place T (Initialiser F M) → T → Type 0
+  Forced keeps before value = Gives (CallOnce tt) (keeps (promise_of before)) before value

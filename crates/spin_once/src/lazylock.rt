@@ -5,7 +5,7 @@ ghost use Rattle.spin_core.specs.Own.{what};
 ghost use Rattle.spin_step.specs.declared.once_calls.OnceCall.TheVariants.{CallOnce};
 ghost use Rattle.spin_once.specs.Accounts.{Place, here, seed_of, Entered, Finds};
 ghost use Rattle.spin_once.specs.Lazy.{initialiser, promise};
-ghost use Rattle.spin_once.specs.LazyPasses.{Gives, OpensWith, new_in, opening};
+ghost use Rattle.spin_once.specs.LazyPasses.{Forced, OpensWith, new_in, opening};
 ghost use Rattle.spin_step.specs.declared.once_calls.OncePoint.TheVariants.{TryBegin};
 ghost use Rattle.spin_once.specs.Once.{in_call};
 ghost use Rattle.spin_once.specs.declared.lazylock.Initialiser.{Initialiser as AnInitialiser};
@@ -174,12 +174,12 @@ impl<T, F: Makes<T, M>, R: RelaxStrategy, M: Promise<T>> LazyLock<T, F, R, M> {
     /// # Contract
     /// The initialiser has to be able to make the value (`can`). For a closure that means: its precondition holds, and
     /// each of its answers keeps the promise. The value keeps the promise (`keeps`), and is the only one in a history
-    /// of the `LazyLock` in which this call is one `CallOnce` (`Gives`). Whether and when the call returns is not
+    /// of the `LazyLock` in which this call is one `CallOnce` (`Forced`). Whether and when the call returns is not
     /// promised.
     pub fn force<'a, W: Wait>(this: &'a Self, rt: &W) -> &'a T
         requires { F.can (initialiser this.now) (promise this.now) }
         ensures keeps { M.keeps (promise this.now) result.now }
-        ensures found { Gives (CallOnce tt) (M.keeps (promise this.now)) (new_in (opening this.now)) result.now }
+        ensures found { Forced M.keeps (new_in (opening this.now)) result.now }
     {
         let found = match this.core.account().come(OnceCall::CallOnce(())) {
             Ok(found) => found,

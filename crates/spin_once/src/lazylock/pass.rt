@@ -1,7 +1,6 @@
 //! The calls of a [`LazyLock`] by a thread that keeps track of them. Begin at [`LazyLock::pass`].
 ghost use Rattle.std.specs.Prelude.{◌≡◌};
-ghost use Rattle.spin_step.specs.declared.once_calls.OnceCall.TheVariants.{CallOnce};
-ghost use Rattle.spin_once.specs.LazyPasses.{Gets, initialiser_of, new_in, opening, promise_of};
+ghost use Rattle.spin_once.specs.LazyPasses.{Forces, initialiser_of, new_in, opening, promise_of};
 
 use super::{Initialiser, LazyLock, Makes, Promise};
 use crate::once_core;
@@ -46,7 +45,7 @@ impl<'a, T, F: Makes<T, M>, R: RelaxStrategy, M: Promise<T>> Pass<'a, T, F, R, M
     pub fn force<W: Wait>(self, rt: &W) -> (&'a T, Self)
         requires { F.can (initialiser_of self) (promise_of self) }
         ensures keeps { M.keeps (promise_of self.entry) result.0.now }
-        ensures found { Gets (CallOnce tt) (M.keeps (promise_of self.entry)) self.entry result.0.now result.1 }
+        ensures found { Forces M.keeps self.entry result.0.now result.1 }
     {
         let found = match self.into_account().come(OnceCall::CallOnce(())) {
             Ok(found) => found,
