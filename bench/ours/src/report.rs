@@ -10,7 +10,7 @@ use spin_fair::fair::FairMutex;
 use spin_flag::spin::SpinMutex;
 use spin_mutex::mutex::Mutex;
 use spin_rwlock::rwlock::RwLock;
-use spin_ticket::ticket::TicketMutex;
+use spin_mutex::ticket::TicketMutex;
 use std::sync::Wait;
 use std::thread::Threads;
 use std::time::{Clock, Duration};

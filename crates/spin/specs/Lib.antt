@@ -1,11 +1,11 @@
 -- The names that the contracts of the locks and of their steps use. A crate that depends only on `spin` can cite them here.
-pub use Rattle.spin_mutex.specs.MutexGuard
+pub use Rattle.spin_mutex.specs.Mutex
 pub use Rattle.spin_core.specs.Guard
 pub use Rattle.spin_core.specs.Values
 pub use Rattle.spin_flag.specs.Flag
 pub use Rattle.spin_flag.specs.Passes
-pub use Rattle.spin_ticket.specs.Queue
-pub use Rattle.spin_ticket.specs.TicketPasses
+pub use Rattle.spin_mutex.specs.Queue
+pub use Rattle.spin_mutex.specs.TicketPasses
 pub use Rattle.spin_fair.specs.Fair
 pub use Rattle.spin_fair.specs.FairPasses
 pub use Rattle.spin_rwlock.specs.Guards

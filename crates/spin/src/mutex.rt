@@ -12,9 +12,9 @@ pub use spin_fair::fair;
 pub use spin_fair::fair::{FairMutex, FairMutexGuard, Starvation};
 pub use spin_flag::spin;
 pub use spin_flag::spin::{SpinMutex, SpinMutexGuard};
-pub use spin_mutex::mutex::{Held, Mutex, MutexGuard};
-pub use spin_ticket::laws::{
+pub use spin_mutex::laws::{
     the_parties_of_a_ticket_mutex_enter_in_turn, the_words_of_a_ticket_mutex_are_its_queue,
 };
-pub use spin_ticket::ticket;
-pub use spin_ticket::ticket::{TicketMutex, TicketMutexGuard};
+pub use spin_mutex::mutex::{Held, Mutex, MutexGuard};
+pub use spin_mutex::ticket;
+pub use spin_mutex::ticket::{TicketMutex, TicketMutexGuard};

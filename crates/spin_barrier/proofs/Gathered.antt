@@ -1,5 +1,5 @@
 -- One more arrival at a barrier whose arrivals are kept.
-use Rattle.std.proofs.Common.{◌≡◌, ◌∙◌, ◌⊎◌, Option, Some, IfSome, le_refl, le_trans, refl, List, [], ◌∷◌, ◌++◌, ℕ, ◌+◌, ◌-◌, ◌*◌, ◌/◌, ◌%◌, ◌<◌, ◌≤◌, ◌==◌, Bool, true, false, not, sym, subst, ap, MatchBool, arith}
+use Rattle.std.proofs.Common.{◌≡◌, ◌∙◌, ◌⊎◌, Option, Some, IfSome, le_refl, le_trans, List, [], ◌∷◌, ◌++◌, ℕ, ◌+◌, ◌-◌, ◌*◌, ◌/◌, ◌%◌, ◌<◌, ◌≤◌, ◌==◌, Bool, true, false, not, sym, subst, ap, MatchBool, arith}
 use Rattle.std.specs.Prelude.{max, length}
 use mathlib.Core.List.{IsPrefix}
 use mathlib.Core.Logic.{inl, inr}
@@ -11,7 +11,8 @@ use Rattle.std.proofs.Math.ListN.{length-append}
 use Rattle.std.proofs.Math.Nat.{mod-lt, mod-eq_of_lt, mul-add-mod_self_right, suc-mul, le-max_left, le-max_right}
 use Rattle.spin_step.specs.Plain.{fresh}
 use Rattle.spin_step.specs.Barriers.{IsBarrier, arrived, generation_at}
-use Rattle.spin_step_more.proofs.Barriers.{Arrival, barrier_arrive-words, barrier_may_leave-full}
+use Rattle.spin_step_more.proofs.Barriers.{barrier_arrive-words, barrier_may_leave-full}
+use Rattle.spin_step_more.specs.declared.barrier.State.{State}
 use Rattle.spin_barrier.specs.Gathered.{gathered, groups, leads, fills, one_if, AllWithin, Arrived, Waited, Told}
 use Rattle.spin_barrier.specs.Keeping.{IsArrival}
 use Rattle.spin_history.specs.Entries.{last, InOrder}
@@ -34,31 +35,24 @@ groups-grow : (n k : ℕ) → groups n (k + 1) ≡ groups n k + one_if (leads n 
 groups-grow n k = by_parts k (max n 1) (le-max_right n 1)
 
 -- the words after one more arrival, and whether it leads
-pub one_more : (g k n count generation : ℕ) (b : Bool) (n' count' generation' : ℕ) → IsBarrier (gathered g k) n count generation → IsArrival n count generation b n' count' generation' → IsBarrier (gathered g (k + 1)) n' count' generation' × (b ≡ leads g (k + 1))
-one_more g k n count generation b n' count' generation' is a =
-    let after : Arrival (gathered g k) n (arrived n count generation) generation = barrier_arrive-words (gathered g k) n count generation is in (
-      subst (λ (z : ℕ). IsBarrier (gathered g (k + 1)) z count' generation') (sym a.0)
-          (subst (λ (x : (ℕ × ℕ) × Bool). IsBarrier (gathered g (k + 1)) n x.0.0 x.0.1) (sym a.1) after.words),
-      ap (λ (x : (ℕ × ℕ) × Bool). x.1) a.1 ∙ after.leads,
-    )
+pub one_more : (g k : ℕ) (before : State) (b : Bool) (after : State) → IsBarrier (gathered g k) before.n before.count before.generation → IsArrival before b after
+    → IsBarrier (gathered g (k + 1)) after.n after.count after.generation × (b ≡ leads g (k + 1))
+one_more g k before b after is a =
+    grind (arith, barrier_arrive-words (gathered g k) before.n before.count before.generation is, a)
 
 -- the leaders after one more arrival
 pub led_more : (n k k' l l' : ℕ) (b : Bool) → k' ≡ k + 1 → l ≡ groups n k → l' ≡ l + one_if b → b ≡ leads n (k + 1) → l' ≡ groups n k'
 led_more n k k' l l' b grown before counted led = grind (arith, groups-grow n k)
 
 pub as_byte : (b : Bool) → bool_byte b ≡ one_if b
-as_byte true = refl
-as_byte false = refl
+as_byte b = grind arith
 
 pub longer : {T : Type 0} (k l : List T) → IsPrefix k l → length k ≤ length l
 longer k l p = omega (arith, length-append k p.0, ap length p.1)
 
 -- the words before any arrival
 pub at_first : (g n n' k count generation : ℕ) → g ≡ n → n' ≡ n → k ≡ 0 → IsBarrier (fresh 0 n 0) n count generation → IsBarrier (gathered g k) n' count generation
-at_first g n n' k count generation sized same none is =
-    subst (λ (z : ℕ). IsBarrier (gathered z k) n' count generation) (sym sized)
-    (subst (λ (z : ℕ). IsBarrier (gathered n k) z count generation) (sym same)
-    (subst (λ (z : ℕ). IsBarrier (gathered n z) n count generation) (sym none) is))
+at_first g n n' k count generation sized same none is = grind (arith, sized, same, none, is)
 
 -- no thread has arrived, and nothing is held
 pub none_held : (n count generation each held amount : ℕ) → IsBarrier (fresh 0 n 0) n count generation → held ≡ 0 → amount ≡ 0 → (held ≡ count) × (amount ≡ count * each)
@@ -80,9 +74,7 @@ own_group n k some last = let g : ℕ = max n 1 in
 
 -- an arrival that does not lead and finds another generation finds its group full
 pub leaves : (g t n k l count generation own : ℕ) → IsBarrier (gathered g t) n count generation → l ≡ t → k ≤ l → generation_at (gathered g 0) k ≡ own → leads g k ≡ false → not (generation == own) ≡ true → fills g k ≤ l
-leaves g t n k l count generation own is listed known at follows leave =
-    subst (λ (z : ℕ). fills g k ≤ z) (sym listed)
-    (barrier_may_leave-full (gathered g t) k n count generation own is (subst (λ (z : ℕ). k ≤ z) listed known) at follows leave)
+leaves g t n k l count generation own is listed known at follows leave = grind (arith, listed, barrier_may_leave-full (gathered g t) k n count generation own is)
 
 module _ {X : Type 0} (size : X → ℕ) where
   pub within_more : (l : List X) (a b : ℕ) → AllWithin size l a → a ≤ b → AllWithin size l b
@@ -98,8 +90,7 @@ pushed now l x e = ap length e ∙ length-append l (x ∷ [])
 
 -- a party that leads, and one that does not
 pub by_leads : {A B C : Type 0} (b : Bool) → (b ≡ true → A → C) → (b ≡ false → B → C) → MatchBool b A B → C
-by_leads true led followed m = led refl m
-by_leads false led followed m = followed refl m
+by_leads b led followed m = grind (arith, led, followed)
 
 module _ {X : Type 0} (n : ℕ) (seen : List X) (mine : X) (b : Bool) (there now : List X) where
   place : b ≡ leads n (length there) → (a : Arrived seen mine there) → b ≡ leads n (length a.0 + 1)

@@ -3,7 +3,7 @@
 //!
 //! It uses only the contract of `Mutex`.
 ghost use Rattle.std.specs.Prelude.{◌≡◌, IfOk};
-ghost use Rattle.spin_barrier.specs.Keeping.{Waits};
+ghost use Rattle.spin_barrier.specs.Keeping.{leads_group, Waits};
 
 use crate::keep::{Keeper, Kept};
 use spin_core::relax::{RelaxStrategy, Spin};
@@ -49,7 +49,7 @@ impl BarrierWaitResult {
     /// # Contract
     /// Each call on the same result returns the same answer.
     pub fn is_leader(&self) -> bool
-        ensures { result ≡ self.now.leads }
+        ensures { result ≡ leads_group self.now }
     {
         self.leads
     }
@@ -84,7 +84,7 @@ macro_rules! wait_at {
         let generation = kept.state.generation;
         drop(kept);
         if !leads {
-            $seen = $barrier.follow($rt, generation, $seen);
+            $seen = $barrier.wait_for_group($rt, generation, $seen);
         }
         (BarrierWaitResult { leads }, $seen)
     }};
@@ -101,6 +101,7 @@ impl<R: RelaxStrategy> Barrier<R> {
     /// Whether and when the call returns is not promised. No clause says that a thread waits for its group and that
     /// one thread leads. The same code says so of a barrier with a [`Roll`](crate::roll::Roll), where
     /// arrivals have names.
+    #[inline(always)]
     pub fn wait<W: Wait>(&self, rt: &W) -> BarrierWaitResult {
         let mut seen = ();
         wait_at!(self, rt, &mut (), seen).0
@@ -121,14 +122,14 @@ impl<R: RelaxStrategy, K: Keeper> Barrier<R, K> {
         seen: K::Seen,
     ) -> (BarrierWaitResult, K::Seen)
         requires { K.ready own.old seen }
-        ensures { Waits K.came K.left own.old seen result.0.leads own.new result.1 }
+        ensures { Waits K.came K.left own.old seen result own.new }
     {
         let mut seen = seen;
         wait_at!(self, rt, own, seen)
     }
 
     // Waits until the group of this generation is full. Returns what the party then knows.
-    fn follow<W: Wait>(&self, rt: &W, generation: usize, seen: K::Seen) -> K::Seen
+    fn wait_for_group<W: Wait>(&self, rt: &W, generation: usize, seen: K::Seen) -> K::Seen
         requires { K.follows seen generation }
         ensures { K.left seen result }
     {

@@ -44,7 +44,7 @@ pub trait Keeper {
         seen: &mut Self::Seen,
     )
         requires agrees { agrees self.old before.n before.count before.generation }
-        requires arrival { IsArrival before.n before.count before.generation leads after.n after.count after.generation }
+        requires arrival { IsArrival before leads after }
         requires ready { ready own.old seen.old }
         ensures agrees { agrees self.new after.n after.count after.generation }
         ensures came { came own.old seen.old leads own.new seen.new }

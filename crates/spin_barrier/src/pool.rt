@@ -1,6 +1,8 @@
 //! A barrier that gives its leader what the group brought. Begin with [`Pool`] and [`Barrier::pool`].
-ghost use Rattle.std.specs.Prelude.{◌≡◌, ◌*◌, ℕ, ⊤, MatchBool, max};
+ghost use Rattle.std.specs.Prelude.{◌≡◌, ◌*◌, ℕ, ⊤};
 ghost use Rattle.std.proofs.Props.{props};
+ghost use Rattle.spin_history.specs.Shares.{parts_of, amount_of, HasShare, TakesAll};
+ghost use Rattle.spin_barrier.specs.Keeping.{leads_group};
 
 use crate::barrier::{Barrier, BarrierWaitResult};
 use crate::keep::{Keeper, Kept};
@@ -39,14 +41,13 @@ impl<N: Pooled> Keeper for Pool<N> {
 
     type Seen = ();
 
-    ghost agrees = { λ pool n count _. (n ≡ N.group) × ((pool.held.parts ≡ count) × (pool.held.amount ≡ count * N.each)) };
+    ghost agrees = { λ pool n count _. (n ≡ N.group) × HasShare pool.held count (count * N.each) };
 
     ghost agrees_once = { λ pool n count generation. Prim.hlevel props };
 
-    ghost ready = { λ own _. (own.parts ≡ 1) × (own.amount ≡ N.each) };
+    ghost ready = { λ own _. HasShare own 1 N.each };
 
-    ghost came = { λ _ _ leads own' _.
-        MatchBool leads ((own'.parts ≡ max N.group 1) × (own'.amount ≡ max N.group 1 * N.each)) ((own'.parts ≡ 0) × (own'.amount ≡ 0)) };
+    ghost came = { λ _ _ leads own' _. TakesAll leads N.group N.each own' };
 
     ghost follows = { λ _ _. ⊤ };
 
@@ -78,8 +79,7 @@ impl<R, N: Pooled> Barrier<R, Pool<N>> {
     /// make it.
     pub fn pool(n: usize, of: &mut Share<N>) -> Self
         requires { N.group ≡ n }
-        ensures parts { of.new.parts ≡ of.old.parts }
-        ensures amount { of.new.amount ≡ of.old.amount }
+        ensures { HasShare of.new (parts_of of.old) (amount_of of.old) }
     {
         Barrier {
             state: Mutex::new(Kept {
@@ -98,8 +98,8 @@ impl<R: RelaxStrategy, N: Pooled> Barrier<R, Pool<N>> {
     /// The leader leaves with as many parts as its group has parties, and the amount of all. Each other thread leaves
     /// with none. Whether and when the call returns is not promised.
     pub fn wait<W: Wait>(&self, rt: &W, mine: &mut Share<N>) -> BarrierWaitResult
-        requires { (mine.old.parts ≡ 1) × (mine.old.amount ≡ N.each) }
-        ensures { MatchBool result.leads ((mine.new.parts ≡ max N.group 1) × (mine.new.amount ≡ max N.group 1 * N.each)) ((mine.new.parts ≡ 0) × (mine.new.amount ≡ 0)) }
+        requires { HasShare mine.old 1 N.each }
+        ensures { TakesAll (leads_group result) N.group N.each mine.new }
     {
         self.wait_with(rt, mine, ()).0
     }

@@ -79,7 +79,10 @@ module _ {W V C L A : Type 0} (m : Machine W V C L A) where
   moved_alike w value (Holding h) (Write v) is = written_alike (w, value, Holding h) v (may_write h)
   moved_alike w value (Leaked h) (Write v) is = written_alike (w, value, Leaked h) v (may_write h)
   moved_alike w value seat Weak is = skips (w, value, seat)
-  moved_alike w value seat move is = first_of (search (skips (w, value, seat)), cc)
+  moved_alike w value seat (Begin c) is = skips (w, value, seat)
+  moved_alike w value seat Step is = skips (w, value, seat)
+  moved_alike w value seat (Write v) is = skips (w, value, seat)
+  moved_alike w value seat move is = absurd cc
 
   -- so the moves of a step do among others what they do in a world of the party's own
   go_among : (z z' : Alone) (own : List (Move C V)) (outs : List (Outcome A V)) → list_all (is_of_call m) own ≡ true

@@ -1,5 +1,5 @@
 -- The ghost steps of a log. Assumes `Logic`.
-use Rattle.std.proofs.Common.{◌≡◌, ◌⊎◌, ℕ, List, [], ◌∷◌, ◌++◌, map, refl, sym, subst, ◌∙◌}
+use Rattle.std.proofs.Common.{◌≡◌, ◌⊎◌, ℕ, List, [], ◌∷◌, ◌++◌, map, refl, sym, subst}
 use mathlib.Core.Logic.{inl, inr, dite}
 use native.Mathlib.Decide.{ℕ_discrete}
 use mathlib.Core.List.{IsPrefix, append-nil}
@@ -9,13 +9,13 @@ use base.Fraction.{full_share}
 use base.Stored.{Coded, Gv}
 use base.Logic.{emp, via}
 use base.Fml.{Lft, Share, Fml, ftrue, fbor}
-use base.Growing.{Least, latest, at_least, prefix_anti}
+use base.Growing.{Least, latest, at_least}
 use base.Shift.{Keyless}
 use ghost.Rules.{Halves}
 use contract.Monad.{fact_i}
 use types.Logic.{Logic, lfts}
 use types.Owned.{basic}
-use types.Growing.{latest_new, latest_grows, latest_shows, latest_bounds, latest_cut, latest_glue, latest_agrees, at_least_dup, at_least_join}
+use types.Growing.{latest_new, latest_grows, latest_shows, latest_bounds, latest_cut, latest_glue, at_least_dup, at_least_join}
 use types.Kit.{‵, raw, ◌⊛◌, some, given, ◌$◌, ◌∵◌, !, qed, by, keep, move, drop, split, learn, check, pick, updating, now, done, use2, later}
 use types.Tokens.{bor_fracture}
 use denote.Steps.{nothing}
@@ -84,12 +84,6 @@ module _ {M : Type 1} {𝓤 : Ura M} (𝓛 : Logic 𝓤) where
         let has : Fml = Known l in
         script ∵ use2 𝓛 (given (IsPrefix (map cv.code k) (map cv.code l)) (‵ top ⊛ ‵ had)) (latest_bounds logs 𝓛 q γ (map cv.code l) (map cv.code k)) $
         learn ! (λ p. check ! (prefix_uncoded cv k l p) $ split ! $ keep ! (0 ∷ []) $ cite _ (shows q l) $ done !)
-
-    -- two owners of shares of one right agree on the log
-    pub same_log : (q r : Share) (l k : List T) → ‵ (Right l q) ⊛ ‵ (Right k r) ⊩ given (l ≡ k) (‵ (Right l q) ⊛ ‵ (Right k r))
-    same_log q r l k = let a = map cv.code l in let b = map cv.code k in let x : Fml = Right l q in let y : Fml = Right k r in
-        script ∵ use2 𝓛 (given (a ≡ b) (‵ x ⊛ ‵ y)) (latest_agrees logs 𝓛 q r γ a b) $
-        learn ! (λ e. check ! (prefix_anti l k (prefix_uncoded cv l k ([], append-nil a ∙ e)) (prefix_uncoded cv k l ([], append-nil b ∙ sym e))) $ split ! $ done !)
 
     pub known_twice : (k : List T) → ‵ (Known k) ⊩ ‵ (Known k) ⊛ ‵ (Known k)
     unfolding known_owns

@@ -9,8 +9,9 @@ use Rattle.spin_seated.specs.declared.lock.Answer.{Answer}
 use Rattle.spin_seated.specs.declared.rwlock.Call.{Call}
 use Rattle.spin_seated.specs.Histories.{calls_by, own_calls, IsLegalFrom, IsLegal, Met}
 use Rattle.spin_seated.specs.Locked.{Locked, InOrderOf, done, looks, goes_on}
-use Rattle.spin_seated.specs.Rw.{rw, after_call, written, Knows}
+use Rattle.spin_seated.specs.Rw.{rw, after_call, written}
 use Rattle.spin_seated.specs.RwLawful.{History, values_written, values_read}
+use Rattle.spin_seated.specs.Passes.{KnownOf}
 use Rattle.spin_seated.proofs.Histories.{calls_by-append}
 
 values_written-append : (xs ys : History) → values_written (xs ++ ys) ≡ values_written xs ++ values_written ys
@@ -48,10 +49,10 @@ others : (log : History) → values_written (calls_by 1 log) ≡ [] → values_w
 others log one two q below apart = grind arith
 
 -- Two readers meet, and then the writer meets one of them.
-module _ (k : Opening) (w x y met_x met_y met_w met_z : Knows) (three : k.passes ≡ 3) (of_x : x.opening ≡ k) (number_w : w.pass ≡ 0) (number_x : x.pass ≡ 1) (number_y : y.pass ≡ 2)
+module _ (k : Opening) (w x y met_x met_y met_w met_z : KnownOf Call) (three : k.passes ≡ 3) (of_x : x.opening ≡ k) (number_w : w.pass ≡ 0) (number_x : x.pass ≡ 1) (number_y : y.pass ≡ 2)
     (silent_x : values_written (own_calls x) ≡ []) (silent_y : values_written (own_calls y) ≡ [])
     (first : Met rw x met_x.seen met_x) (second : Met rw y met_x.seen met_y) (third : Met rw w met_w.seen met_w) (fourth : Met rw met_x met_w.seen met_z) where
-  own : (p : ℕ) (z : Knows) (log : History) → z.pass ≡ p → calls_by z.pass log ≡ own_calls z → calls_by p log ≡ own_calls z
+  own : (p : ℕ) (z : KnownOf Call) (log : History) → z.pass ≡ p → calls_by z.pass log ≡ own_calls z → calls_by p log ≡ own_calls z
   own p z log number same = ap (λ (q : ℕ). calls_by q log) (sym number) ∙ same
 
   abbrev before : History
@@ -60,7 +61,7 @@ module _ (k : Opening) (w x y met_x met_y met_w met_z : Knows) (three : k.passes
   legal : IsLegal rw k before
   legal = subst (λ (o : Opening). IsLegal rw o before) of_x first.legal
 
-  silent : (p : ℕ) (z : Knows) → calls_by p before ≡ own_calls z → values_written (own_calls z) ≡ [] → values_written (calls_by p before) ≡ []
+  silent : (p : ℕ) (z : KnownOf Call) → calls_by p before ≡ own_calls z → values_written (own_calls z) ≡ [] → values_written (calls_by p before) ≡ []
   silent p z same none = ap values_written same ∙ none
 
   mine : values_written before ≡ values_written (calls_by 0 before)
@@ -69,7 +70,7 @@ module _ (k : Opening) (w x y met_x met_y met_w met_z : Knows) (three : k.passes
   whole : values_written (own_calls w) ≡ values_written before ++ values_written (calls_by 0 fourth.begins.rest)
   whole = grind (arith, own, calls_by-append, before, values_written-append, mine)
 
-  seen_by : (p : ℕ) (z : Knows) → calls_by p before ≡ own_calls z → InOrderOf (k.value ∷ values_written before) (values_read (calls_by p before)) → InOrderOf (k.value ∷ values_written (own_calls w)) (values_read (own_calls z))
+  seen_by : (p : ℕ) (z : KnownOf Call) → calls_by p before ≡ own_calls z → InOrderOf (k.value ∷ values_written before) (values_read (calls_by p before)) → InOrderOf (k.value ∷ values_written (own_calls w)) (values_read (own_calls z))
   seen_by p z same ordered =
       subst (λ (l : List ℕ). InOrderOf (k.value ∷ l) (values_read (own_calls z))) (sym whole)
       (longer (k.value ∷ values_written before) (values_written (calls_by 0 fourth.begins.rest)) (values_read (own_calls z))

@@ -10,10 +10,11 @@ use Rattle.spin_seated.specs.declared.lock.Answer.{Answer}
 use Rattle.spin_seated.specs.declared.lock.Answer.TheVariants.{Truth, Value}
 use Rattle.spin_seated.specs.Histories.{BeginsWith, entry, calls_by, own_calls, after, state, IsLegalFrom, IsLegal, Made, Met}
 use Rattle.spin_seated.specs.Locked.{Locked}
-use Rattle.spin_seated.specs.Mutex.{may_call, plain_answer, after_call, mutex, Knows}
-use Rattle.spin_examples.specs.Sections.{Section, away, entered, has_read, has_written, next_section, section_from, section_of, is_write, writes_in}
+use Rattle.spin_seated.specs.Mutex.{may_call, plain_answer, after_call, mutex}
+use Rattle.spin_examples.specs.Sections.{Section, away, entered, has_read, has_written, next_section, section_from, section_of, counts_write, writes_in}
 use Rattle.spin_seated.proofs.Totals.{total-append}
 use Rattle.spin_seated.proofs.Holders.{Alone, alone_is, alone_after, alone_state, freed, tried, truth_is, is_held_by, steady, value_tried}
+use Rattle.spin_seated.specs.Passes.{KnownOf}
 use Rattle.spin_seated.proofs.Histories.{made_at, none_between}
 
 -- how far a pass is after one more call
@@ -28,15 +29,15 @@ section-append : (t u w : Section) (xs : List (Entry Call Answer)) (e : Entry Ca
 section-append t u w [] e at next = let same : t ≡ u = cc at in then_one (next_section t e.call e.answer) w (ap (λ (v : Section). next_section v e.call e.answer) same ∙ next)
 section-append t u w (x ∷ xs) e at next = then_more (next_section t x.call x.answer) xs (xs ++ e ∷ []) u w at (λ v is. section-append v u w xs e is next)
 
-module _ (x : Knows) (c : Call) (a : Answer) (y : Knows) (made : Made mutex x c a y) where
+module _ (x : KnownOf Call) (c : Call) (a : Answer) (y : KnownOf Call) (made : Made mutex x c a y) where
   own_grows : own_calls y ≡ own_calls x ++ entry x.pass c a ∷ []
   own_grows = ap (λ (p : ℕ). calls_by p y.seen) made.pass ∙ made.own
 
   pub section_continues : (u w : Section) → section_of x ≡ Some u → next_section u c a ≡ Some w → section_of y ≡ Some w
   section_continues u w at next = ap (section_from away) own_grows ∙ section-append away u w (own_calls x) (entry x.pass c a) at next
 
-  pub writes_grow : writes_in (own_calls y) ≡ writes_in (own_calls x) + is_write c
-  writes_grow = let e = ap writes_in own_grows in let t = total-append (λ (e : Entry Call Answer). is_write e.call) (own_calls x) (entry x.pass c a ∷ []) in omega arith
+  pub writes_grow : writes_in (own_calls y) ≡ writes_in (own_calls x) + counts_write c
+  writes_grow = let e = ap writes_in own_grows in let t = total-append (λ (e : Entry Call Answer). counts_write e.call) (own_calls x) (entry x.pass c a ∷ []) in omega arith
 
 -- what holds of the lock while a pass is this far in its section
 abbrev pub Matches : ℕ → Section → Locked → Type 0
@@ -59,7 +60,7 @@ module _ (n : ℕ) (s : Locked) (alone : Alone n s.lock.holders) where
 
   module _ (p : ℕ) where
     abbrev Leads : Call → Section → Type 0
-    Leads c u = Matches p u (after_call p c s) × ((after_call p c s).value ≡ s.value + is_write c)
+    Leads c u = Matches p u (after_call p c s) × ((after_call p c s).value ≡ s.value + counts_write c)
 
     goes_to : (c : Call) (t u : Section) → Some t ≡ Some u → Leads c t → Leads c u
     goes_to c t u is leads = let same : t ≡ u = cc is in subst (Leads c) same leads
@@ -104,7 +105,7 @@ module _ (n : ℕ) (s : Locked) (alone : Alone n s.lock.holders) (begin end : �
   own_next : next_section (begin e.pass) e.call e.answer ≡ Some here
   own_next = grind (arith, first_goes, eq-eqb)
 
-  own_step : Matches e.pass here (after_call e.pass e.call s) × ((after_call e.pass e.call s).value ≡ s.value + is_write e.call)
+  own_step : Matches e.pass here (after_call e.pass e.call s) × ((after_call e.pass e.call s).value ≡ s.value + counts_write e.call)
   own_step = own_goes n s alone e.pass (begin e.pass) e.call e.answer here may is (match e.pass given) own_next
 
   match_at : (q : ℕ) (b : Bool) → q < n → (e.pass == q) ≡ b → Matches q (if b then or_away (next_section (begin q) e.call e.answer) else begin q) (after_call e.pass e.call s)
@@ -126,7 +127,7 @@ counts n s begin end (e ∷ es) alone legal ends match = grind (arith, own_step,
 
 -- each call is one of the first pass or of the second
 two_parts : (e : Entry Call Answer) (w x y : ℕ) (b d : Bool) → e.pass < 2 → (e.pass == 0) ≡ b → (e.pass == 1) ≡ d → (xs ys : List (Entry Call Answer)) → x ≡ writes_in xs → y ≡ writes_in ys → w ≡ x + y
-    → is_write e.call + w ≡ writes_in (if b then e ∷ xs else xs) + writes_in (if d then e ∷ ys else ys)
+    → counts_write e.call + w ≡ writes_in (if b then e ∷ xs else xs) + writes_in (if d then e ∷ ys else ys)
 two_parts e w x y b d below zero_is one_is xs ys ex ey sum = grind (arith, eqb-true, false≢true, eq-eqb)
 
 writes_of_two : (s : Locked) (log : List (Entry Call Answer)) → IsLegalFrom mutex 2 s log → writes_in log ≡ writes_in (calls_by 0 log) + writes_in (calls_by 1 log)
@@ -150,14 +151,14 @@ counts_two k log t two legal first second =
     (omega arith, all.1 0 (omega arith), all.1 1 (omega arith))
 
 -- a pass that meets another has made no new calls of its own
-own_stays : (x : Knows) (log : List (Entry Call Answer)) (y : Knows) → Met mutex x log y → own_calls y ≡ own_calls x
+own_stays : (x : KnownOf Call) (log : List (Entry Call Answer)) (y : KnownOf Call) → Met mutex x log y → own_calls y ≡ own_calls x
 own_stays x log y met = ap (λ (p : ℕ). calls_by p y.seen) met.pass ∙ (ap (calls_by x.pass) met.history ∙ met.own)
 
 nobody : (hs : List Holder) → Alone 2 hs → is_holder 0 writing hs ≡ false → is_holder 1 writing hs ≡ false → hs ≡ []
 nobody hs alone first second = grind (arith, false≢true, eq-eqb)
 
 -- Two passes that have added meet. Then the first one, whose number is 0, tries to acquire the lock.
-module _ (k : Opening) (a b met_a met_b tried_a : Knows) (granted : Bool) (two : k.passes ≡ 2) (of_a : a.opening ≡ k) (number_a : a.pass ≡ 0) (number_b : b.pass ≡ 1)
+module _ (k : Opening) (a b met_a met_b tried_a : KnownOf Call) (granted : Bool) (two : k.passes ≡ 2) (of_a : a.opening ≡ k) (number_a : a.pass ≡ 0) (number_b : b.pass ≡ 1)
     (turn_a : section_of a ≡ Some away) (turn_b : section_of b ≡ Some away)
     (first : Met mutex a met_a.seen met_a) (second : Met mutex b met_a.seen met_b) (tries : Made mutex met_a TryLock (Truth granted) tried_a) where
   turn_met_a : section_of met_a ≡ Some away
@@ -176,7 +177,7 @@ module _ (k : Opening) (a b met_a met_b tried_a : Knows) (granted : Bool) (two :
   number_met_b = second.pass ∙ number_b
 
   -- the passes meet again, and the history that both then know shows that the try succeeded
-  pub is_granted : (end_a end_b : Knows) → Met mutex tried_a end_a.seen end_a → Met mutex met_b end_a.seen end_b → granted ≡ true
+  pub is_granted : (end_a end_b : KnownOf Call) → Met mutex tried_a end_a.seen end_a → Met mutex met_b end_a.seen end_b → granted ≡ true
   is_granted end_a end_b third fourth =
       let at = made_at mutex met_a TryLock (Truth granted) tried_a tries in
       let e : Entry Call Answer = entry met_a.pass TryLock (Truth granted) in
@@ -194,7 +195,7 @@ module _ (k : Opening) (a b met_a met_b tried_a : Knows) (granted : Bool) (two :
       truth_is granted (is_empty (state mutex met_a.opening at.before).lock.holders) at.answer ∙ free
 
   -- the first pass reads, and the passes meet again
-  pub sums : (v : ℕ) (read_a end_a end_b : Knows) → granted ≡ true → Made mutex tried_a Read (Value v) read_a → Met mutex read_a end_a.seen end_a → Met mutex met_b end_a.seen end_b
+  pub sums : (v : ℕ) (read_a end_a end_b : KnownOf Call) → granted ≡ true → Made mutex tried_a Read (Value v) read_a → Met mutex read_a end_a.seen end_a → Met mutex met_b end_a.seen end_b
       → v ≡ k.value + (writes_in (own_calls a) + writes_in (own_calls b))
   sums v read_a end_a end_b won reads third fourth =
       let turn_1 : section_of tried_a ≡ Some entered = section_continues met_a TryLock (Truth granted) tried_a tries away entered turn_met_a (ap (λ (g : Bool). next_section away TryLock (Truth g)) won) in

@@ -4,12 +4,11 @@ use Rattle.spin_seated.specs.declared.lock.SeatedLock.{SeatedLock}
 use Rattle.spin_seated.specs.declared.rwlock.Call.{Call}
 use Rattle.spin_seated.specs.declared.rwlock.SeatedHold.{SeatedHold}
 use Rattle.spin_seated.specs.Histories.{own_calls}
-use Rattle.spin_seated.specs.Passes.{Seated, IsPassOf, pass_of}
-use Rattle.spin_seated.specs.Rw.{Knows}
+use Rattle.spin_seated.specs.Passes.{KnownOf, Seated, IsPassOf, pass_of}
 use Rattle.spin_seated.specs.RwLawful.{values_written, values_read}
 
 -- from x to y a pass has also read and written these values
-pub record Extends (x y : Knows) (read written : List ℕ) : Type 0 where
+pub record Extends (x y : KnownOf Call) (read written : List ℕ) : Type 0 where
   pub number : y.pass ≡ x.pass
   pub reads : values_read (own_calls y) ≡ values_read (own_calls x) ++ read
   pub writes : values_written (own_calls y) ≡ values_written (own_calls x) ++ written

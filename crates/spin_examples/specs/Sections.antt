@@ -8,8 +8,7 @@ use Rattle.spin_seated.specs.declared.lock.Answer.{Answer}
 use Rattle.spin_seated.specs.declared.lock.Answer.TheVariants.{Truth, Value, Done}
 use Rattle.spin_seated.specs.Histories.{own_calls, total}
 use Rattle.spin_seated.specs.declared.lock.SeatedLock.{SeatedLock}
-use Rattle.spin_seated.specs.Mutex.{Knows}
-use Rattle.spin_seated.specs.Passes.{Seated, IsPassOf}
+use Rattle.spin_seated.specs.Passes.{KnownOf, Seated, IsPassOf}
 
 -- how far a pass is in its critical section
 pub data Section : Type 0 where
@@ -32,16 +31,16 @@ abbrev pub section_from : Section → List (Entry Call Answer) → Option Sectio
 section_from t [] = Some t
 section_from t (e ∷ es) = option_and_then (λ u. section_from u es) (next_section t e.call e.answer)
 
-abbrev pub section_of : Knows → Option Section
+abbrev pub section_of : KnownOf Call → Option Section
 section_of x = section_from away (own_calls x)
 
-abbrev pub is_write : Call → ℕ
-is_write (Write v) = 1
-is_write _ = 0
+abbrev pub counts_write : Call → ℕ
+counts_write (Write v) = 1
+counts_write _ = 0
 
 -- how many of the calls are writes
 abbrev pub writes_in : List (Entry Call Answer) → ℕ
-writes_in log = total (λ e. is_write e.call) log
+writes_in log = total (λ e. counts_write e.call) log
 
 module _ {A : Type 0} where
   -- the pass of this mutex is outside its critical section, has only added, and has written n times

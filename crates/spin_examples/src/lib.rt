@@ -1,16 +1,20 @@
-//! The examples that the pages print: callers of the locks, of the seated locks, and of `spin_history` where a log is
-//! kept.
+//! Callers of the locks: the examples that the pages print, and larger ones that make promises of their own, a ledger, a
+//! cache, rounds of workers, settings, a relay.
 //!
 //! Begin with [`from_rust`].
 #![tactic(auto)]
 
 pub mod adding;
 pub mod after;
+pub mod agreed;
 pub mod any_lock;
 pub mod batch;
+pub mod cache;
 pub mod ending;
 pub mod from_rust;
 pub mod guide;
+pub mod ledger;
+pub mod meeting;
 pub mod order;
 pub mod paired;
 pub mod passes;
@@ -19,8 +23,11 @@ pub mod passes_lazy;
 pub mod passes_once;
 pub mod passes_rw;
 pub mod passes_ticket;
+pub mod phases;
 pub mod publishing;
 pub mod registers;
+pub mod relay;
+pub mod settings;
 pub mod totals;
 pub mod two_locks;
 pub mod versions;

@@ -12,7 +12,7 @@ use std::thread::{Threads, join};
 
 type Pass<'a> = fair::Pass<'a, u64, Spin>;
 
-type Starvation<'a> = fair::Starvation<'a, u64, Spin>;
+type Starver<'a> = fair::Starvation<'a, u64, Spin>;
 
 /// Adds 1, unless the value is the largest number. The pass acquires the lock and releases it, once.
 fn count<'a, W: Wait>(rt: &W, pass: Pass<'a>) -> Pass<'a>
@@ -25,7 +25,7 @@ fn count<'a, W: Wait>(rt: &W, pass: Pass<'a>) -> Pass<'a>
 }
 
 /// Adds 1 as a starver, unless the value is the largest number. The pass acquires the lock and releases it, once.
-fn count_served<'a, W: Wait>(rt: &W, starving: Starvation<'a>) -> Pass<'a>
+fn count_served<'a, W: Wait>(rt: &W, starving: Starver<'a>) -> Pass<'a>
     ensures made { (Calls StarverLock Granted ⨾ WroteSome Release) starving.entry result }
     ensures lock { lock_of result ≡ lock_of starving.entry }
 {
@@ -65,7 +65,7 @@ pub fn look_and_try<'a, W: Wait>(rt: &W, lock: &'a FairMutex<u64>) -> (bool, Pas
 }
 
 // Tries to acquire the lock as the only starver, then as one of several. If both tries fail, ends the registration.
-fn try_starving(starving: Starvation<'_>) -> Pass<'_> {
+fn try_starving(starving: Starver<'_>) -> Pass<'_> {
     let starving = match starving.try_lock_fair() {
         Ok(guard) => return FairMutex::unlock(guard),
         Err(starving) => starving,

@@ -23,7 +23,7 @@ impl Makes<u64, ()> for Seven {
 }
 
 /// Asks for the value once.
-fn force<'a, W: Wait>(rt: &W, pass: Pass<'a>) -> (u64, Pass<'a>)
+fn read_by_force<'a, W: Wait>(rt: &W, pass: Pass<'a>) -> (u64, Pass<'a>)
     ensures made { Calls (CallOnce tt) (Value tt) pass.entry result.1 }
     ensures lock { lock_of result.1 ≡ lock_of pass.entry }
 {
@@ -47,7 +47,7 @@ pub fn force_by_three<'a, W: Threads + Wait + Sync>(
         rt,
         || -> (u64, Pass<'_>)
             ensures { lock_of result.1 ≡ name_of lazy.entry.now }
-        { force(rt, LazyLock::pass(lazy)) },
+        { read_by_force(rt, LazyLock::pass(lazy)) },
         || -> ((u64, Pass<'_>), (u64, Pass<'_>))
             ensures { (lock_of result.0.1 ≡ name_of lazy.entry.now) × (lock_of result.1.1 ≡ name_of lazy.entry.now) }
         {
@@ -55,10 +55,10 @@ pub fn force_by_three<'a, W: Threads + Wait + Sync>(
                 rt,
                 || -> (u64, Pass<'_>)
                     ensures { lock_of result.1 ≡ name_of lazy.entry.now }
-                { force(rt, LazyLock::pass(lazy)) },
+                { read_by_force(rt, LazyLock::pass(lazy)) },
                 || -> (u64, Pass<'_>)
                     ensures { lock_of result.1 ≡ name_of lazy.entry.now }
-                { force(rt, LazyLock::pass(lazy)) },
+                { read_by_force(rt, LazyLock::pass(lazy)) },
             )
         },
     );

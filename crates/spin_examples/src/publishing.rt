@@ -6,8 +6,8 @@
 ghost use Rattle.std.specs.Prelude.{◌≡◌, [], ◌∷◌, None, Some, IfOk, length};
 ghost use Rattle.spin_seated.specs.Histories.{own_calls};
 ghost use Rattle.spin_seated.specs.Locked.{InOrderOf};
-ghost use Rattle.spin_seated.specs.Passes.{IsPassOf, opening_of, pass_of};
-ghost use Rattle.spin_seated.specs.Rw.{holds};
+ghost use Rattle.spin_seated.specs.Passes.{IsPassOf, opening_of, pass_of, pass_holds};
+ghost use Rattle.spin_seated.specs.Rw.{rw};
 ghost use Rattle.spin_seated.specs.RwLawful.{values_written, values_read};
 ghost use Rattle.spin_examples.specs.Publishing.{Extends, HasLooked};
 
@@ -43,11 +43,11 @@ pub fn open_for_three(
 }
 
 /// Tries to acquire the lock until the pass holds it as `hold` says.
-fn acquire<W: Wait>(rt: &W, lock: &SeatedRwLock, pass: &mut RwPass, hold: SeatedHold)
+fn hold_as<W: Wait>(rt: &W, lock: &SeatedRwLock, pass: &mut RwPass, hold: SeatedHold)
     requires own { IsPassOf lock.now pass.old }
-    requires free { holds pass.old.known ≡ None }
+    requires free { pass_holds rw pass.old ≡ None }
     ensures own { IsPassOf lock.now pass.new }
-    ensures holds { holds pass.new.known ≡ Some hold }
+    ensures holds { pass_holds rw pass.new ≡ Some hold }
     ensures goes_on { Extends pass.old.known pass.new.known [] [] }
 {
     for _ in rt.forever() {
@@ -66,25 +66,25 @@ fn acquire<W: Wait>(rt: &W, lock: &SeatedRwLock, pass: &mut RwPass, hold: Seated
 /// Acquires the lock as the writer, publishes a value, and releases the lock.
 fn publish<W: Wait>(rt: &W, lock: &SeatedRwLock, pass: &mut RwPass, value: u64)
     requires own { IsPassOf lock.now pass.old }
-    requires free { holds pass.old.known ≡ None }
+    requires free { pass_holds rw pass.old ≡ None }
     ensures own { IsPassOf lock.now pass.new }
-    ensures free { holds pass.new.known ≡ None }
+    ensures free { pass_holds rw pass.new ≡ None }
     ensures goes_on { Extends pass.old.known pass.new.known [] (value ∷ []) }
 {
-    acquire(rt, lock, pass, SeatedHold::Write);
+    hold_as(rt, lock, pass, SeatedHold::Write);
     lock.write(pass, value);
     lock.unlock_write(pass);
 }
 
 /// Acquires the lock as a reader, reads the value, and releases the lock.
-fn look<W: Wait>(rt: &W, lock: &SeatedRwLock, pass: &mut RwPass) -> u64
+fn read_once<W: Wait>(rt: &W, lock: &SeatedRwLock, pass: &mut RwPass) -> u64
     requires own { IsPassOf lock.now pass.old }
-    requires free { holds pass.old.known ≡ None }
+    requires free { pass_holds rw pass.old ≡ None }
     ensures own { IsPassOf lock.now pass.new }
-    ensures free { holds pass.new.known ≡ None }
+    ensures free { pass_holds rw pass.new ≡ None }
     ensures goes_on { Extends pass.old.known pass.new.known (result ∷ []) [] }
 {
-    acquire(rt, lock, pass, SeatedHold::Read);
+    hold_as(rt, lock, pass, SeatedHold::Read);
     let value = lock.read(pass);
     lock.unlock_read(pass);
     value
@@ -92,7 +92,7 @@ fn look<W: Wait>(rt: &W, lock: &SeatedRwLock, pass: &mut RwPass) -> u64
 
 fn publish_all<W: Wait>(rt: &W, lock: &SeatedRwLock, mut pass: RwPass, values: &[u64]) -> RwPass
     requires own { IsPassOf lock.now pass }
-    requires free { holds pass.known ≡ None }
+    requires free { pass_holds rw pass ≡ None }
     ensures own { IsPassOf lock.now result }
     ensures goes_on { Extends pass.known result.known [] values.now }
 {
@@ -112,14 +112,14 @@ fn look_often<W: Wait>(
     times: usize,
 ) -> Looked
     requires own { IsPassOf lock.now pass }
-    requires free { holds pass.known ≡ None }
+    requires free { pass_holds rw pass ≡ None }
     ensures own { IfOk result (λ r. IsPassOf lock.now r.0) }
     ensures goes_on { IfOk result (λ r. Extends pass.known r.0.known r.1.items []) }
     ensures times { IfOk result (λ r. length r.1.items ≡ times) }
 {
     let mut seen = Vec::new(alloc);
     for _ in 0..times {
-        seen.push(look(rt, lock, &mut pass))?;
+        seen.push(read_once(rt, lock, &mut pass))?;
     }
     Ok((pass, seen))
 }

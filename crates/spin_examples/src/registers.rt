@@ -1,7 +1,7 @@
 //! What the callers of one register know of each other's writes.
 ghost use Rattle.std.specs.Prelude.{◌≡◌, ◌⊎◌};
 ghost use mathlib.Core.List.{IsPrefix};
-ghost use Rattle.spin_history.specs.Entries.{Reads, Writes, Updates};
+ghost use Rattle.spin_history.specs.Entries.{Reads, WritesOne, Updates};
 
 use spin::RwLock;
 use spin_history::history::{BlankLog, History, Snapshot};
@@ -75,21 +75,21 @@ fn two_writers<H: History + Send + Sync, W: Threads + Wait + Sync>(
     first: Snapshot<u64, H>,
     second: Snapshot<u64, H>,
 ) -> (Snapshot<u64, H>, Snapshot<u64, H>)
-    ensures first { Writes first.entries values.0 result.0.entries }
-    ensures second { Writes second.entries values.1 result.1.entries }
+    ensures first { WritesOne first.entries values.0 result.0.entries }
+    ensures second { WritesOne second.entries values.1 result.1.entries }
 {
     let (one, other) = values;
     join(
         rt,
         move || -> Snapshot<u64, H>
-            ensures { Writes first.entries one result.entries }
+            ensures { WritesOne first.entries one result.entries }
         {
             let mut seen = first;
             register::write(rt, lock, one, &mut seen);
             seen
         },
         move || -> Snapshot<u64, H>
-            ensures { Writes second.entries other result.entries }
+            ensures { WritesOne second.entries other result.entries }
         {
             let mut seen = second;
             register::write(rt, lock, other, &mut seen);
@@ -109,8 +109,8 @@ pub fn two_write_two_read<H: History + Send + Sync, W: Threads + Wait + Sync>(
     (Snapshot<u64, H>, Snapshot<u64, H>),
     ((u64, Snapshot<u64, H>), (u64, Snapshot<u64, H>)),
 )
-    ensures first_write { Writes start.now.entries values.0 result.0.0.entries }
-    ensures second_write { Writes start.now.entries values.1 result.0.1.entries }
+    ensures first_write { WritesOne start.now.entries values.0 result.0.0.entries }
+    ensures second_write { WritesOne start.now.entries values.1 result.0.1.entries }
     ensures first_read { Reads start.now.entries result.1.0.0 result.1.0.1.entries }
     ensures second_read { Reads start.now.entries result.1.1.0 result.1.1.1.entries }
     ensures one_history { IsPrefix result.1.0.1.entries result.1.1.1.entries ⊎ IsPrefix result.1.1.1.entries result.1.0.1.entries }
@@ -120,8 +120,8 @@ pub fn two_write_two_read<H: History + Send + Sync, W: Threads + Wait + Sync>(
     let (wrote, found) = join(
         rt,
         move || -> (Snapshot<u64, H>, Snapshot<u64, H>)
-            ensures first { Writes one.entries values.0 result.0.entries }
-            ensures second { Writes other.entries values.1 result.1.entries }
+            ensures first { WritesOne one.entries values.0 result.0.entries }
+            ensures second { WritesOne other.entries values.1 result.1.entries }
         { two_writers(rt, lock, values, one, other) },
         move || -> ((u64, Snapshot<u64, H>), (u64, Snapshot<u64, H>))
             ensures first { Reads first.entries result.0.0 result.0.1.entries }

@@ -19,7 +19,7 @@ use Rattle.spin_step_more.specs.declared.fair_calls.FairPoint.TheVariants.{First
 use Rattle.spin_step_more.specs.Starvers.{most_starvers}
 use Rattle.spin_step_more.specs.FairCalls.{fair_table}
 use Rattle.spin_step_more.proofs.FairSteps.{fair_lock-grants, fair_starve-grants, fair_lock_fair-grants, fair_lock_starved-grants, fair_unstarve-gives, fair_unlock-gives}
-use Rattle.spin_core.specs.Cell.{words, reads, writes, reading, writing as writes_of, Meets}
+use Rattle.spin_core.specs.Cell.{words, reads, reading, writing as writes_of, Meets}
 use Rattle.spin_core.specs.Views.{Part, HasPart, IsLockOf, entries_of}
 use Rattle.spin_core.specs.declared.tie.Opening.{Opening}
 use Rattle.spin_core.specs.declared.trace.Trace.{Trace}
@@ -92,10 +92,6 @@ starts opening trace named empty = session.starts (fair_table opening.value most
 
 pub never_reads : (v : View) → use_at fair_meaning v ≡ reads → ⊥
 never_reads v e = grind (arith, e)
-
--- only a party that holds the lock writes
-pub holding_of : (v : View) → use_at fair_meaning v ≡ writes → v ≡ Holding hold.Write
-holding_of v e = grind (arith, e)
 
 -- A newcomer that asks for the reason is granted the lock, or finds it held, or finds a starver.
 module _ {T : Type 0} (p q : FairSpot T) (a : Answer (Unit {0})) (after : Option Hold) (so : Ended fair_tables fair_meaning TryLockStarver None a after p q) where

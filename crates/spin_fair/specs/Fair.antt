@@ -20,12 +20,10 @@ use Rattle.spin_step_more.specs.declared.fair_calls.FairCall.{FairCall}
 use Rattle.spin_step_more.specs.declared.fair_calls.FairCall.TheVariants.{Lock, Starve, StarverTryLockFair, StarverTryLock, StarverLock}
 use Rattle.spin_step_more.specs.declared.fair_calls.FairPoint.{FairPoint}
 use Rattle.spin_step_more.specs.declared.fair_calls.FairPoint.TheVariants.{Attempt, Look, Load, Register, SetFlag, Await, Unregister}
-use Rattle.spin_core.specs.Cell.{Use}
 use Rattle.spin_core.specs.Own.{Numbered}
 use Rattle.spin_core.specs.Views.{Part, idle, holds, starves, holds_starving, part_at as at_place}
 use Rattle.spin_core.specs.declared.tie.Opening.{Opening}
 use Rattle.spin_core.specs.declared.trace.Trace.{Trace}
-use Rattle.spin_session.specs.Meaning as session
 use Rattle.spin_session.specs.Meaning.{Meaning, RunsTable, part_of}
 
 -- what a party is that has registered in its call, or before it
@@ -60,10 +58,6 @@ fair_meaning = record { cap = most_starvers; word = fair_word; second = λ s. 0;
 abbrev pub View : Type 0
 View = Seat FairCall FairPoint
 
--- how a party uses the value
-abbrev pub use_of_party : Numbered View → Use
-use_of_party = session.use_of_party fair_meaning
-
 -- `STARVATION_SPINS + 1`: after this many looks that found the flag set, the next such look makes a `lock` register
 abbrev pub patience : ℕ
 patience = 1025
@@ -73,9 +67,9 @@ abbrev pub words_of : ℕ → ℕ × Unit {0}
 words_of w = (w, tt)
 
 -- the answer that gives this reason
-abbrev pub answer_of : {T : Type 0} → LockRejectReason → Answer T
-answer_of Locked = answer.Locked
-answer_of Starved = answer.Starved
+abbrev pub reason_answer : {T : Type 0} → LockRejectReason → Answer T
+reason_answer Locked = answer.Locked
+reason_answer Starved = answer.Starved
 
 -- For a lock of values of type T
 
@@ -108,8 +102,8 @@ abbrev pub EndsRegistration : Option View → Type 0
 EndsRegistration seat = (c : FairCall) × (h : Option Hold) × (seat ≡ Some (Calling c Unregister h))
 
 -- the party with this number holds the lock, and is not registered as a starver
-abbrev pub HoldsAt : List View → ℕ → Type 0
-HoldsAt vs p = at_place (part_of fair_meaning) vs p ≡ holds writing
+abbrev pub HoldsWith : List View → ℕ → Type 0
+HoldsWith vs p = at_place (part_of fair_meaning) vs p ≡ holds writing
 
 -- the party with this number is registered as a starver
 abbrev pub StarvesAt : List View → ℕ → Type 0

@@ -13,7 +13,7 @@ use Rattle.spin_session.specs.Passes as session
 use Rattle.spin_session.specs.Ending as ending
 pub use Rattle.spin_session.specs.Ending.{Includes, Recalls}
 use Rattle.spin_session.specs.Turns as turns
-use Rattle.spin_session.specs.Turns.{Spot}
+use Rattle.spin_session.specs.Turns.{SeatSpot}
 pub use Rattle.spin_session.specs.Passes.{◌⨾◌, After, history, lock_of, new_in, opening_of, party, OpensWith, Holds}
 use Rattle.spin_fair.specs.Fair.{Done, View, fair_meaning, fair_tables}
 use Rattle.spin_fair.specs.declared.fair.FairMutex.{FairMutex}
@@ -28,7 +28,7 @@ module _ {T R : Type 0} where
   name_of lock = (opening lock).name
 
 abbrev pub FairSpot : Type 0 → Type 0
-FairSpot T = Spot T FairCall FairPoint
+FairSpot T = SeatSpot T FairCall FairPoint
 
 module _ {T : Type 0} where
   -- from `before` to `now` the pass has made exactly this call, with this answer

@@ -9,8 +9,8 @@ ghost use Rattle.spin_step.specs.Plain.{Plain, fair_word, holder_weight, starver
 ghost use Rattle.spin_step.specs.declared.schedule.Move.{Move as TheMove};
 ghost use Rattle.spin_step_more.specs.declared.fair_calls.FairCall.{FairCall as TheCall};
 ghost use Rattle.spin_step_more.specs.declared.fair_calls.FairPoint.{FairPoint as ThePoint};
-ghost use Rattle.spin_step_more.specs.Starvers.{most_starvers, is_set, unlocked, unstarved, lock_starved};
-ghost use Rattle.spin_fair.specs.Fair.{Done, EndsRegistration, Enters, HoldsAt, IsFair, StarvesAt, View, model, views_of, words_of};
+ghost use Rattle.spin_step_more.specs.Starvers.{most_starvers, is_held_word, unlocked, unstarved, lock_starved};
+ghost use Rattle.spin_fair.specs.Fair.{Done, EndsRegistration, Enters, HoldsWith, IsFair, StarvesAt, View, model, views_of, words_of};
 
 /// Each run of a [`FairMutex`](crate::fair::FairMutex) on threads is a schedule of its model.
 ///
@@ -36,7 +36,7 @@ pub fn no_newcomer_holds_that_came_behind_a_starver<T>()
         → Enters value s p move → (s.words ≡ 0) ⊎ EndsRegistration (slice_get s.seats p) }
     ensures free { (s : Plain) → fair_word s ≡ 0 → (length s.holders ≡ 0) × (length s.starvers ≡ 0) }
     ensures nobody { (opening : Opening T) (trace : Trace (Done T) (Unit {0})) (parties : List (Numbered View)) (p : ℕ)
-        → IsFair opening 0 trace parties → (HoldsAt (views_of parties) p → ⊥) × (StarvesAt (views_of parties) p → ⊥) }
+        → IsFair opening 0 trace parties → (HoldsWith (views_of parties) p → ⊥) × (StarvesAt (views_of parties) p → ⊥) }
 {}
 
 /// States that the blind operations on the word of a `FairMutex` do what its step functions say.
@@ -49,7 +49,7 @@ pub fn no_newcomer_holds_that_came_behind_a_starver<T>()
 /// gives the word that `unstarved` gives. On any word the bit operation gives the word that `lock_starved` gives. If
 /// `lock_starved` returns `None`, the bit operation leaves the word as it is.
 pub fn an_addition_is_its_step_function<T>()
-    ensures unlock { (opening : Opening T) (word : ℕ) (trace : Trace (Done T) (Unit {0})) (parties : List (Numbered View)) (p : ℕ) → IsFair opening word trace parties → HoldsAt (views_of parties) p → (is_set word ≡ true) × ((word + (2 ^ 64 - holder_weight)) % 2 ^ 64 ≡ unlocked word) }
+    ensures unlock { (opening : Opening T) (word : ℕ) (trace : Trace (Done T) (Unit {0})) (parties : List (Numbered View)) (p : ℕ) → IsFair opening word trace parties → HoldsWith (views_of parties) p → (is_held_word word ≡ true) × ((word + (2 ^ 64 - holder_weight)) % 2 ^ 64 ≡ unlocked word) }
     ensures unstarve { (opening : Opening T) (word : ℕ) (trace : Trace (Done T) (Unit {0})) (parties : List (Numbered View)) (p : ℕ) → IsFair opening word trace parties → StarvesAt (views_of parties) p → (starver_weight ≤ word) × ((word + (2 ^ 64 - starver_weight)) % 2 ^ 64 ≡ unstarved word) }
     ensures lock_starved { (word : ℕ) → bit_or word holder_weight ≡ unwrap_or (lock_starved word) word }
 {}

@@ -11,7 +11,6 @@ use Rattle.spin_step.specs.declared.place.Seat.{Seat}
 use Rattle.spin_step.specs.declared.flag_calls.FlagCall.{FlagCall}
 use Rattle.spin_step.specs.declared.flag_calls.FlagCall.TheVariants.{Lock}
 use Rattle.spin_step.specs.declared.flag_calls.FlagPoint.{FlagPoint}
-use Rattle.spin_core.specs.Cell.{Use}
 use Rattle.spin_core.specs.Own.{Numbered}
 use Rattle.spin_core.specs.Views.{Part, idle, holds}
 use Rattle.spin_core.specs.declared.tie.Opening.{Opening}
@@ -33,10 +32,6 @@ flag_meaning = record { cap = 0; word = flag_word; second = λ s. 0; bounds = λ
 -- what a party is to the lock: where it is in a call, or what it holds
 abbrev pub View : Type 0
 View = Seat FlagCall FlagPoint
-
--- how a party uses the value
-abbrev pub use_of_party : Numbered View → Use
-use_of_party = session.use_of_party flag_meaning
 
 -- the lock's two words for this flag of the model; the second word is empty
 abbrev pub words_of : Bool → ℕ × Unit {0}

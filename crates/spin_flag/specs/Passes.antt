@@ -14,7 +14,7 @@ use Rattle.spin_session.specs.Passes as session
 use Rattle.spin_session.specs.Ending as ending
 pub use Rattle.spin_session.specs.Ending.{Includes, Recalls}
 use Rattle.spin_session.specs.Turns as turns
-use Rattle.spin_session.specs.Turns.{Spot}
+use Rattle.spin_session.specs.Turns.{SeatSpot}
 pub use Rattle.spin_session.specs.Passes.{◌⨾◌, After, history, lock_of, new_in, opening_of, party, OpensWith, Holds}
 use Rattle.spin_flag.specs.Flag.{Done, View, flag_meaning, flag_tables}
 use Rattle.spin_flag.specs.declared.spin.SpinMutex.{SpinMutex}
@@ -29,7 +29,7 @@ module _ {T R : Type 0} where
   name_of lock = (opening lock).name
 
 abbrev pub FlagSpot : Type 0 → Type 0
-FlagSpot T = Spot T FlagCall FlagPoint
+FlagSpot T = SeatSpot T FlagCall FlagPoint
 
 module _ {T : Type 0} where
   -- from `before` to `now` the pass has made exactly this call, with this answer

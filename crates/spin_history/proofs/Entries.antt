@@ -1,5 +1,5 @@
 -- The last entry of a list, and entries in an order.
-use Rattle.std.proofs.Common.{◌≡◌, List, [], ◌∷◌, ◌++◌, Option, None, Some, IfSome, refl, sym, subst, ap}
+use Rattle.std.proofs.Common.{◌≡◌, List, [], ◌∷◌, ◌++◌, Some, refl, sym, subst, arith}
 use mathlib.Core.List.{IsPrefix}
 use Rattle.spin_history.specs.Entries.{last, InOrder, IsAtOrAfter}
 
@@ -17,14 +17,9 @@ module _ {T : Type 0} where
   pub at_both : (R : T → T → Type 0) {x x' y y' : T} → x ≡ x' → y ≡ y' → R x y → R x' y'
   at_both R {x} {x'} {y} {y'} e d h = subst (λ (z : T). R z y') e (subst (R x) d h)
 
-  from : T → Option T → T
-  from d None = d
-  from d (Some x) = x
-
   module _ (le : T → T → Type 0) (reflexive : (x : T) → le x x) (transitive : (x y z : T) → le x y → le y z → le x z) where
     first : (x : T) (l : List T) (w : T) → InOrder le (x ∷ l) → last (x ∷ l) ≡ Some w → le x w
-    unfolding from
-    first x [] w h e = subst (le x) (ap (from x) e) (reflexive x)
+    first x [] w h e = grind (arith, reflexive x)
     first x (y ∷ l) w h e = transitive x y w h.0 (first y l w h.1 e)
 
     over : (k t : List T) (w : T) → InOrder le (k ++ t) → last (k ++ t) ≡ Some w → IsAtOrAfter le k w
@@ -37,15 +32,10 @@ module _ {T : Type 0} where
     later k l w p h e = over k p.0 w (subst (InOrder le) (sym p.1) h) (subst (λ (z : List T). last z ≡ Some w) (sym p.1) e)
 
     pub goes_on : (l : List T) (v x : T) → InOrder le l → last l ≡ Some v → le v x → InOrder le (l ++ x ∷ [])
-    unfolding from
     goes_on [] v x h e up = tt
-    goes_on (y ∷ []) v x h e up = (subst (λ (z : T). le z x) (sym (ap (from y) e)) up, tt)
+    goes_on (y ∷ []) v x h e up = grind arith
     goes_on (y ∷ z ∷ l) v x h e up = (h.0, goes_on (z ∷ l) v x h.1 e up)
 
     -- if v may follow the last entry that a caller has seen, and x may follow v, then x may follow that entry
     pub at_or_after : (k : List T) (v x : T) → IsAtOrAfter le k v → le v x → IsAtOrAfter le k x
-    at_or_after k v x = by_last (last k)
-      where
-        by_last : (o : Option T) → IfSome o (λ before. le before v) → le v x → IfSome o (λ before. le before x)
-        by_last None h g = tt
-        by_last (Some b) h g = transitive b v x h g
+    at_or_after k v x seen up = grind (arith, transitive)

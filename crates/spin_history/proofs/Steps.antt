@@ -1,23 +1,22 @@
 -- The ghost steps of a log. Assumes `Logic`.
-use Rattle.std.proofs.Common.{◌≡◌, ◌⊎◌, ℕ, List, [], ◌∷◌, ◌++◌, subst}
-use mathlib.Core.Logic.{inl, inr}
+use Rattle.std.proofs.Common.{◌≡◌, ℕ, List, [], ◌∷◌, ◌++◌, subst}
 use mathlib.Core.List.{IsPrefix}
 use seplogic.Ra.Ura.{Ura}
 use base.Fraction.{full_share}
 use base.Stored.{Coded, Gv}
 use base.Logic.{ex, emp, id⊢, via}
 use base.Fml.{Fml, flft}
-use base.Growing.{latest, prefix_refl}
+use base.Growing.{latest}
 use base.Shift.{Keyless}
 use types.Logic.{Logic}
 use types.Owned.{basic}
 use types.Growing.{latest_new}
-use types.Kit.{Item, ‵, ◌⊛◌, given, some, later, ◌$◌, ◌∵◌, !, by, move, keep, drop, split, learn, check, updating, now, done, use0}
+use types.Kit.{‵, ◌⊛◌, given, later, ◌$◌, ◌∵◌, !, move, keep, split, learn, check, updating, now, done, use0}
 use types.Tokens.{bor_new, bor_fracture, shr_bor-open}
 use Rattle.spin_core.proofs.TraceSteps as trace
-pub use Rattle.spin_core.proofs.TraceSteps.{log_keyless, part_keyless, known_keyless, part_halves, log_lends, shows, observes, same_log, known_twice, compares}
+pub use Rattle.spin_core.proofs.TraceSteps.{log_keyless, part_keyless, known_keyless, part_halves, log_lends, shows, observes, known_twice, joins}
 use Rattle.spin_core.proofs.Signs.{signs}
-use Rattle.spin_core.proofs.Lemmas.{lemma, script, cite, having}
+use Rattle.spin_core.proofs.Lemmas.{lemma, script, cite}
 use Rattle.spin_core.specs.Logs.{logs, log_owns, log_part, known_owns}
 use Rattle.spin_history.specs.History.{blank_owns, closed_owns}
 
@@ -49,18 +48,6 @@ module _ {M : Type 1} {𝓤 : Ura M} (𝓛 : Logic 𝓤) where
 
     pub appends : (l : List T) (x : T) → ‵ (Log l) ⊩ later (‵ (Log (l ++ x ∷ [])))
     appends l x = lemma (via 𝓤 _ (trace.appends 𝓛 cv γ l (x ∷ [])).prf (basic 𝓛 _))
-
-    -- the watch knows a history of which both lists are prefixes
-    abbrev Past : List T → List T → List T → Item 𝓤
-    Past k l m = given (IsPrefix k m × IsPrefix l m) (‵ (Known m))
-
-    longer : (k l : List T) → IsPrefix k l ⊎ IsPrefix l k → ‵ (Known k) ⊛ ‵ (Known l) ⊩ some (Past k l)
-    longer k l (inl p) = script ∵ drop ! $ having ! (Past k l) l $ check ! (p, prefix_refl l) $ done !
-    longer k l (inr p) = script ∵ keep ! (0 ∷ []) $ having ! (Past k l) k $ check ! (prefix_refl k, p) $ done !
-
-    pub merges : (k l : List T) → ‵ (Known k) ⊛ ‵ (Known l) ⊩ some (Past k l)
-    merges k l = script ∵ cite _ (known_twice 𝓛 cv γ k) $ move ! (2 ∷ []) $ cite _ (known_twice 𝓛 cv γ l) $ move ! (2 ∷ 0 ∷ []) $
-        cite _ (compares 𝓛 cv γ k l) $ learn ! (λ s. drop ! $ move ! (1 ∷ 0 ∷ []) $ by ! (longer k l s).prf)
 
     -- to close a log, the right to append is shared for ever; so nobody has the whole right again
     pub closes_it : (l : List T) → ‵ (Log l) ⊩ later (‵ (closed_owns cv.code γ l))

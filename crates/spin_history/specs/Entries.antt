@@ -13,8 +13,8 @@ abbrev pub Reads : {T : Type 0} → List T → T → List T → Type 0
 Reads old x new = IsPrefix old new × (last new ≡ Some x)
 
 -- a caller that knew the entries `old` writes x, and then knows `new`
-abbrev pub Writes : {T : Type 0} → List T → T → List T → Type 0
-Writes {T} old x new = (between : List T) × (new ≡ (old ++ between) ++ x ∷ [])
+abbrev pub WritesOne : {T : Type 0} → List T → T → List T → Type 0
+WritesOne {T} old x new = (between : List T) × (new ≡ (old ++ between) ++ x ∷ [])
 
 -- a caller that knew the entries `old` finds x and writes y, with no entry in between, and then knows `new`
 abbrev pub Updates : {T : Type 0} → List T → T → T → List T → Type 0
@@ -40,10 +40,10 @@ IsAtOrAfter le seen x = IfSome (last seen) (λ before. le before x)
 abbrev pub ReadsIn : {T : Type 0} → (T → T → Type 0) → List T → T → List T → Type 0
 ReadsIn le old x new = IsAtOrAfter le old x × (InOrder le new × Reads old x new)
 
--- `Writes` for values in an order. The value may follow the last one that the caller saw. It is the last entry that
+-- `WritesOne` for values in an order. The value may follow the last one that the caller saw. It is the last entry that
 -- the caller then knows, and all these entries are in order.
 abbrev pub WritesIn : {T : Type 0} → (T → T → Type 0) → List T → T → List T → Type 0
-WritesIn le old x new = IsAtOrAfter le old x × (InOrder le new × ((last new ≡ Some x) × Writes old x new))
+WritesIn le old x new = IsAtOrAfter le old x × (InOrder le new × ((last new ≡ Some x) × WritesOne old x new))
 
 abbrev pub UpdatesIn : {T : Type 0} → (T → T → Type 0) → List T → T → T → List T → Type 0
 UpdatesIn le old x y new = IsAtOrAfter le old y × (InOrder le new × ((last new ≡ Some y) × Updates old x y new))

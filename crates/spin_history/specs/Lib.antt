@@ -1,2 +1,6 @@
 pub mod Entries
 pub mod History
+pub mod Known
+pub mod Registers
+pub mod Shares
+pub mod Tallies

@@ -1,14 +1,14 @@
 //! A log that only grows, and snapshots of it. Both are ghost state: tokens that have no bytes and cost
 //! nothing at run time. Begin with [`BlankLog::new`] and [`Snapshot`].
-ghost use Rattle.std.specs.Prelude.{◌≡◌, ℕ, List, [], ◌∷◌, ◌++◌, ⊤};
+ghost use Rattle.std.specs.Prelude.{◌≡◌, ℕ, List, [], ⊤};
 ghost use Rattle.std.specs.Coded.{coded_list};
-ghost use mathlib.Core.List.{IsPrefix};
-ghost use Rattle.spin_core.specs.Logs.{OneIsPrefix};
 ghost use denote.Sharing.{said};
 ghost use Rattle.spin_core.specs.Logs.{log_owns, log_shares, known_owns};
 ghost use Rattle.spin_history.specs.History.{blank_owns, closed_owns};
 
 use std::marker::{Brand, Model, PhantomData};
+
+mod calls;
 
 /// The name of a log, as a type. All tokens with the same `H` belong to one log.
 ///
@@ -158,110 +158,6 @@ impl BlankLog {
             marker: PhantomData,
         }
     }
-}
-
-impl<T, H: History> Log<T, H> {
-    /// Appends an entry.
-    ///
-    /// # Contract
-    /// The log has its former entries, followed by `value`.
-    pub fn append(&mut self, value: &T)
-        ensures { self.new.entries ≡ self.old.entries ++ value.now ∷ [] }
-    {}
-
-    /// Returns a snapshot of all entries so far.
-    ///
-    /// # Contract
-    /// The snapshot has all entries of the log.
-    pub fn snapshot(&self) -> Snapshot<T, H>
-        ensures { result.entries ≡ self.now.entries }
-    {
-        Snapshot {
-            marker: PhantomData,
-        }
-    }
-
-    /// Brings a snapshot up to date.
-    ///
-    /// # Contract
-    /// The snapshot's former entries are a prefix of the log. Afterwards it has the whole log.
-    pub fn observe(&self, snapshot: &mut Snapshot<T, H>)
-        ensures { IsPrefix snapshot.old.entries self.now.entries × (snapshot.new.entries ≡ self.now.entries) }
-    {}
-
-    /// Compares two references to the log that are held at the same time.
-    ///
-    /// # Contract
-    /// Both show the same entries. So two readers that hold the lock of a [`Register`](crate::register::Register) at
-    /// the same time read the same value.
-    pub fn same(&self, other: &Log<T, H>)
-        ensures { self.now.entries ≡ other.now.entries }
-    {}
-
-    /// Closes the log: no thread can append to it any more.
-    ///
-    /// # Contract
-    /// The closed log has all entries of the log.
-    pub fn close(self) -> ClosedLog<T, H>
-        ensures { result.entries ≡ self.entries }
-    {
-        let Self { marker: _ } = self;
-        ClosedLog {
-            marker: PhantomData,
-        }
-    }
-}
-
-impl<T, H: History> ClosedLog<T, H> {
-    /// Returns a copy of the closed log.
-    ///
-    /// # Contract
-    /// The copy has the same entries.
-    pub fn copy(&self) -> ClosedLog<T, H>
-        ensures { result.entries ≡ self.now.entries }
-    {
-        ClosedLog {
-            marker: PhantomData,
-        }
-    }
-
-    /// Brings a snapshot up to date. The log is closed, so the snapshot stays up to date.
-    ///
-    /// # Contract
-    /// Like that of [`Log::observe`].
-    pub fn observe(&self, snapshot: &mut Snapshot<T, H>)
-        ensures { IsPrefix snapshot.old.entries self.now.entries × (snapshot.new.entries ≡ self.now.entries) }
-    {}
-}
-
-impl<T, H: History> Snapshot<T, H> {
-    /// Returns a copy of the snapshot.
-    ///
-    /// # Contract
-    /// The copy has the same entries.
-    pub fn copy(&self) -> Snapshot<T, H>
-        ensures { result.entries ≡ self.now.entries }
-    {
-        Snapshot {
-            marker: PhantomData,
-        }
-    }
-
-    /// Compares two snapshots of one log.
-    ///
-    /// # Contract
-    /// The entries of one snapshot are a prefix of the other's.
-    pub fn compare(&self, other: &Snapshot<T, H>)
-        ensures { OneIsPrefix self.now.entries other.now.entries }
-    {}
-
-    /// Adds what another snapshot knows to this one.
-    ///
-    /// # Contract
-    /// The former entries of each snapshot are a prefix of the entries that this one has afterwards.
-    pub fn merge(&mut self, other: &Snapshot<T, H>)
-        ensures { IsPrefix self.old.entries self.new.entries × IsPrefix other.now.entries self.new.entries }
-    {}
 }
 
 impl Drop for BlankLog {

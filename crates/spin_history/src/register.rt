@@ -28,16 +28,19 @@
 //!
 //! assert_eq!(rt; open(Publish(&rt)), (1, 2));
 //! ```
-ghost use Rattle.std.specs.Prelude.{◌≡◌, [], ◌∷◌, ◌++◌, Some, MatchBool, IfSome, IfNone};
+ghost use Rattle.std.specs.Prelude.{◌≡◌, Some, IfSome, IfNone};
 ghost use Rattle.std.specs.Fn.{FnOnceReturnsAt, FnOnceReturnsAtMut};
 ghost use mathlib.Core.List.{IsPrefix};
-ghost use Rattle.spin_history.specs.Entries.{last, InOrder, InOrder-prop, IsAtOrAfter, Writes, Updates, ReadsIn, WritesIn, UpdatesIn};
+ghost use Rattle.spin_history.specs.Entries.{last, InOrder, InOrder-prop, IsAtOrAfter, WritesOne, ReadsIn, WritesIn, UpdatesIn};
+ghost use Rattle.spin_history.specs.Known.{known_to, Finds, Inspects, Changes, ChangesBy, MayWrite};
 
 use crate::growing::{Order, Unordered};
-use crate::history::{ClosedLog, History, Log, Snapshot};
+use crate::history::{History, Log, Snapshot};
 use spin_core::lock::{Lock, SharedLock};
 use std::marker::PhantomData;
 use std::sync::Wait;
+
+mod calls;
 
 /// A value, and the log of all its writes: the last entry is the value.
 ///
@@ -51,263 +54,6 @@ pub struct Register<T, H: History, P: Order<T> = Unordered> {
     order: PhantomData<P>,
     ghost latest: { last log.entries ≡ Some value },
     ghost ordered: { InOrder P.le log.entries } by { InOrder-prop P.le P.fact log.entries },
-}
-
-impl<T, H: History, P: Order<T>> Register<T, H, P> {
-    /// Creates a register that holds `value`.
-    ///
-    /// # Contract
-    /// The value becomes the next entry of the log. The log has to be in order with this entry. An empty log
-    /// accepts any value.
-    #[tactic(auto, using(crate::proofs::Entries::last_is))]
-    pub fn new(value: T, log: Log<T, H>) -> Self
-        requires { InOrder P.le (log.entries ++ value ∷ []) }
-        ensures value { result.value ≡ value }
-        ensures exact { result.log.entries ≡ log.entries ++ value ∷ [] }
-    {
-        let mut log = log;
-        log.append(&value);
-        Register {
-            value,
-            log,
-            order: PhantomData,
-        }
-    }
-
-    /// Returns a snapshot of all writes so far.
-    ///
-    /// # Contract
-    /// The snapshot has the whole log, whose last entry is the value.
-    pub fn snapshot(&self) -> Snapshot<T, H>
-        ensures exact { result.entries ≡ self.now.log.entries }
-        ensures last { last result.entries ≡ Some self.now.value }
-    {
-        self.log.snapshot()
-    }
-
-    /// Returns a reference to the value.
-    ///
-    /// # Contract
-    /// The caller's snapshot grows to a history that is in order (`order`), and the value is its last write.
-    /// So the caller gets the last value that it saw, or a later one, whichever thread wrote it (`grown`).
-    pub fn get(&self, seen: &mut Snapshot<T, H>) -> &T
-        ensures order { InOrder P.le seen.new.entries }
-        ensures grown { IsAtOrAfter P.le seen.old.entries result.now }
-        ensures later { IsPrefix seen.old.entries seen.new.entries }
-        ensures last { last seen.new.entries ≡ Some result.now }
-        ensures exact { seen.new.entries ≡ self.now.log.entries }
-        ensures value { result.now ≡ self.now.value }
-    {
-        self.log.observe(seen);
-        &self.value
-    }
-
-    /// Calls a closure with the value, and returns its answer.
-    ///
-    /// # Contract
-    /// The closure has to be always callable, and is called once. Its argument is the value that
-    /// [`get`](Self::get) returns.
-    pub fn inspect<A, F: FnOnce(&T) -> A>(&self, by: F, seen: &mut Snapshot<T, H>) -> A
-        requires { F.IsAlwaysCallable by }
-        ensures called { FnOnceReturnsAt F.FnOnce by self.now.value result }
-        ensures order { InOrder P.le seen.new.entries }
-        ensures grown { IsAtOrAfter P.le seen.old.entries self.now.value }
-        ensures later { IsPrefix seen.old.entries seen.new.entries }
-        ensures last { last seen.new.entries ≡ Some self.now.value }
-        ensures exact { seen.new.entries ≡ self.now.log.entries }
-    {
-        by(self.get(seen))
-    }
-
-    /// Calls a closure with the value, and returns its answer. The closure may change the value in place.
-    ///
-    /// # Contract
-    /// The closure has to be always callable. Whatever value it finds, it has to leave one that may follow in
-    /// the order. The closure is called with the last write, and the value that it leaves is the next write
-    /// (`Updates`). In the order, the new value is at or after the last one that the caller saw.
-    ///
-    /// # Examples
-    /// ```
-    /// use spin_history::history::{BlankLog, History, Work, open};
-    /// use spin_history::register::Register;
-    ///
-    /// #[derive(Drop)]
-    /// struct AddInPlace;
-    ///
-    /// impl Work for AddInPlace {
-    ///     type Answer = (u64, u64);
-    ///
-    ///     fn run<H: History + Send + Sync>(self, blank: BlankLog) -> (u64, u64) {
-    ///         let log = blank.open::<u64, H>();
-    ///         let mut seen = log.snapshot();
-    ///         let mut register: Register<u64, H> = Register::new(5, log);
-    ///         let before = register.change(
-    ///             |value| {
-    ///                 let before = *value;
-    ///                 *value = value.saturating_add(1);
-    ///                 before
-    ///             },
-    ///             &mut seen,
-    ///         );
-    ///         (before, register.read(&mut seen))
-    ///     }
-    /// }
-    ///
-    /// assert_eq!(rt; open(AddInPlace), (5, 6));
-    /// ```
-    #[tactic(auto, using(crate::proofs::Entries::last_is))]
-    pub fn change<A, F: FnOnce(&mut T) -> A>(&mut self, by: F, seen: &mut Snapshot<T, H>) -> A
-        requires callable { F.IsAlwaysCallable by }
-        requires grows { (x y : T) (answer : A) → FnOnceReturnsAtMut F.FnOnce by x answer y → P.le x y }
-        ensures order { InOrder P.le seen.new.entries }
-        ensures grown { IsAtOrAfter P.le seen.old.entries self.new.value }
-        ensures called { FnOnceReturnsAtMut F.FnOnce by self.old.value result self.new.value }
-        ensures later { Updates seen.old.entries self.old.value self.new.value seen.new.entries }
-        ensures last { last seen.new.entries ≡ Some self.new.value }
-        ensures known { IsPrefix seen.old.entries self.old.log.entries }
-        ensures exact { seen.new.entries ≡ self.old.log.entries ++ self.new.value ∷ [] }
-        ensures left { self.new.log.entries ≡ self.old.log.entries ++ self.new.value ∷ [] }
-    {
-        let Register {
-            value,
-            log,
-            order: _,
-        } = self;
-        log.observe(seen);
-        let answer = by(value);
-        log.append(value);
-        log.observe(seen);
-        answer
-    }
-
-    /// Compares two references to the register that are held at the same time.
-    ///
-    /// # Contract
-    /// Both show the same value and the same history.
-    pub fn same(&self, other: &Register<T, H, P>)
-        ensures value { self.now.value ≡ other.now.value }
-        ensures entries { self.now.log.entries ≡ other.now.log.entries }
-    {
-        self.log.same(&other.log);
-    }
-
-    /// Consumes the register. Returns the value and the whole history, to which no thread can append any
-    /// more.
-    ///
-    /// # Contract
-    /// The history is in order, and the value is its last entry. Each snapshot is a prefix of the history, as
-    /// [`ClosedLog::observe`] shows.
-    ///
-    /// # Examples
-    /// ```
-    /// use spin_history::history::{BlankLog, History, Work, open};
-    /// use spin_history::register::Register;
-    ///
-    /// #[derive(Drop)]
-    /// struct WriteAndClose;
-    ///
-    /// impl Work for WriteAndClose {
-    ///     type Answer = u64;
-    ///
-    ///     fn run<H: History + Send + Sync>(self, blank: BlankLog) -> u64 {
-    ///         let log = blank.open::<u64, H>();
-    ///         let mut seen = log.snapshot();
-    ///         let mut register: Register<u64, H> = Register::new(1, log);
-    ///         register.write(2, &mut seen);
-    ///         let (last, closed) = register.close();
-    ///         closed.observe(&mut seen);
-    ///         last
-    ///     }
-    /// }
-    ///
-    /// assert_eq!(rt; open(WriteAndClose), 2);
-    /// ```
-    pub fn close(self) -> (T, ClosedLog<T, H>)
-        ensures ordered { InOrder P.le result.1.entries }
-        ensures value { result.0 ≡ self.value }
-        ensures exact { result.1.entries ≡ self.log.entries }
-        ensures last { last result.1.entries ≡ Some result.0 }
-    {
-        let Self {
-            value,
-            log,
-            order: _,
-        } = self;
-        (value, log.close())
-    }
-}
-
-impl<T: Drop, H: History, P: Order<T>> Register<T, H, P> {
-    /// Writes a value.
-    ///
-    /// # Contract
-    /// In the order, the value has to be allowed to follow any other. The caller's snapshot grows to a
-    /// history whose last write is the value (`Writes`). The entry before it is the register's former value.
-    pub fn write(&mut self, new: T, seen: &mut Snapshot<T, H>)
-        requires { (x : T) → P.le x new }
-        ensures order { InOrder P.le seen.new.entries }
-        ensures grown { IsAtOrAfter P.le seen.old.entries new }
-        ensures later { Writes seen.old.entries new seen.new.entries }
-        ensures last { last seen.new.entries ≡ Some new }
-        ensures value { self.new.value ≡ new }
-        ensures exact { seen.new.entries ≡ self.old.log.entries ++ new ∷ [] }
-        ensures left { self.new.log.entries ≡ self.old.log.entries ++ new ∷ [] }
-    {
-        self.change(
-            move |value: &mut T|
-                ensures { value.new ≡ new }
-            {
-                *value = new;
-            },
-            seen,
-        );
-    }
-
-    /// Writes the value that a closure returns for the current one.
-    ///
-    /// # Contract
-    /// The closure has to be always callable. Whatever value it finds, it has to return one that may follow
-    /// in the order. The closure is called with the last write, and its answer is the next write (`Updates`).
-    /// In the order, the new value is at or after the last one that the caller saw.
-    pub fn update<F: FnOnce(&T) -> T>(&mut self, by: F, seen: &mut Snapshot<T, H>)
-        requires callable { F.IsAlwaysCallable by }
-        requires grows { (x y : T) → FnOnceReturnsAt F.FnOnce by x y → P.le x y }
-        ensures order { InOrder P.le seen.new.entries }
-        ensures grown { IsAtOrAfter P.le seen.old.entries self.new.value }
-        ensures called { FnOnceReturnsAt F.FnOnce by self.old.value self.new.value }
-        ensures later { Updates seen.old.entries self.old.value self.new.value seen.new.entries }
-        ensures last { last seen.new.entries ≡ Some self.new.value }
-        ensures known { IsPrefix seen.old.entries self.old.log.entries }
-        ensures exact { seen.new.entries ≡ self.old.log.entries ++ self.new.value ∷ [] }
-        ensures left { self.new.log.entries ≡ self.old.log.entries ++ self.new.value ∷ [] }
-    {
-        self.change(
-            move |value: &mut T|
-                requires { F.IsAlwaysCallable by }
-                ensures { FnOnceReturnsAt F.FnOnce by value.old value.new }
-            {
-                *value = by(value);
-            },
-            seen,
-        );
-    }
-}
-
-impl<T: Copy, H: History, P: Order<T>> Register<T, H, P> {
-    /// Returns a copy of the value.
-    ///
-    /// # Contract
-    /// Like that of [`get`](Register::get).
-    pub fn read(&self, seen: &mut Snapshot<T, H>) -> T
-        ensures order { InOrder P.le seen.new.entries }
-        ensures grown { IsAtOrAfter P.le seen.old.entries result }
-        ensures later { IsPrefix seen.old.entries seen.new.entries }
-        ensures last { last seen.new.entries ≡ Some result }
-        ensures exact { seen.new.entries ≡ self.now.log.entries }
-        ensures value { result ≡ self.now.value }
-    {
-        *self.get(seen)
-    }
 }
 
 /// Calls a closure with the value of a register under a lock, and returns its answer.
@@ -325,7 +71,7 @@ pub fn inspect<
     W: Wait,
 >(rt: &W, lock: &L, by: F, seen: &mut Snapshot<T, H>) -> A
     requires { F.IsAlwaysCallable by }
-    ensures { (value : T) × (FnOnceReturnsAt F.FnOnce by value result × ReadsIn P.le seen.old.entries value seen.new.entries) }
+    ensures { Inspects P.le (FnOnceReturnsAt F.FnOnce by) result seen.old seen.new }
 {
     let known = seen.copy();
     let (answer, found) = lock.with(
@@ -354,10 +100,10 @@ pub fn read<T: Copy, P: Order<T>, H: History, L: Lock<Register<T, H, P>>, W: Wai
     lock: &L,
     seen: &mut Snapshot<T, H>,
 ) -> T
-    ensures order { InOrder P.le seen.new.entries }
-    ensures grown { IsAtOrAfter P.le seen.old.entries result }
-    ensures later { IsPrefix seen.old.entries seen.new.entries }
-    ensures last { last seen.new.entries ≡ Some result }
+    ensures order { InOrder P.le (known_to seen.new) }
+    ensures grown { IsAtOrAfter P.le (known_to seen.old) result }
+    ensures later { IsPrefix (known_to seen.old) (known_to seen.new) }
+    ensures last { last (known_to seen.new) ≡ Some result }
 {
     inspect(
         rt,
@@ -384,7 +130,7 @@ pub fn inspect_shared<
     W: Wait,
 >(rt: &W, lock: &L, by: F, seen: &mut Snapshot<T, H>) -> A
     requires { F.IsAlwaysCallable by }
-    ensures { (value : T) × (FnOnceReturnsAt F.FnOnce by value result × ReadsIn P.le seen.old.entries value seen.new.entries) }
+    ensures { Inspects P.le (FnOnceReturnsAt F.FnOnce by) result seen.old seen.new }
 {
     let known = seen.copy();
     let (answer, found) = lock.with_shared(
@@ -411,10 +157,10 @@ pub fn read_shared<T: Copy, P: Order<T>, H: History, L: SharedLock<Register<T, H
     lock: &L,
     seen: &mut Snapshot<T, H>,
 ) -> T
-    ensures order { InOrder P.le seen.new.entries }
-    ensures grown { IsAtOrAfter P.le seen.old.entries result }
-    ensures later { IsPrefix seen.old.entries seen.new.entries }
-    ensures last { last seen.new.entries ≡ Some result }
+    ensures order { InOrder P.le (known_to seen.new) }
+    ensures grown { IsAtOrAfter P.le (known_to seen.old) result }
+    ensures later { IsPrefix (known_to seen.old) (known_to seen.new) }
+    ensures last { last (known_to seen.new) ≡ Some result }
 {
     inspect_shared(
         rt,
@@ -436,8 +182,8 @@ pub fn try_read<T: Copy, P: Order<T>, H: History, L: Lock<Register<T, H, P>>>(
     lock: &L,
     seen: &mut Snapshot<T, H>,
 ) -> Option<T>
-    ensures found { IfSome result (λ value. ReadsIn P.le seen.old.entries value seen.new.entries) }
-    ensures refused { IfNone result (seen.new.entries ≡ seen.old.entries) }
+    ensures found { IfSome result (λ value. Finds P.le value seen.old seen.new) }
+    ensures refused { IfNone result (known_to seen.new ≡ known_to seen.old) }
 {
     let known = seen.copy();
     let read = lock.try_with(
@@ -464,8 +210,8 @@ pub fn try_read_shared<T: Copy, P: Order<T>, H: History, L: SharedLock<Register<
     lock: &L,
     seen: &mut Snapshot<T, H>,
 ) -> Option<T>
-    ensures found { IfSome result (λ value. ReadsIn P.le seen.old.entries value seen.new.entries) }
-    ensures refused { IfNone result (seen.new.entries ≡ seen.old.entries) }
+    ensures found { IfSome result (λ value. Finds P.le value seen.old seen.new) }
+    ensures refused { IfNone result (known_to seen.new ≡ known_to seen.old) }
 {
     let known = seen.copy();
     let read = lock.try_with_shared(
@@ -502,15 +248,15 @@ pub fn change<
     W: Wait,
 >(rt: &W, lock: &L, by: F, seen: &mut Snapshot<T, H>) -> A
     requires callable { F.IsAlwaysCallable by }
-    requires grows { (x y : T) (answer : A) → FnOnceReturnsAtMut F.FnOnce by x answer y → P.le x y }
-    ensures { (before after : T) × (FnOnceReturnsAtMut F.FnOnce by before result after × UpdatesIn P.le seen.old.entries before after seen.new.entries) }
+    requires grows { (x y : T) (a : A) → FnOnceReturnsAtMut F.FnOnce by x a y → P.le x y }
+    ensures { Changes P.le (FnOnceReturnsAtMut F.FnOnce by) result seen.old seen.new }
 {
     let known = seen.copy();
     let (answer, found) = lock.with(
         rt,
         move |register: &mut Register<T, H, P>| -> (A, Snapshot<T, H>)
             requires callable { F.IsAlwaysCallable by }
-            requires grows { (x y : T) (answer : A) → FnOnceReturnsAtMut F.FnOnce by x answer y → P.le x y }
+            requires grows { (x y : T) (a : A) → FnOnceReturnsAtMut F.FnOnce by x a y → P.le x y }
             ensures { (before after : T) × (FnOnceReturnsAtMut F.FnOnce by before result.0 after × UpdatesIn P.le known.entries before after result.1.entries) }
         {
             let mut seen = known;
@@ -534,10 +280,10 @@ pub fn write<T: Drop, P: Order<T>, H: History, L: Lock<Register<T, H, P>>, W: Wa
     seen: &mut Snapshot<T, H>,
 )
     requires { (x : T) → P.le x new }
-    ensures order { InOrder P.le seen.new.entries }
-    ensures grown { IsAtOrAfter P.le seen.old.entries new }
-    ensures later { Writes seen.old.entries new seen.new.entries }
-    ensures last { last seen.new.entries ≡ Some new }
+    ensures order { InOrder P.le (known_to seen.new) }
+    ensures grown { IsAtOrAfter P.le (known_to seen.old) new }
+    ensures later { WritesOne (known_to seen.old) new (known_to seen.new) }
+    ensures last { last (known_to seen.new) ≡ Some new }
 {
     change(
         rt,
@@ -567,7 +313,7 @@ pub fn update<
 >(rt: &W, lock: &L, by: F, seen: &mut Snapshot<T, H>)
     requires callable { F.IsAlwaysCallable by }
     requires grows { (x y : T) → FnOnceReturnsAt F.FnOnce by x y → P.le x y }
-    ensures { (before after : T) × (FnOnceReturnsAt F.FnOnce by before after × UpdatesIn P.le seen.old.entries before after seen.new.entries) }
+    ensures { ChangesBy P.le (FnOnceReturnsAt F.FnOnce by) seen.old seen.new }
 {
     change(
         rt,
@@ -621,7 +367,7 @@ pub fn try_write<T: Drop, P: Order<T>, H: History, L: Lock<Register<T, H, P>>>(
     seen: &mut Snapshot<T, H>,
 ) -> bool
     requires { (x : T) → P.le x new }
-    ensures { MatchBool result (WritesIn P.le seen.old.entries new seen.new.entries) (seen.new.entries ≡ seen.old.entries) }
+    ensures { MayWrite P.le result new seen.old seen.new }
 {
     let known = seen.copy();
     let wrote = lock.try_with(

@@ -27,12 +27,15 @@
 //! assert_eq!(rt; tally::open(AddTwice(&rt)), 7);
 //! ```
 ghost use Rattle.std.specs.Prelude.{◌≡◌, ℕ, ◌+◌, ◌-◌, ◌^◌, ◌<◌, ◌≤◌, MatchBool, ⊤};
+ghost use Rattle.spin_history.specs.Shares.{parts_of, amount_of, GrewIf, FitsWhole};
 
 use spin_core::lock::Lock;
 use std::marker::Brand;
 use std::mem;
 use std::sync::Wait;
 use std::sync::ledger::{Blank, Book, Ledger, Share};
+
+mod calls;
 
 /// A number that threads add to, and the ghost book of a ledger, whose total is that number.
 ///
@@ -43,89 +46,6 @@ pub struct Tally<L: Ledger> {
     count: u64,
     added: Book<L>,
     ghost counted: { count ≡ added.total },
-}
-
-impl<L: Ledger> Tally<L> {
-    /// Creates a tally that counts 0.
-    ///
-    /// # Contract
-    /// The book's total has to be 0. The tally's count is 0.
-    pub fn new(book: Book<L>) -> Self
-        requires { book.total ≡ 0 }
-        ensures { result.count ≡ 0 }
-    {
-        Tally {
-            count: 0,
-            added: book,
-        }
-    }
-
-    /// Adds `more` to the tally and to the caller's share. Returns `false`, and adds nothing, if the sum
-    /// exceeds `u64::MAX`.
-    ///
-    /// # Contract
-    /// The share must not be empty. After `true` the share and the tally have grown by `more`; after `false`
-    /// both are unchanged. The answer is `false` exactly if the tally's count plus `more` exceeds `u64::MAX`. A share
-    /// counts at most as much as the tally (`bound`). A share with all parts of the ledger counts exactly as
-    /// much (`whole`).
-    ///
-    /// # Examples
-    /// ```
-    /// use spin_history::tally::{self, Tally, Work};
-    /// use std::sync::ledger::{Ledger, Share};
-    ///
-    /// #[derive(Drop)]
-    /// struct AddTooMuch;
-    ///
-    /// impl Work for AddTooMuch {
-    ///     type Answer = (bool, bool);
-    ///
-    ///     fn run<L: Ledger + Send + Sync>(self, tally: Tally<L>, all: Share<L>) -> (bool, bool) {
-    ///         let (mut tally, mut mine) = (tally, all);
-    ///         let first = tally.add(&mut mine, u64::MAX);
-    ///         (first, tally.add(&mut mine, 1))
-    ///     }
-    /// }
-    ///
-    /// assert_eq!(rt; tally::open(AddTooMuch), (true, false));
-    /// ```
-    pub fn add(&mut self, mine: &mut Share<L>, more: u64) -> bool
-        requires { 0 < mine.old.parts }
-        ensures full { MatchBool result (self.old.count + more < 2 ^ 64) ((self.old.count < 2 ^ 64) × (2 ^ 64 ≤ self.old.count + more)) }
-        ensures count { MatchBool result (self.new.count ≡ self.old.count + more) (self.new.count ≡ self.old.count) }
-        ensures bound { mine.old.amount ≤ self.old.count }
-        ensures whole { mine.old.parts ≡ L.parts → mine.old.amount ≡ self.old.count }
-        ensures parts { mine.new.parts ≡ mine.old.parts }
-        ensures amount { MatchBool result (mine.new.amount ≡ mine.old.amount + more) (mine.new.amount ≡ mine.old.amount) }
-    {
-        let Tally { count, added } = self;
-        added.audit(mine);
-        match count.checked_add(more) {
-            Some(sum) => {
-                added.add(mine, more);
-                *count = sum;
-                true
-            }
-            None => false,
-        }
-    }
-
-    /// Returns the exact total. The caller needs all parts of the ledger.
-    ///
-    /// # Contract
-    /// The share has to have all parts of the ledger. The answer is the share's amount, which is the tally's
-    /// count.
-    pub fn total(&mut self, every: &mut Share<L>) -> u64
-        requires { every.old.parts ≡ L.parts }
-        ensures total { result ≡ every.old.amount }
-        ensures value { result ≡ self.old.count }
-        ensures count { self.new.count ≡ self.old.count }
-        ensures amount { every.new.amount ≡ every.old.amount }
-        ensures parts { every.new.parts ≡ every.old.parts }
-    {
-        self.added.audit(every);
-        self.count
-    }
 }
 
 /// Work that uses a ledger of its own. [`open`] names that ledger.
@@ -189,11 +109,11 @@ pub fn add<L: Ledger, K: Lock<Tally<L>>, W: Wait>(
     mine: &mut Share<L>,
     more: u64,
 ) -> bool
-    requires { 0 < mine.old.parts }
-    ensures full { MatchBool result ⊤ ((before : ℕ) × ((before < 2 ^ 64) × (2 ^ 64 ≤ before + more))) }
-    ensures whole { MatchBool result (mine.old.amount + more < 2 ^ 64) (mine.old.parts ≡ L.parts → 2 ^ 64 ≤ mine.old.amount + more) }
-    ensures parts { mine.new.parts ≡ mine.old.parts }
-    ensures amount { MatchBool result (mine.new.amount ≡ mine.old.amount + more) (mine.new.amount ≡ mine.old.amount) }
+    requires { 0 < parts_of mine.old }
+    ensures full { MatchBool result ⊤ ((n : ℕ) × ((n < 2 ^ 64) × (2 ^ 64 ≤ n + more))) }
+    ensures whole { FitsWhole result L.parts mine.old more }
+    ensures parts { parts_of mine.new ≡ parts_of mine.old }
+    ensures amount { GrewIf result more (amount_of mine.old) (amount_of mine.new) }
 {
     let none = mine.empty();
     let held = mem::replace(mine, none);
@@ -221,10 +141,10 @@ pub fn add<L: Ledger, K: Lock<Tally<L>>, W: Wait>(
 /// The share has to have all parts of the ledger. The answer is the share's amount. Whether and when the call
 /// returns is not promised.
 pub fn total<L: Ledger, K: Lock<Tally<L>>, W: Wait>(rt: &W, lock: &K, every: &mut Share<L>) -> u64
-    requires { every.old.parts ≡ L.parts }
-    ensures total { result ≡ every.old.amount }
-    ensures amount { every.new.amount ≡ every.old.amount }
-    ensures parts { every.new.parts ≡ every.old.parts }
+    requires { parts_of every.old ≡ L.parts }
+    ensures total { result ≡ amount_of every.old }
+    ensures amount { amount_of every.new ≡ amount_of every.old }
+    ensures parts { parts_of every.new ≡ parts_of every.old }
 {
     let none = every.empty();
     let held = mem::replace(every, none);

@@ -1,10 +1,11 @@
 -- Suppose that what a waiting call asks is open. In as many rounds as an undisturbed call takes steps, the call is
 -- answered, or another party changes a word, or the call's own exchange fails spuriously.
-use Rattle.spin_laws.proofs.Names.{seat_of, ◌≡◌, ℕ, ◌+◌, ◌-◌, ◌<◌, ◌≤◌, ◌⊎◌, ◌==◌, ◌&&◌, ◌||◌, Bool, true, false, not, Option, Some, List, [], ◌∷◌, ◌++◌, length, slice_get, if◌then◌else◌, refl, ap, sym, ◌∙◌, subst, arith, inl, inr, ⊎_elim, cases_eq, cases_lt, eqb-true, ne_eqb, false≢true, Plain, Change, Hold, Calling, Next, Continue, Answers, Move, Step, Outcome, Mark, joined, Machine, Seen, Scene, scene, opening, State, happens, after, at_first, goes_on, seen_after, eqb_self, get-set_same, state-seen_after, Test, occurs, MovesOn, AreRounds, is_step}
+use Rattle.spin_laws.proofs.Names.{seat_of, ◌≡◌, ℕ, ◌+◌, ◌-◌, ◌<◌, ◌≤◌, ◌⊎◌, ◌==◌, ◌&&◌, ◌||◌, Bool, true, false, not, Option, Some, List, [], ◌∷◌, ◌++◌, length, slice_get, if◌then◌else◌, refl, ap, sym, ◌∙◌, subst, arith, inl, inr, ⊎_elim, cases_eq, eqb-true, ne_eqb, false≢true, Plain, Change, Hold, Calling, Next, Continue, Answers, Move, Step, Outcome, Mark, joined, Machine, Seen, Scene, scene, opening, State, happens, after, at_first, goes_on, seen_after, eqb_self, get-set_same, state-seen_after, Test, occurs, MovesOn, AreRounds, is_step, max}
 use Rattle.spin_world_core.proofs.Names.{StepKind, by_step, AllOf, Leaves, UndisturbedTakes, is_open_now, steps_alone, Lawful, Every, IsInTime, Keeps, and_from, encoded, mark_of, scene_of}
+use Rattle.spin_world_core.proofs.Every.{left_after}
 use Rattle.spin_world_core.specs.Spans.{own_count}
 use Rattle.spin_laws.specs.Alone.{same_numbers, disturbs, ends_or_fails, AnsweredOrDisturbed}
-use Rattle.spin_laws.proofs.Waiting.{of_call, same_beside, or_left, or_right, occurs-append}
+use Rattle.spin_laws.proofs.Waiting.{of_call, same_beside, or_left, or_right}
 
 same_is : (xs ys : List ℕ) → same_numbers xs ys ≡ true → xs ≡ ys
 same_is [] [] same = refl
@@ -15,10 +16,6 @@ module _ {W V C L A : Type 0} (m : Machine W V C L A) (R : Scene W V C L A → T
   every_later : (xs ys : List (ℕ × Move C V)) (seen : Seen W V C L) → Every R m seen (xs ++ ys) → Every R m (seen_after m seen xs) ys
   every_later [] ys seen all = all
   every_later (x ∷ xs) ys seen all = every_later xs ys (scene m seen x.0 x.1).after all.1
-
-  every_first : (xs ys : List (ℕ × Move C V)) (seen : Seen W V C L) → Every R m seen (xs ++ ys) → Every R m seen xs
-  every_first [] ys seen all = tt
-  every_first (x ∷ xs) ys seen all = (all.0, every_first xs ys (scene m seen x.0 x.1).after all.1)
 
 module _ {W V C L A : Type 0} (m : Machine W V C L A) (p : ℕ) (c : C) (h : Option Hold) where
   abbrev stop : Test V C L A
@@ -36,15 +33,6 @@ module _ {W V C L A : Type 0} (m : Machine W V C L A) (p : ℕ) (c : C) (h : Opt
 
   stops_later : (s : State W V C L) (e : ℕ × Move C V) (es : List (ℕ × Move C V)) → Stops (happens m s e.0 e.1).next es → Stops s (e ∷ es)
   stops_later s e es h3 = grind (arith, or_right)
-
-  stops_first : (s : State W V C L) (xs ys : List (ℕ × Move C V)) → Stops s xs → Stops s (xs ++ ys)
-  stops_first s xs ys (inl stops) = inl (occurs-append m stop s xs ys ∙ or_left _ _ stops)
-  stops_first s (x ∷ xs) ys (inr disturbed) = grind (arith, disturbed, stops_first (happens m s x.0 x.1).next xs ys)
-  stops_first s [] ys (inr disturbed) = absurd (false≢true disturbed)
-
-  stops_rest : (s : State W V C L) (xs ys : List (ℕ × Move C V)) → Stops (after m s xs) ys → Stops s (xs ++ ys)
-  stops_rest s [] ys stops = stops
-  stops_rest s (x ∷ xs) ys stops = stops_later s x (xs ++ ys) (stops_rest (happens m s x.0 x.1).next xs ys stops)
 
   module _ (start : Plain) (older : List Mark) (opens : is_open_now p (m.asks c h) older start ≡ true) where
     abbrev most : ℕ
@@ -78,13 +66,6 @@ module _ {W V C L A : Type 0} (m : Machine W V C L A) (p : ℕ) (c : C) (h : Opt
       Comes sc = (stop sc.party sc.move sc.outcome (seat_of sc.after sc.party) ≡ true) ⊎ ((disturbs_at sc.party seen.state sc.after.state ≡ true) ⊎ Quiet sc.after (now sc.party sc.outcome))
 
       module _ (r : ℕ) (ne : r ≡ p → ⊥) where
-        -- another party's event leaves the plain lock and p's span unchanged, or adds the event's mark to this span
-        abbrev Noted : Scene W V C L A → Type 0
-        Noted sc = ((sc.after.plain ≡ seen.plain) × (sc.after.span p ≡ seen.span p)) ⊎ ((mark : Mark) × (mark.party ≡ r) × (mark.before ≡ seen.plain) × (mark.after ≡ sc.after.plain) × (sc.after.span p ≡ mark ∷ seen.span p))
-
-        noted : (move : Move C V) → Noted (scene m seen r move)
-        noted move = grind (arith, ne_eqb r p ne)
-
         beside : (move : Move C V) → Keeps m (scene m seen r move) → Comes (scene m seen r move)
         beside move keeps = by (same_numbers (m.numbers sc.after.state.words) (m.numbers seen.state.words)) refl
           where
@@ -104,7 +85,7 @@ module _ {W V C L A : Type 0} (m : Machine W V C L A) (p : ℕ) (c : C) (h : Opt
                 let since = one_more seen.plain (seen.span p) taken y.0 y.2 (record { strong = λ e. absurd (ne (sym y.1 ∙ e)); still = λ e. still }) q.marks in
                 let count : taken + (if y.0.party == p then 1 else 0) ≡ taken = omega (arith, ap {B = ℕ} (λ b. if b then 1 else 0) (ne_eqb y.0.party p (λ e. ne (sym y.1 ∙ e)))) in
                 inr (inr (quiet (inr (subst (λ xs. Since xs taken) (sym y.4) (subst (Since (y.0 ∷ seen.span p)) count since))))))
-                (noted move)
+                (grind (arith, ne_eqb r p ne))
 
       -- a step of the call's own
       own_went : (step : Option Change) (kind : StepKind) (value : Option V) (s : State W V C L) (next : Next L A) → s.seats ≡ seen.state.seats
@@ -126,73 +107,43 @@ module _ {W V C L A : Type 0} (m : Machine W V C L A) (p : ℕ) (c : C) (h : Opt
       event : (r : ℕ) (move : Move C V) → Keeps m (scene m seen r move) → IsInTime m (scene m seen r move) → Comes (scene m seen r move)
       event r move keeps time = grind (arith, own, beside, cases_eq)
 
-    -- what holds of the call after further entries
-    record Later (seen : Seen W V C L) (es : List (ℕ × Move C V)) (taken : ℕ) : Type 0 where
-      now_taken : ℕ
-      more : taken ≤ now_taken
-      stepped : occurs m steps_own seen.state es ≡ true → taken < now_taken
-      quiet : Quiet (seen_after m seen es) now_taken
-
-    step_or_later : (b x : Bool) (taken last : ℕ) → (if b then taken + 1 else taken) ≤ last → (x ≡ true → (if b then taken + 1 else taken) < last) → (b || x) ≡ true → taken < last
-    step_or_later b x taken last le later found = grind (arith, le, later, found)
-
-    through : (seen : Seen W V C L) (es : List (ℕ × Move C V)) (taken : ℕ) → Every (Keeps m) m seen es → Every (IsInTime m) m seen es → Quiet seen taken → Stops seen.state es ⊎ Later seen es taken
-    through seen [] taken keeps time q = inr (record { now_taken = taken; more = omega arith; stepped = λ e. absurd (false≢true e); quiet = q })
-    through seen (e ∷ es) taken keeps time q =
-        let sc = scene m seen e.0 e.1 in
-        let b = (e.0 == p) && is_step sc.outcome in
-        let done = if b then taken + 1 else taken in
-        ⊎_elim (λ (stops : stop e.0 e.1 sc.outcome (seat_of sc.after e.0) ≡ true). inl (inl (or_left _ _ stops)))
-        (λ (others : (disturbs_at e.0 seen.state sc.after.state ≡ true) ⊎ Quiet sc.after done).
-        ⊎_elim (λ (d : disturbs_at e.0 seen.state sc.after.state ≡ true). inl (inr (or_left _ _ d)))
-        (λ (next : Quiet sc.after done).
-        ⊎_elim (λ (stops : Stops sc.after.state es). inl (stops_later seen.state e es stops))
-        (λ (l : Later sc.after es done). inr (record {
-          now_taken = l.now_taken;
-          more = grind (arith, l.more);
-          stepped = step_or_later b (occurs m steps_own sc.after.state es) taken l.now_taken l.more l.stepped;
-          quiet = l.quiet;
-        }))
-        (through sc.after es done keeps.1 time.1 next))
-        others)
+    -- The entries `es` come, and then `rest`. If nothing stops the call in `es`, what holds after them decides.
+    through : (es rest : List (ℕ × Move C V)) (seen : Seen W V C L) (taken : ℕ) → Every (Keeps m) m seen (es ++ rest) → Every (IsInTime m) m seen (es ++ rest) → Quiet seen taken
+        → (let end = seen_after m seen es in (later : ℕ) → taken ≤ later → (occurs m steps_own seen.state es ≡ true → taken < later)
+        → Every (Keeps m) m end rest → Every (IsInTime m) m end rest → Quiet end later → Stops end.state rest)
+        → Stops seen.state (es ++ rest)
+    through [] rest seen taken keeps time q next = next taken (omega arith) (λ e. absurd (false≢true e)) keeps time q
+    through (e ∷ es) rest seen taken keeps time q next =
+        let sc = scene m seen e.0 e.1 in let b = (e.0 == p) && is_step sc.outcome in let done = if b then taken + 1 else taken in
+        ⊎_elim (λ (stops : stop e.0 e.1 sc.outcome (seat_of sc.after e.0) ≡ true). inl (or_left _ _ stops))
+        (⊎_elim (λ (d : disturbs_at e.0 seen.state sc.after.state ≡ true). inr (or_left _ _ d))
+        (λ (quiet : Quiet sc.after done). stops_later seen.state e (es ++ rest) (through es rest sc.after done keeps.1 time.1 quiet (λ later more stepped.
+        next later (grind (arith, more)) (λ found. grind (arith, more, stepped, found))))))
         (event seen taken q e.0 e.1 keeps.0 time.0)
 
     rounds_through : (rounds : List (List (ℕ × Move C V))) (seen : Seen W V C L) (taken : ℕ) → Every (Keeps m) m seen (joined rounds) → Every (IsInTime m) m seen (joined rounds) → Quiet seen taken
-        → AreRounds m seen.state rounds → 1 ≤ length rounds → most ≤ taken + length rounds → Stops seen.state (joined rounds)
-    rounds_through [] seen taken keeps time q are some enough = absurd (omega (arith, some))
-    rounds_through (es ∷ rounds) seen taken keeps time q are some enough =
-        let there : (seen_after m seen es).state ≡ after m seen.state es = state-seen_after m seen es in
-        ⊎_elim (stops_first seen.state es (joined rounds))
-        (λ (l : Later seen es taken).
-        let one_step = l.stepped (subst (MovesOn m seen.state es p) q.at (are.0 p)) in
-        ⊎_elim (λ (last : length rounds < 1). absurd (omega (arith, last, enough, one_step, l.quiet.few)))
-        (λ (further : 1 ≤ length rounds).
-        stops_rest seen.state es (joined rounds) (subst (λ s. Stops s (joined rounds)) there
-        (rounds_through rounds (seen_after m seen es) l.now_taken (every_later m (Keeps m) es (joined rounds) seen keeps) (every_later m (IsInTime m) es (joined rounds) seen time) l.quiet
-        (subst (λ s. AreRounds m s rounds) (sym there) are.1) further (omega (arith, enough, one_step)))))
-        (cases_lt (length rounds) 1))
-        (through seen es taken (every_first m (Keeps m) es (joined rounds) seen keeps) (every_first m (IsInTime m) es (joined rounds) seen time) q)
+        → AreRounds m seen.state rounds → max 1 most ≤ taken + length rounds → Stops seen.state (joined rounds)
+    rounds_through [] seen taken keeps time q are enough = absurd (omega (arith, enough, q.few))
+    rounds_through (es ∷ rounds) seen taken keeps time q are enough =
+        through es (joined rounds) seen taken keeps time q (λ later more stepped keeps time q'.
+        let less = stepped (subst (MovesOn m seen.state es p) q.at (are.0 p)) in
+        rounds_through rounds (seen_after m seen es) later keeps time q' (subst (λ s. AreRounds m s rounds) (sym (state-seen_after m seen es)) are.1) (omega (arith, enough, less)))
 
 module _ {W V C L A : Type 0} (m : Machine W V C L A) where
-  encodes_after : (seen : Seen W V C L) (es : List (ℕ × Move C V)) → Every (Keeps m) m seen es → m.numbers seen.state.words ≡ encoded m.lock_kind seen.plain
-      → m.numbers (seen_after m seen es).state.words ≡ encoded m.lock_kind (seen_after m seen es).plain
-  encodes_after seen [] keeps is = is
-  encodes_after seen (e ∷ es) keeps is = encodes_after (scene m seen e.0 e.1).after es keeps.1 keeps.0.encodes
-
   pub answered_or_disturbed : Lawful m → (n : ℕ) (past : List (ℕ × Move C V)) (rounds : List (List (ℕ × Move C V))) → AnsweredOrDisturbed m n past rounds
   answered_or_disturbed lawful n past rounds p c l h there opens are some enough =
       let seen = seen_after m (opening m n) past in
       let same : seen.state ≡ after m (at_first m n) past = state-seen_after m (opening m n) past in
       let all = past ++ joined rounds in
-      let keeps = lawful.keeps n all in
-      let time = lawful.counts n all in
+      let here = lawful.keeps n past in
       subst (λ s. (occurs m (ends_or_fails p) s (joined rounds) ≡ true) ⊎ (disturbs m p s (joined rounds) ≡ true)) same
-      (rounds_through m p c h seen.plain (seen.span p) opens rounds seen 0 (every_later m (Keeps m) past (joined rounds) (opening m n) keeps.each) (every_later m (IsInTime m) past (joined rounds) (opening m n) time)
+      (rounds_through m p c h seen.plain (seen.span p) opens rounds seen 0 (every_later m (Keeps m) past (joined rounds) (opening m n) (lawful.keeps n all).each)
+      (every_later m (IsInTime m) past (joined rounds) (opening m n) (lawful.counts n all))
       (record {
         point = l;
         at = ap (λ (s : State W V C L). slice_get s.seats p) same ∙ there;
         marks = inl (refl, refl, refl);
         few = omega arith;
-        encodes = encodes_after (opening m n) past (every_first m (Keeps m) past (joined rounds) (opening m n) keeps.each) keeps.first;
+        encodes = left_after m (λ s. m.numbers s.state.words ≡ encoded m.lock_kind s.plain) (Keeps m) (λ s keeps. keeps.encodes) (opening m n) past here.each here.first;
       })
-      (subst (λ s. AreRounds m s rounds) (sym same) are) some (omega (arith, enough)))
+      (subst (λ s. AreRounds m s rounds) (sym same) are) (omega (arith, some, enough)))

@@ -1,7 +1,7 @@
 -- A turn is a stretch of entries that leads back to the state in which it began. Its endless repetition is fair if, from
 -- each place of the turn, the rest of the turn and one more turn are a round.
-use Rattle.spin_step.specs.Calls.{Asked}
-use Rattle.spin_laws.proofs.Names.{◌≡◌, ℕ, zero, suc, ◌+◌, ◌==◌, ◌&&◌, ◌||◌, Bool, true, false, Option, Some, List, [], ◌∷◌, ◌++◌, slice_get, refl, ap, sym, ◌∙◌, subst, arith, and_parts, Hold, Seat, Idle, Calling, Holding, Leaked, Gone, Move, Machine, State, happens, after, at_first, may_read, not, Test, occurs, is_awaited, MovesOn, IsRound, AreRounds, stretch, IsFair, ends_or_weak, MayStarve, Seen, opening, seen_after}
+use Rattle.spin_laws.specs.Starving.{MayWaitWhere}
+use Rattle.spin_laws.proofs.Names.{◌≡◌, ℕ, zero, suc, ◌+◌, ◌==◌, ◌&&◌, ◌||◌, Bool, true, false, Option, Some, List, [], ◌∷◌, ◌++◌, slice_get, refl, ap, sym, ◌∙◌, subst, arith, and_parts, Hold, Seat, Idle, Calling, Holding, Leaked, Gone, Move, Machine, State, happens, after, at_first, may_read, not, Test, occurs, is_awaited, MovesOn, IsRound, AreRounds, stretch, ends_or_weak, MayStarve, Seen, opening, seen_after}
 
 -- the endless schedule of an entry x and the rest xs of a turn, followed by the turn `e ∷ es` again and again
 abbrev pub around : {X : Type 0} → X → List X → X → List X → ℕ → X
@@ -40,12 +40,11 @@ module _ {W V C L A : Type 0} (m : Machine W V C L A) where
   all_move s es p [] = true
   all_move s es p (x ∷ xs) = moves_on s es p x && all_move s es (suc p) xs
 
-  moves_is : (s : State W V C L) (es : Turn) (p : ℕ) (x : Seat C L) → moves_on s es p x ≡ true → MovesOn m s es p (Some x)
-  moves_is s es p x is = grind arith
-
   all_is : (s : State W V C L) (es : Turn) (p i : ℕ) (xs : List (Seat C L)) → all_move s es p xs ≡ true → MovesOn m s es (p + i) (slice_get xs i)
   all_is s es p i [] is = tt
-  all_is s es p zero (x ∷ xs) is = subst (λ q. MovesOn m s es q (Some x)) (omega arith) (moves_is s es p x (and_parts (moves_on s es p x) (all_move s es (suc p) xs) is).0)
+  all_is s es p zero (x ∷ xs) is =
+      let here : MovesOn m s es p (Some x) = grind (arith, and_parts (moves_on s es p x) (all_move s es (suc p) xs) is) in
+      subst (λ q. MovesOn m s es q (Some x)) (omega arith) here
   all_is s es p (suc i) (x ∷ xs) is = subst (λ q. MovesOn m s es q (slice_get xs i)) (omega arith) (all_is s es (suc p) i xs (and_parts (moves_on s es p x) (all_move s es (suc p) xs) is).1)
 
   -- from each place of the rest of the turn, what is left of the rest and a whole turn are a round
@@ -57,23 +56,22 @@ module _ {W V C L A : Type 0} (m : Machine W V C L A) where
     abbrev turn : Turn
     turn = e ∷ es ++ []
 
-    pub record Within (s : State W V C L) (rest : Turn) : Type 0 where
-      pub fair : is_fair_turn turn s rest ≡ true
-      pub back : after m s rest ≡ start
-      pub none : occurs m test s rest ≡ false
+    -- the rest of a turn is fair, leads back, and has no event that passes the test
+    abbrev pub Within : State W V C L → Turn → Type 0
+    Within s rest = (is_fair_turn turn s rest ≡ true) × (after m s rest ≡ start) × (occurs m test s rest ≡ false)
 
     module _ (s : State W V C L) (x : ℕ × Move C V) (xs : Turn) (w : Within s (x ∷ xs)) where
       abbrev next : State W V C L
       next = (happens m s x.0 x.1).next
 
       fairly : (all_move s (x ∷ xs ++ turn) 0 s.seats ≡ true) × (is_fair_turn turn next xs ≡ true)
-      fairly = and_parts (all_move s (x ∷ xs ++ turn) 0 s.seats) (is_fair_turn turn next xs) w.fair
+      fairly = and_parts (all_move s (x ∷ xs ++ turn) 0 s.seats) (is_fair_turn turn next xs) w.0
 
       next_is : Within next xs
-      next_is = record { fair = fairly.1; back = w.back; none = grind (arith, w.none) }
+      next_is = (fairly.1, w.1, grind (arith, w.2))
 
       not_here : test x.0 x.1 (happens m s x.0 x.1).outcome (slice_get next.seats x.0) ≡ false
-      not_here = grind (arith, w.none)
+      not_here = grind (arith, w.2)
 
       a_round : IsRound m s (stretch (around e es x xs) 0 (beyond (x ∷ xs) (beyond (e ∷ es) 0)))
       a_round p =
@@ -92,46 +90,27 @@ module _ {W V C L A : Type 0} (m : Machine W V C L A) where
       fair_from : (place : ℕ) (s : State W V C L) (x : ℕ × Move C V) (xs : Turn) → Within s (x ∷ xs) → (p : ℕ) → MovesFrom s (around e es x xs) place p
       fair_from zero s x xs w p = (beyond (x ∷ xs) (beyond (e ∷ es) 0), a_round s x xs w p)
       fair_from (suc place) s x (y ∷ ys) w p = place_later s (around e es x (y ∷ ys)) place p (fair_from place (happens m s x.0 x.1).next y ys (next_is s x (y ∷ ys) w) p)
-      fair_from (suc place) s x [] w p = place_later s (around e es x []) place p (subst (λ t. MovesFrom t (around e es e es) place p) (sym w.back) (fair_from place start e es first p))
+      fair_from (suc place) s x [] w p = place_later s (around e es x []) place p (subst (λ t. MovesFrom t (around e es e es) place p) (sym w.1) (fair_from place start e es first p))
 
       never : (place : ℕ) (s : State W V C L) (x : ℕ × Move C V) (xs : Turn) → Within s (x ∷ xs) → occurs m test s (stretch (around e es x xs) 0 place) ≡ false
       never zero s x xs w = refl
       never (suc place) s x (y ∷ ys) w = grind (arith, later, not_here, never place (happens m s x.0 x.1).next y ys (next_is s x (y ∷ ys) w))
-      never (suc place) s x [] w = rw (later (around e es x []) 0 place, not_here s x [] w, w.back) (never place start e es first)
+      never (suc place) s x [] w = rw (later (around e es x []) 0 place, not_here s x [] w, w.1) (never place start e es first)
 
-      pub fair_around : IsFair m start (around e es e es)
-      fair_around place p = fair_from place start e es first p
-
-      pub never_around : (place : ℕ) → occurs m test start (stretch (around e es e es) 0 place) ≡ false
-      never_around place = never place start e es first
-
-  -- After some entries a party is in a call with the promise `what`, and P holds of the party and that state. Then some
-  -- fair schedule has no event that passes the test.
-  abbrev pub ForeverWhere : (Seen W V C L → ℕ → Type 0) → (ℕ → Test V C L A) → ℕ → Asked → Type 0
-  ForeverWhere P test n what =
-      (past : Turn) × (schedule : ℕ → ℕ × Move C V) × (p : ℕ) × (c : C) × (l : L) × (h : Option Hold) × P (seen_after m (opening m n) past) p
-      × (let s = after m (at_first m n) past in (slice_get s.seats p ≡ Some (Calling c l h)) × (m.asks c h ≡ what) × IsFair m s schedule × ((place : ℕ) → occurs m (test p) s (stretch schedule 0 place) ≡ false))
-
-  pub forever_where : (P : Seen W V C L → ℕ → Type 0) (test : ℕ → Test V C L A) (n : ℕ) (past : Turn) (s : State W V C L) → after m (at_first m n) past ≡ s → (e : ℕ × Move C V) (es : Turn) (p : ℕ) (c : C) (l : L) (h : Option Hold)
-      → slice_get s.seats p ≡ Some (Calling c l h) → Within (test p) s e es s (e ∷ es) → P (seen_after m (opening m n) past) p → ForeverWhere P test n (m.asks c h)
-  forever_where P test n past s is e es p c l h there turns so = (
-    past,
-    around e es e es,
-    p,
-    c,
-    l,
-    h,
-    so,
-    subst (λ s. (slice_get s.seats p ≡ Some (Calling c l h)) × (m.asks c h ≡ m.asks c h) × IsFair m s (around e es e es) × ((place : ℕ) → occurs m (test p) s (stretch (around e es e es) 0 place) ≡ false)) (sym is)
-        (there, refl, fair_around (test p) s e es turns, never_around (test p) s e es turns),
-  )
+  -- if the repeated turn has no event that passes the test, party 0 may wait in this call for ever
+  pub forever_where : (P : Seen W V C L → ℕ → Type 0) (test : ℕ → Test V C L A) (n : ℕ) (past : Turn) (s : State W V C L)
+      → after m (at_first m n) past ≡ s → (e : ℕ × Move C V) (es : Turn) (c : C) (l : L) (h : Option Hold)
+      → slice_get s.seats 0 ≡ Some (Calling c l h) → Within (test 0) s e es s (e ∷ es) → P (seen_after m (opening m n) past) 0
+      → MayWaitWhere P test m n (m.asks c h)
+  forever_where P test n past s is e es c l h there turn so =
+      let fair = λ (place p : ℕ). fair_from (test 0) s e es turn place s e es turn p in
+      (past, around e es e es, 0, c, l, h, so, rw is (there, refl, fair, λ place. never (test 0) s e es turn place s e es turn))
 
   -- if no event of the repeated turn ends the call or fails spuriously, a call with this promise may starve
-  pub starves : (n : ℕ) (past : Turn) (s : State W V C L) → after m (at_first m n) past ≡ s → (e : ℕ × Move C V) (es : Turn) (p : ℕ) (c : C) (l : L) (h : Option Hold)
-      → slice_get s.seats p ≡ Some (Calling c l h) → Within (ends_or_weak p) s e es s (e ∷ es) → MayStarve m n (m.asks c h)
-  starves n past s is e es p c l h there turns =
-      let (before, schedule, q, d, i, j, so, rest) = forever_where (λ seen q. Unit {0}) (λ p. ends_or_weak p) n past s is e es p c l h there turns tt in
-      (before, schedule, q, d, i, j, rest)
+  pub starves : (n : ℕ) (past : Turn) (s : State W V C L) → after m (at_first m n) past ≡ s → (e : ℕ × Move C V) (es : Turn)
+      (c : C) (l : L) (h : Option Hold) → slice_get s.seats 0 ≡ Some (Calling c l h) → Within (ends_or_weak 0) s e es s (e ∷ es)
+      → MayStarve m n (m.asks c h)
+  starves n past s is e es c l h there turn = forever_where (λ seen q. Unit {0}) ends_or_weak n past s is e es c l h there turn tt
 
   -- whether the stretches are rounds, as a test
   abbrev pub are_rounds : State W V C L → List Turn → Bool

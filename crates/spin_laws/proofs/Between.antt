@@ -3,7 +3,7 @@
 use Rattle.std.proofs.Common.{◌≡◌, ◌≢◌, ◌⊎◌, inr, ⊎_elim, ℕ, suc, ◌+◌, ◌≤◌, false, Option, Some, None, List, [], ◌∷◌, ◌++◌, length, map, slice_get, refl, sym, ap, ◌∙◌, subst, arith}
 use Rattle.std.specs.List.{All}
 use Rattle.std.specs.Option.{option_map}
-use Rattle.std.proofs.lemmas.List.{append-nil}
+use Rattle.std.proofs.lemmas.List.{append-nil, map-id}
 use Rattle.std.proofs.lemmas.Option.{slice_get_past, slice_get_within, slice_get-map, get_or_from_slice_get}
 use Rattle.std.proofs.lemmas.List.Elements.{All-nil, All-cons, All-head, All-tail, All-same, All-map}
 use Rattle.spin_core.specs.Own.{Numbered, IsRun, present_from, kind}
@@ -53,32 +53,17 @@ module _ {W V C L A X S : Type 0} (m : Machine W V C L A) (seat_of : X → Seat 
   present_apart (None ∷ us) k i j v w here there same = present_apart us (suc k) i j v w here there same
   present_apart (Some u ∷ us) k i j v w here there same = grind (arith, here, there, same, from_on us (suc k), present_apart us (suc k))
 
-  abbrev with_mark : (Numbered X → ℕ) → Numbered X → Numbered X
-  with_mark marks u = (u.0, u.1, marks u)
+-- the parties with other marks
+abbrev pub with_mark : {X : Type 0} → (Numbered X → ℕ) → Numbered X → Numbered X
+with_mark marks u = (u.0, u.1, marks u)
 
-  -- if `Between` holds of the parties with some marks, it holds of them with their own marks
-  pub of_counted : (log : List (Entry C V)) (words : ℕ × S) (marks : Numbered X → ℕ) (parties : List (Numbered X)) → Between m seat_of words_of log words (map (λ v. (v.0, v.1, marks v)) parties) → Between m seat_of words_of log words parties
-  of_counted log words marks parties is =
-      record {
-        came = is.came;
-        seen = is.seen;
-        led = is.led;
-        encodes = is.encodes;
-        words_are = is.words_are;
-        exclusive = is.exclusive;
-        stand = each (λ v. StandsFor is.seen.plain v.1 (is.seen.span v.1) (Some (seat_of v.0))) (λ v so. so) parties is.stand;
-        apart = λ i j v w here there same. is.apart i j (with_mark marks v) (with_mark marks w) (marked i v here) (marked j w there) same;
-        sure = is.sure;
-        others = λ p all. is.others p (All-map (λ v. v.1 ≢ p) (with_mark marks) parties all);
-      }
-    where
-      marked : (i : ℕ) (v : Numbered X) → slice_get parties i ≡ Some v → slice_get (map (with_mark marks) parties) i ≡ Some (with_mark marks v)
-      marked i v at = slice_get-map (with_mark marks) parties i ∙ ap (option_map (with_mark marks)) at
+marked : {X : Type 0} (marks : Numbered X → ℕ) (us : List (Numbered X)) (i : ℕ) (v : Numbered X) → slice_get us i ≡ Some v → slice_get (map (with_mark marks) us) i ≡ Some (with_mark marks v)
+marked marks us i v at = slice_get-map (with_mark marks) us i ∙ ap (option_map (with_mark marks)) at
 
-      each : (P : Numbered X → Type 0) → ((v : Numbered X) → P (v.0, v.1, marks v) → P v) → (vs : List (Numbered X)) → All P (map (λ v. (v.0, v.1, marks v)) vs) → All P vs
-      each P so [] all = All-nil P
-      each P so (v ∷ vs) all =
-          All-cons P v vs (so v (All-head P (v.0, v.1, marks v) (map (λ v. (v.0, v.1, marks v)) vs) all)) (each P so vs (All-tail P (v.0, v.1, marks v) (map (λ v. (v.0, v.1, marks v)) vs) all))
+unmarked : {X : Type 0} (marks : Numbered X → ℕ) (P : Numbered X → Type 0) (us : List (Numbered X)) → All P (map (with_mark marks) us) → All (λ v. P (with_mark marks v)) us
+unmarked marks P [] all = All-nil (λ v. P (with_mark marks v))
+unmarked marks P (v ∷ vs) all =
+    All-cons (λ v. P (with_mark marks v)) v vs (All-head P (with_mark marks v) (map (with_mark marks) vs) all) (unmarked marks P vs (All-tail P (with_mark marks v) (map (with_mark marks) vs) all))
 
 module _ {W V C L A B X S : Type 0} {t : Table W V C L B} {by : Machine W V C L A} {k : Notes t} (seat_of : X → Seat C L) (words_of : W → ℕ × S) (f : Plays by k) where
   abbrev m : Machine W V C L A
@@ -89,8 +74,10 @@ module _ {W V C L A B X S : Type 0} {t : Table W V C L B} {by : Machine W V C L 
   none_fails strong [] fits = refl
   none_fails strong (e ∷ es) fits = grind (arith, strong, fits, none_fails strong es)
 
-  pub between : (log : List (Entry C V)) (words : ℕ × S) (parties : List (Numbered X)) → NoneFailsSpuriously log → IsRun m seat_of words_of log words parties → Between m seat_of words_of log words parties
-  between log words parties sure (came, w, value, is, words_is, led, played, rested, fits) =
+  -- the schedule may mark the parties otherwise than the threads
+  pub between : (log : List (Entry C V)) (words : ℕ × S) (marks : Numbered X → ℕ) (parties : List (Numbered X)) → NoneFailsSpuriously log → IsRun m seat_of words_of log words (map (with_mark marks) parties)
+      → Between m seat_of words_of log words parties
+  between log words marks parties sure (came, w, value, is, words_is, led, played, rested, fits) =
       let n : ℕ = length (map kind came) in let seen : Seen W V C L = seen_after m (opening m n) log in
       let good = reached.good f n log in let Stand : Numbered X → Type 0 = λ v. StandsFor seen.plain v.1 (seen.span v.1) (Some (seat_of v.0)) in
       let state : seen.state ≡ record { words = w; value = value; seats = seats m seat_of words_of came ++ [] } = reached.state_is f n log ∙ ap (λ j. after m (at_first m j) log) (let e : n ≡ n + 0 = omega arith in e) ∙ led 0 in
@@ -103,16 +90,16 @@ module _ {W V C L A B X S : Type 0} {t : Table W V C L B} {by : Machine W V C L 
         encodes = good.encodes;
         words_are = words_is ∙ ap (λ (s : State W V C L). words_of s.words) (sym state);
         exclusive = good.exclusive;
-        stand = All-same Stand parties (present_from 0 came) is (sit m seat_of words_of Stand 0 came (λ v i is at. reached.stands f n log v.1 (seated v.1 ∙ ap (slice_get (seats m seat_of words_of came)) (omega (arith, is)) ∙ at)));
-        apart = subst (AreApart m seat_of words_of) (sym is) (present_apart m seat_of words_of came 0);
+        stand = unmarked marks Stand parties (All-same Stand (map (with_mark marks) parties) (present_from 0 came) is (sit m seat_of words_of Stand 0 came (λ v i is at. reached.stands f n log v.1 (seated v.1 ∙ ap (slice_get (seats m seat_of words_of came)) (omega (arith, is)) ∙ at))));
+        apart = λ i j v w here there. subst (AreApart m seat_of words_of) (sym is) (present_apart m seat_of words_of came 0) i j (with_mark marks v) (with_mark marks w) (marked marks parties i v here) (marked marks parties j w there);
         sure = sure;
         others = λ p all.
             let there : (o : Option (Seat C L)) → slice_get (seats m seat_of words_of came) p ≡ o → StandsFor seen.plain p (seen.span p) o =
             λ o at. subst (StandsFor seen.plain p (seen.span p)) (reached.seat_is f n log p o (seated p ∙ at)) (good.parties p).stands in
             ⊎_elim (λ idle. there (Some Idle) idle) (λ past. there None (slice_get_past (seats m seat_of words_of came) p past))
-            (free m seat_of words_of came 0 p p (omega arith) (All-same (λ v. v.1 ≢ p) (present_from 0 came) parties (sym is) all));
+            (free m seat_of words_of came 0 p p (omega arith) (All-same (λ v. v.1 ≢ p) (present_from 0 came) (map (with_mark marks) parties) (sym is) (All-map (λ v. v.1 ≢ p) (with_mark marks) parties all)));
       }
 
   -- of a lock whose closures do not make its value
   pub between_strong : m.lock_kind.makes_value ≡ false → (log : List (Entry C V)) (words : ℕ × S) (parties : List (Numbered X)) → IsRun m seat_of words_of log words parties → Between m seat_of words_of log words parties
-  between_strong strong log words parties run = between log words parties (none_fails strong log run.8) run
+  between_strong strong log words parties run = between log words (λ v. v.2) parties (none_fails strong log run.8) (subst (IsRun m seat_of words_of log words) (sym (map-id parties)) run)

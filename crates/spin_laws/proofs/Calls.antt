@@ -6,8 +6,7 @@ use Rattle.std.specs.List.{All}
 use Rattle.std.proofs.lemmas.List.{append_assoc, append-nil, length-append, length-map, length-replicate}
 use Rattle.std.proofs.lemmas.List.Elements.{All-nil, All-cons}
 use Rattle.spin_core.specs.Own.{Numbered, by_party, entries_by}
-use Rattle.spin_core.specs.Passes.{IsNumber, IsCall, outcomes_by, Made}
-use Rattle.spin_core.specs.Run.{IsPlayed}
+use Rattle.spin_core.specs.Passes.{IsCall, outcomes_by, Made}
 use Rattle.spin_step.specs.Calls.{Mark, limit}
 use Rattle.spin_step.specs.declared.place.Hold.{Hold}
 use Rattle.spin_step.specs.declared.place.Seat.{Seat}
@@ -19,7 +18,7 @@ use Rattle.spin_step.specs.declared.schedule.Outcome.TheVariants.{Begun, GoingOn
 use Rattle.spin_step.specs.Acts.{Table}
 use Rattle.spin_step.specs.Machines.{Machine}
 use Rattle.spin_step.specs.Schedules.{Entry, after, at_first}
-use Rattle.spin_world_core.specs.Runs.{seat_of, Seen, Scene, scene, opening, span_after, own_count, held_at, InItsCall, ContinuesWithin, InTime, asked}
+use Rattle.spin_world_core.specs.Runs.{seat_of, Seen, Scene, scene, opening, span_after, own_count, held_at, InItsCall, ContinuesWithin}
 use Rattle.spin_world_core.specs.Users.{seen_after}
 use Rattle.spin_world_core.proofs.Shapes.{Notes}
 use Rattle.spin_world_core.proofs.Steps.{played, Plays}
@@ -27,6 +26,7 @@ use Rattle.spin_world_core.proofs.Preserved.{Invariant, Preserved}
 use Rattle.spin_world_core.proofs.Every.{state-seen_after, kept}
 use Rattle.spin_world_core.proofs.Reached.{good}
 use Rattle.spin_laws.specs.Counts.{AfterEachStep}
+use Rattle.spin_laws.specs.Moments.{OfPass}
 
 module _ {W V C L A B : Type 0} {t : Table W V C L B} {by : Machine W V C L A} {k : Notes t} (facts : Plays by k) where
   abbrev m : Machine W V C L A
@@ -91,14 +91,8 @@ module _ {W V C L A B : Type 0} {t : Table W V C L B} {by : Machine W V C L A} {
       keeps_own : (o : Outcome A V) (mark : Mark) (span : ℕ → List Mark) → o ≡ GoingOn → P p (span_after o mark span p) → AfterEachStep P p (span p) → AfterEachStep P p (span_after o mark span p)
       keeps_own o mark span comes now kept = grind (arith, comes, now, kept)
 
-    continues_by : (c : C) (l : L) (h : Option Hold) (span : List Mark) (o : Outcome A V) (seat : Option (Seat C L)) → seat ≡ Some (Calling c l h) → o ≡ GoingOn → InTime m.lock_kind p span o (asked m seat) → Continues c h p span
-    continues_by c l h span o seat there comes in_time = grind (arith, there, comes, in_time)
-
     count_mine : (a : A) (o : Outcome A V) (mark : Mark) (span : ℕ → List Mark) → mark.party ≡ p → (o ≡ GoingOn) ⊎ (o ≡ Answered a None) → own_count p (span_after o mark span p) ≡ own_count p (span p) + 1
     count_mine a o mark span mine steps = grind (arith, mine, steps, eq-eqb mark.party p mine)
-
-    count_other : (o : Outcome A V) (mark : Mark) (span : ℕ → List Mark) → (mark.party == p) ≡ false → own_count p (span_after o mark span p) ≡ own_count p (span p)
-    count_other o mark span other = grind (arith, other)
 
     stays_by : (c : C) (l : L) (h : Option Hold) (o : Outcome A V) (seat now : Option (Seat C L)) → seat ≡ Some (Calling c l h) → o ≡ GoingOn → InItsCall {V = V} {L = L} o Step seat now → (next : L) × (now ≡ Some (Calling c next h))
     stays_by c l h o seat now there comes in_call = subst (λ r. InItsCall {V = V} {L = L} r Step (Some (Calling c l h)) now) comes (subst (λ y. InItsCall {V = V} {L = L} o Step y now) there in_call)
@@ -120,20 +114,13 @@ module _ {W V C L A B : Type 0} {t : Table W V C L B} {by : Machine W V C L A} {
     another q other same = absurd (cc (other, eq-eqb q p same))
 
     -- `seen` is the world after `xs`, where `xs` begins with `old`, and `new` is `xs` followed by `es`
-    record IsAt (xs es : Schedule) (seen : Seen W V C L) : Type 0 where
-      leads : seen ≡ seen_after m start xs
-      known : IsPrefix old xs
-      whole : xs ++ es ≡ new
-      fine : Invariant facts seen
+    abbrev IsAt : Schedule → Schedule → Seen W V C L → Type 0
+    IsAt xs es seen = (seen ≡ seen_after m start xs) × IsPrefix old xs × (xs ++ es ≡ new) × Invariant facts seen
 
     on_by : (x : Entry C V) (es xs : Schedule) (seen : Seen W V C L) → IsAt xs (x ∷ es) seen → IsAt (xs ++ x ∷ []) es (event seen x).after
     on_by x es xs seen at =
-        record {
-          leads = ap (λ z. (event z x).after) at.leads ∙ sym (one_more start xs x);
-          known = longer old xs x at.known;
-          whole = append_assoc xs (x ∷ []) es ∙ at.whole;
-          fine = (kept facts seen x.0 x.1 at.fine).good;
-        }
+        let leads = ap (λ z. (event z x).after) at.0 ∙ sym (one_more start xs x) in
+        (leads, longer old xs x at.1, append_assoc xs (x ∷ []) es ∙ at.2, (kept facts seen x.0 x.1 at.3).good)
 
     -- what follows from the entries `es` for a party that is in its call
     abbrev Walks : Schedule → Type 0
@@ -147,13 +134,13 @@ module _ {W V C L A B : Type 0} {t : Table W V C L B} {by : Machine W V C L A} {
       s = event seen x
 
       promised : Preserved facts s
-      promised = kept facts seen x.0 x.1 at.fine
+      promised = kept facts seen x.0 x.1 at.3
 
       mark : Mark
       mark = record { party = x.0; change = s.change; step_kind = s.step_kind; before = seen.plain; after = s.after.plain }
 
       here : IsBetween c h mark
-      here = (xs, at.known, (x ∷ es, at.whole), ap (λ (z : Seen W V C L). z.plain) at.leads, (l, subst (λ (z : Seen W V C L). seat_of z p ≡ Some (Calling c l h)) at.leads there))
+      here = (xs, at.1, (x ∷ es, at.2), ap (λ (z : Seen W V C L). z.plain) at.0, (l, subst (λ (z : Seen W V C L). seat_of z p ≡ Some (Calling c l h)) at.0 there))
 
       all : All (IsBetween c h) (s.after.span p)
       all = span_kept (IsBetween c h) s.outcome mark seen.span here span
@@ -168,10 +155,10 @@ module _ {W V C L A B : Type 0} {t : Table W V C L B} {by : Machine W V C L A} {
           record {
             past = xs;
             seen = seen;
-            leads = at.leads;
-            known = at.known;
-            before = (es, append_assoc xs ((p, Step) ∷ []) es ∙ ap (λ y. xs ++ y ∷ es) (sym x_is) ∙ at.whole);
-            fine = at.fine;
+            leads = at.0;
+            known = at.1;
+            before = (es, append_assoc xs ((p, Step) ∷ []) es ∙ ap (λ y. xs ++ y ∷ es) (sym x_is) ∙ at.2);
+            fine = at.3;
             point = l;
             there = there;
             comes = subst (λ y. (event seen y).outcome ≡ Answered a None) x_is comes;
@@ -181,17 +168,17 @@ module _ {W V C L A B : Type 0} {t : Table W V C L B} {by : Machine W V C L A} {
           }
       by_own (suc j) so made' came' =
           let x_is : x ≡ (p, Step) = cc (made') in let comes : s.outcome ≡ GoingOn = cc (came') in let own : Scene W V C L A = event seen (p, Step) in
-          let stays = stays_by c l h own.outcome own.seat (seat_of own.after p) there (subst (λ y. (event seen y).outcome ≡ GoingOn) x_is comes) (kept facts seen p Step at.fine).keeps.in_call in
+          let stays = stays_by c l h own.outcome own.seat (seat_of own.after p) there (subst (λ y. (event seen y).outcome ≡ GoingOn) x_is comes) (kept facts seen p Step at.3).keeps.in_call in
           let going : own.outcome ≡ GoingOn = subst (λ y. (event seen y).outcome ≡ GoingOn) x_is comes in
           let own_mark : Mark = record { party = p; change = own.change; step_kind = own.step_kind; before = seen.plain; after = own.after.plain } in
-          let timely = continues_by c l h (own.after.span p) own.outcome own.seat there going (kept facts seen p Step at.fine).in_time.in_time in
+          let timely : Continues c h p (own.after.span p) = grind (arith, there, going, (kept facts seen p Step at.3).in_time.in_time) in
           let still : AfterEachStep (Continues c h) p (s.after.span p) = subst (λ y. AfterEachStep (Continues c h) p ((event seen y).after.span p)) (sym x_is) (keeps_own (Continues c h) own.outcome own_mark seen.span going timely kept_on) in
           on stays.0 (subst (λ y. slice_get (event seen y).after.state.seats p ≡ Some (Calling c stays.0 h)) (sym x_is) stays.1) still j (let c = count_mine a s.outcome mark seen.span (ap (λ y. y.0) x_is) (inl comes) in omega (arith, c, so)) (cc (made')) (cc (came'))
 
       by_turn : (b : Bool) → (x.0 == p) ≡ b → (if b then x ∷ entries_by p es else entries_by p es) ≡ by_party p (to_make i) → (if b then s.outcome ∷ outcomes_by m p s.after.state es else outcomes_by m p s.after.state es) ≡ to_come i a
           → IsAnswered c h a (own_count p (seen.span p) + suc i)
       by_turn true same made' came' = by_own i refl made' came'
-      by_turn false same made' came' = on l (promised.keeps.calls p c l h (another x.0 same) there) (keeps_other (Continues c h) s.outcome mark seen.span same (another x.0 same) kept_on) i (let c = count_other s.outcome mark seen.span same in omega (arith, c)) made' came'
+      by_turn false same made' came' = on l (promised.keeps.calls p c l h (another x.0 same) there) (keeps_other (Continues c h) s.outcome mark seen.span same (another x.0 same) kept_on) i (let c : own_count p (s.after.span p) ≡ own_count p (seen.span p) = grind (arith, same) in omega (arith, c)) made' came'
 
     walk : (es : Schedule) → Walks es
     walk [] = λ xs seen at c l h there span kept_on i a made came. absurd (nothing_made i made)
@@ -212,7 +199,7 @@ module _ {W V C L A B : Type 0} {t : Table W V C L B} {by : Machine W V C L A} {
       by_own made' came' =
           let x_is : x ≡ (p, Begin c) = cc (made') in let comes : s.outcome ≡ Begun = cc (came') in let own : Scene W V C L A = event seen (p, Begin c) in
           let begun : own.outcome ≡ Begun = subst (λ y. (event seen y).outcome ≡ Begun) x_is comes in
-          let begins = begins_by c own.outcome own.seat (seat_of own.after p) begun (kept facts seen p (Begin c) at.fine).keeps.in_call in
+          let begins = begins_by c own.outcome own.seat (seat_of own.after p) begun (kept facts seen p (Begin c) at.3).keeps.in_call in
           let mark : Mark = record { party = p; change = own.change; step_kind = own.step_kind; before = seen.plain; after = own.after.plain } in
           let cleared : own.after.span p ≡ [] = ap (λ o. span_after o mark seen.span p) begun ∙ ap (λ b. if b then [] else seen.span p) (eq-eqb p p refl) in
           let none : s.after.span p ≡ [] = subst (λ y. (event seen y).after.span p ≡ []) (sym x_is) cleared in (
@@ -233,29 +220,23 @@ module _ {W V C L A B : Type 0} {t : Table W V C L B} {by : Machine W V C L A} {
 
   -- what a party knows of a call that got this answer, the only call that the party has made after `old`
   pub record Call {X : Type 0} (c : C) (a : A) (view : Option (Numbered X)) (old new : Schedule) : Type 0 where
-    pub party : ℕ
-    pub is_number : IsNumber party view
-    pub parties : ℕ
-    pub played : IsPlayed m parties new
+    pub pass : OfPass m view new
     pub held : Option Hold
     pub steps : ℕ
-    pub answered : IsAnswered party (opening m parties) old new c held a steps
+    pub answered : IsAnswered pass.party (opening m pass.parties) old new c held a steps
     pub more : Schedule
     pub grown : new ≡ old ++ more
     -- the party's moves are the beginning of the call and its steps
-    pub moves : length (entries_by party more) ≡ suc steps
+    pub moves : length (entries_by pass.party more) ≡ suc steps
 
   pub call_of : {X : Type 0} (c : C) (a : A) (view now : Option (Numbered X)) (old new : Schedule) → Made m view old now new (IsCall c a) → Call c a now old new
   call_of c a view now old new (p, may, is, own, outs, (more, least, new_is, mine, played, came), (rest, comes, own_is, outs_is, (i, rest_is, comes_are))) =
       let seen = seen_after m (opening m least) old in
       let own_are : own ≡ Begin c ∷ (replicate i Step ++ Step ∷ []) = own_is ∙ ap (λ l. Begin c ∷ l) rest_is in
-      let (h, answered) = starts p (opening m least) old new more old seen (record { leads = refl; known = ([], append-nil old); whole = sym new_is; fine = good facts least old }) c i a (mine ∙ ap (by_party p) own_are)
+      let (h, answered) = starts p (opening m least) old new more old seen (refl, ([], append-nil old), sym new_is, good facts least old) c i a (mine ∙ ap (by_party p) own_are)
       (ap (λ s. outcomes_by m p s more) (state-seen_after m (opening m least) old) ∙ ap (λ n. outcomes_by m p (after m (at_first m n) old) more) (let e : least ≡ least + 0 = omega arith in e) ∙ came 0 ∙ outs_is ∙ ap (λ l. Begun ∷ l) comes_are) in
       record {
-        party = p;
-        is_number = is;
-        parties = least;
-        played = played;
+        pass = record { party = p; is_number = is; parties = least; played = played };
         held = h;
         steps = suc i;
         answered = answered;

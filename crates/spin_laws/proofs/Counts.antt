@@ -13,27 +13,21 @@ use Rattle.spin_world_core.specs.Users.{seen_after}
 use Rattle.spin_world_core.proofs.Shapes.{Notes}
 use Rattle.spin_world_core.proofs.Steps.{played, Plays}
 use Rattle.spin_world_core.proofs.Every.{kept}
-use Rattle.spin_laws.specs.Counts.{AfterEachStep, IsWithinLimit, KeepsLimits, StepsOfCall}
-use Rattle.spin_laws.proofs.Calls.{span_of, one_more, longer, IsAnswered, Call, call_of}
+use Rattle.spin_laws.specs.Counts.{AfterEachStep, KeepsLimits, StepsOfCall}
+use Rattle.spin_laws.proofs.Calls.{span_of, one_more, longer, call_of}
 
 module _ {W V C L A B : Type 0} {t : Table W V C L B} {by : Machine W V C L A} {k : Notes t} (facts : Plays by k) where
   abbrev m : Machine W V C L A
   m = played t by
 
-  -- the party's span after the answering step is its span in the history with this step
-  span_is : (p : ℕ) (start : Seen W V C L) (old new : List (Entry C V)) (c : C) (h : Option Hold) (a : A) (n : ℕ) (it : IsAnswered facts p start old new c h a n)
-      → span_of facts p it.seen ≡ (seen_after m start (it.past ++ (p, Step) ∷ [])).span p
-  span_is p start old new c h a n it = ap (λ z. span_of facts p z) it.leads ∙ ap (λ (z : Seen W V C L). z.span p) (sym (one_more facts start it.past (p, Step)))
-
-  of_call : {X : Type 0} (c : C) (a : A) (view : Option (Numbered X)) (old new : List (Entry C V)) → Call facts c a view old new → IsWithinLimit m c view old new
-  of_call c a view old new call =
-      let it = call.answered in let p = call.party in let h = call.held in let start = opening m call.parties in let timely = (kept facts it.seen p Step it.fine).in_time in
-      let is = span_is p start old new c h a call.steps it in
+  -- the party's span after the answering step is its span in the history with this step (`is`)
+  pub keeps_limits : {X : Type 0} → KeepsLimits m X
+  keeps_limits c a view now old new made =
+      let call = call_of facts c a view now old new made in
+      let it = call.answered in let p = call.pass.party in let h = call.held in let start = opening m call.pass.parties in let timely = (kept facts it.seen p Step it.fine).in_time in
+      let is : span_of facts p it.seen ≡ (seen_after m start (it.past ++ (p, Step) ∷ [])).span p = ap (span_of facts p) it.leads ∙ ap (λ (z : Seen W V C L). z.span p) (sym (one_more facts start it.past (p, Step))) in
       record {
-        party = p;
-        is_number = call.is_number;
-        parties = call.parties;
-        played = call.played;
+        pass = call.pass;
         last = it.past;
         answered = it.past ++ (p, Step) ∷ [];
         answers = refl;
@@ -57,17 +51,11 @@ module _ {W V C L A B : Type 0} {t : Table W V C L B} {by : Machine W V C L A} {
       → ((h : Option Hold) (p : ℕ) (step : Mark) (older : List Mark) → step.party ≡ p → ContinuesWithin (limit m.lock_kind (m.asks c h)) m.lock_kind p (step ∷ older) → P p (step ∷ older))
       → Made m view old now new (IsCall c a) → StepsOfCall m now old new P
   steps_of_call c a view now old new P so made =
-      let call = call_of facts c a view now old new made in let it = call.answered in let p = call.party in let h = call.held in
+      let call = call_of facts c a view now old new made in let it = call.answered in let p = call.pass.party in let h = call.held in
       record {
-        party = p;
-        is_number = call.is_number;
-        parties = call.parties;
-        played = call.played;
+        pass = call.pass;
         last = it.past;
         behind = it.known;
         before = it.before;
         so = subst (AfterEachStep P p) (ap (λ (z : Seen W V C L). z.span p) it.leads) (each_so (ContinuesWithin (limit m.lock_kind (m.asks c h)) m.lock_kind) P p (so h p) (it.seen.span p) it.so_far);
       }
-
-  pub keeps_limits : {X : Type 0} → KeepsLimits m X
-  keeps_limits c a view now old new made = of_call c a now old new (call_of facts c a view now old new made)

@@ -1,11 +1,10 @@
 -- While a starver waits, a fair lock is granted within five rounds. The holder leaves within two rounds. The starver then
 -- takes three: it finds the flag clear, sets the flag, and stops starving. If another party sets the flag earlier, the
 -- other party is granted the lock by its next step.
-use Rattle.spin_laws.proofs.Names.{seat_of, cases_eq, Next, suc, Bool, entries, entries-other, empty_is, if◌then◌else◌, ◌≡◌, ℕ, ◌==◌, true, false, Option, Some, None, List, [], ◌∷◌, length, refl, ap, arith, not, ◌≤◌, ◌⊎◌, inl, inr, ⊎_elim, Plain, Kind, writing, Holder, is_empty, is_holder, is_starver, without_holder, holder, IsOpenStep, Hold, filter, subst, Answer, Seat, Calling, Holding, Move, Step, Machine, after, at_first, get-set_same, Seen, Scene, scene_at, opening, seen_after, eqb_self, Plays, Invariant, in_call, row_tells, calls_so, fair_machine}
-use Rattle.spin_world.proofs.FairNames.{fair, fair_is_locked-tells, Write, Starver, FairCall, Lock, StarverLock, Release, FairPoint, First, SetFlag, Await, Unregister, is_set}
+use Rattle.spin_laws.proofs.Names.{seat_of, cases_eq, suc, Bool, entries, entries-other, empty_is, if◌then◌else◌, ◌≡◌, ℕ, ◌==◌, true, false, Option, Some, None, List, [], ◌∷◌, length, refl, ap, arith, not, ◌≤◌, ◌⊎◌, inl, inr, ⊎_elim, Plain, Kind, writing, Holder, is_empty, is_holder, is_starver, without_holder, holder, IsOpenStep, Hold, filter, subst, Answer, Seat, Calling, Holding, Move, Step, Machine, after, get-set_same, Seen, Scene, scene_at, opening, seen_after, eqb_self, Plays, Invariant, in_call, row_tells, calls_so, fair_machine}
+use Rattle.spin_world.proofs.FairNames.{fair_is_locked-tells, Write, Starver, FairCall, Lock, StarverLock, Release, FairPoint, First, SetFlag, Await, Unregister, is_held_word}
 use Rattle.spin_world.proofs.FairOwed.{fair_notes, fair_facts}
-use Rattle.spin_laws.specs.Fair.{grants_lock, LocksInFive, StarversAreDeadlockFree}
-use Rattle.spin_laws.proofs.Endless.{at_last}
+use Rattle.spin_laws.specs.Fair.{grants_lock, LocksInFive}
 use Rattle.spin_laws.proofs.Waiting.{holds_lock, is_busy}
 use Rattle.spin_laws.proofs.Loads.{Wait}
 use Rattle.spin_laws.proofs.Loads as walk
@@ -21,13 +20,7 @@ its_call _ h = ⊥
 
 -- the points of these calls
 abbrev its_point : FairPoint → Type 0
-its_point SetFlag = Unit {0}
-its_point Await = Unit {0}
-its_point Unregister = Unit {0}
-its_point _ = ⊥
-
-own_some : (p : ℕ) (qs : List ℕ) → not (is_empty (filter (λ q. q == p) qs)) ≡ true → is_empty qs ≡ false
-own_some p qs found = grind arith
+its_point l = elim l [ SetFlag ↦ Unit {0} | Await ↦ Unit {0} | Unregister ↦ Unit {0} | _ ↦ ⊥ ]
 
 starves_own : (p : ℕ) (qs : List ℕ) → is_starver p qs ≡ true → not (is_empty (filter (λ q. q == p) qs)) ≡ true
 starves_own p [] found = found
@@ -35,22 +28,12 @@ starves_own p (q ∷ qs) found = grind (arith, found, starves_own p qs)
 
 -- The load of the waiting party, a number of rounds (see Loads.antt). `clear` says whether nobody holds.
 abbrev mine_by : Bool → FairPoint → ℕ
-mine_by clear Unregister = if clear then 3 else 1
-mine_by clear SetFlag = if clear then 2 else 0
-mine_by clear l = if clear then 3 else 0
+mine_by clear l = if clear then elim l [ SetFlag ↦ 2 | _ ↦ 3 ] else elim l [ Unregister ↦ 1 | _ ↦ 0 ]
 
 -- the load of another party; with `true` this party holds
 abbrev theirs_by : Bool → Option FairSeat → ℕ
-theirs_by true (Some (Calling c Unregister h)) = 1
-theirs_by true (Some (Calling c l h)) = 4
-theirs_by true his = 5
-theirs_by false his = 0
-
-theirs_some : (his : Option FairSeat) → 1 ≤ theirs_by true his
-theirs_some his = grind arith
-
-loads_fit : (clear b : Bool) (l : FairPoint) (his : Option FairSeat) → (mine_by clear l ≤ 5) × (theirs_by b his ≤ 5)
-loads_fit clear b l his = grind arith
+theirs_by holds his =
+    if holds then elim his [ Some (Calling c Unregister h) ↦ 1 | Some (Calling c l h) ↦ 4 | _ ↦ 5 ] else 0
 
 point_cases : (l : FairPoint) → (l ≡ Unregister) ⊎ (l ≡ Unregister → ⊥)
 point_cases l = grind arith
@@ -88,7 +71,7 @@ module _ {V : Type 0} (v : V) (cap patience : ℕ) where
       s = seen.plain
 
       -- the flag is set exactly if somebody holds
-      flag : is_set seen.state.words ≡ not (is_empty s.holders)
+      flag : is_held_word seen.state.words ≡ not (is_empty s.holders)
       flag = grind (arith, fair_is_locked-tells s seen.state.words good.shape.one good.shape.queue (cc (good.encodes)), good.shape.queue)
 
       his_sits : (q : ℕ) → holds_lock (entries q s) ≡ true → Sits q (seat_of seen q)
@@ -102,11 +85,11 @@ module _ {V : Type 0} (v : V) (cap patience : ℕ) where
         abbrev y : Scene ℕ V FairCall FairPoint (Answer V)
         y = sc seen p c l h
 
-        goes_clear : its_point l → (l ≡ Unregister → ⊥) → s.holders ≡ [] → is_set seen.state.words ≡ false
+        goes_clear : its_point l → (l ≡ Unregister → ⊥) → s.holders ≡ [] → is_held_word seen.state.words ≡ false
             → ((seat_of y.after p ≡ Some (Calling c Unregister h)) × (is_empty y.after.plain.holders ≡ false) × (l ≡ SetFlag)) ⊎ ((seat_of y.after p ≡ Some (Calling c SetFlag h)) × (is_empty y.after.plain.holders ≡ true) × (l ≡ Await))
         goes_clear at ne none clear = grind (arith, at, ne, none, clear, get-set_same seen.state.seats p (Calling c Unregister h) _ there, get-set_same seen.state.seats p (Calling c SetFlag h) _ there)
 
-        goes_set : its_point l → (l ≡ Unregister → ⊥) → is_set seen.state.words ≡ true → (seat_of y.after p ≡ Some (Calling c Await h)) × (y.after.plain ≡ s)
+        goes_set : its_point l → (l ≡ Unregister → ⊥) → is_held_word seen.state.words ≡ true → (seat_of y.after p ≡ Some (Calling c Await h)) × (y.after.plain ≡ s)
         goes_set at ne set = grind (arith, waits, at, ne, set, get-set_same seen.state.seats p (Calling c Await h) _ there)
 
         own : (n : ℕ) → walk.Within f x seen l (suc n) → IsOpenStep s p y.change → its_point l → (l ≡ Unregister → ⊥) → (b : Bool) → is_empty s.holders ≡ b → walk.Own f x seen l n y
@@ -116,14 +99,14 @@ module _ {V : Type 0} (v : V) (cap patience : ℕ) where
         own_by n within opens at = ⊎_elim (λ (is : l ≡ Unregister). inl (grind (arith, is, get-set_same seen.state.seats p (Holding Write) _ there))) (λ (ne : l ≡ Unregister → ⊥). own n within opens at ne (is_empty s.holders) refl) (point_cases l)
 
       some_starve : seat_of seen p ≡ Some (Calling c l h) → its_point l → is_empty s.starvers ≡ false
-      some_starve there at = grind (arith, own_some, row_tells, in_call)
+      some_starve there at = grind (arith, row_tells, in_call)
 
       -- another party's step, which may set a clear flag
-      takes_clear : (q : ℕ) (d : FairCall) (i : FairPoint) (j : Option Hold) → s.holders ≡ [] → is_set seen.state.words ≡ false → is_empty s.starvers ≡ false → seat_of seen q ≡ Some (Calling d i j) → let y = sc seen q d i j in IsOpenStep s q y.change
+      takes_clear : (q : ℕ) (d : FairCall) (i : FairPoint) (j : Option Hold) → s.holders ≡ [] → is_held_word seen.state.words ≡ false → is_empty s.starvers ≡ false → seat_of seen q ≡ Some (Calling d i j) → let y = sc seen q d i j in IsOpenStep s q y.change
           → (y.after.plain.holders ≡ []) ⊎ ((y.after.plain.holders ≡ holder q writing ∷ []) × (seat_of y.after q ≡ Some (Calling d Unregister j)))
       takes_clear q d i j none clear some at opens = grind (arith, none, clear, some, opens, get-set_same seen.state.seats q (Calling d Unregister j) _ at)
 
-      takes_none : (q : ℕ) (d : FairCall) (i : FairPoint) (j : Option Hold) → is_set seen.state.words ≡ true → walk.SitsSo (fair_notes v cap patience) (λ e. not (holds_lock e)) q (Some (Calling d i j)) → (sc seen q d i j).after.plain.holders ≡ s.holders
+      takes_none : (q : ℕ) (d : FairCall) (i : FairPoint) (j : Option Hold) → is_held_word seen.state.words ≡ true → walk.SitsSo (fair_notes v cap patience) (λ e. not (holds_lock e)) q (Some (Calling d i j)) → (sc seen q d i j).after.plain.holders ≡ s.holders
       takes_none q d i j set so = grind (arith, set, so)
 
       -- by its step, a holder releases the lock, or its call is granted
@@ -157,10 +140,7 @@ module _ {V : Type 0} (v : V) (cap patience : ℕ) where
         where
           by : (hs : List Holder) → s.holders ≡ hs → ⊥
           by [] is = grind (arith, at, none.mine, is)
-          by (i ∷ hs) is = grind (arith, waits, at, none.mine, is, first_holds i hs, his_sits i.party, theirs_some (seat_of seen i.party), none.theirs i.party, cases_eq i.party p, there)
-
-      strong : (q : ℕ) (d : FairCall) (i : FairPoint) (j : Option Hold) (next : Next FairPoint (Answer V)) → seat_of seen q ≡ Some (Calling d i j) → m.refuse d i j ≡ Some next → (b : Bool) → holds_lock (entries q s) ≡ b → (o : Option FairSeat) → theirs_by b o ≤ 0
-      strong q d i j next seat may b found o = grind (arith, his_sits)
+          by (i ∷ hs) is = grind (arith, waits, at, none.mine, is, first_holds i hs, his_sits i.party, none.theirs i.party, cases_eq i.party p, there)
 
     walks : walk.Walks f x
     walks =
@@ -170,7 +150,7 @@ module _ {V : Type 0} (v : V) (cap patience : ℕ) where
           own = λ seen l n w within made. own_by seen w.3 l w.0 n within made.opens w.1;
           steps = λ seen l n w within q d i j ne at made. steps seen w.3 l n within w.0 w.1 q d i j ne at made (holds_lock (entries q seen.plain)) refl;
           weak = λ seen l next at may. absurd (grind (arith, at, may));
-          refuses = λ seen l w q d i j next ne there may. inr (λ o. omega (arith, strong seen w.3 l q d i j next there may (holds_lock (entries q seen.plain)) refl o));
+          refuses = λ seen l w q d i j next ne there may. inr (λ o. grind (arith, his_sits seen w.3 l q, there, may));
           begins = λ seen l w q d i j ne there may. rw there (grind arith, λ is. grind arith);
           leaks = λ s l q h. grind arith;
           busy = λ seen l q w ne some. busy seen w.3 l q (holds_lock (entries q seen.plain)) refl some;
@@ -178,12 +158,8 @@ module _ {V : Type 0} (v : V) (cap patience : ℕ) where
         }
 
   pub locks_in_five : (n : ℕ) (past : List (ℕ × Move FairCall V)) (rounds : List (List (ℕ × Move FairCall V))) → LocksInFive m n past rounds
-  locks_in_five n past rounds p c l h there asks with_it are few =
+  locks_in_five n past rounds p c l h there (asks, with_it) are few =
       let seen = seen_after m (opening m n) past in
       let at : its_call c h × its_point l = grind (arith, asks, calls_so f n past (λ e. not (is_empty e.starvers)) p there (starves_own p seen.plain.starvers with_it)) in
       walk.ends f (x p c h at.0) (walks p c h at.0) n past rounds l there at.1 tt tt are
-      (λ w. let fit = λ (b : Bool) (his : Option FairSeat). loads_fit (is_empty seen.plain.holders) b l his in record { mine = omega (arith, few, (fit true None).0); theirs = λ q ne. omega (arith, few, (fit (holds_lock (entries q seen.plain)) (seat_of seen q)).1) })
-
-  pub deadlock_free : (n : ℕ) (past : List (ℕ × Move FairCall V)) (schedule : ℕ → ℕ × Move FairCall V) → StarversAreDeadlockFree m n past schedule
-  deadlock_free n past schedule p c l h there asks with_it fair =
-      at_last m (grants_lock m) (after m (at_first m n) past) 5 (λ rounds are long. locks_in_five n past rounds p c l h there asks with_it are (omega (arith, long))) schedule fair
+      (λ w. record { mine = grind (arith, few); theirs = λ q ne. grind (arith, few) })

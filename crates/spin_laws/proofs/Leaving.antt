@@ -1,6 +1,6 @@
 -- A proof that several locks share. If all holders of one kind do nothing but release, they leave within the first two
 -- rounds. Then the waiting party can continue.
-use Rattle.spin_laws.proofs.Names.{seat_of, apply_some, cases_eq, suc, ◌<◌, cases_lt, ◌≡◌, ℕ, ◌≤◌, ◌⊎◌, ◌+◌, Bool, true, false, Option, Some, None, List, length, slice_get, refl, ap, ◌∙◌, arith, inl, inr, ⊎_elim, IsOpenStep, entries, entries-other, entries-own, Hold, Seat, Idle, Calling, Next, Answers, Move, Step, Weak, Machine, goes_on, may_read, after, at_first, Seen, Scene, scene_at, joined, entries_of, Table, machine_of, ◌-◌, no_entries, entries_after, get-set_same, Plays, Invariant, Notes, StandsSo, Test, occurs, AreRounds}
+use Rattle.spin_laws.proofs.Names.{seat_of, apply_some, cases_eq, suc, ◌<◌, cases_lt, ◌≡◌, ℕ, ◌≤◌, ◌⊎◌, ◌+◌, Bool, true, false, Option, Some, None, List, length, slice_get, refl, ap, ◌∙◌, arith, inl, inr, ⊎_elim, IsOpenStep, entries, entries-other, entries-own, Hold, Seat, Idle, Calling, Next, Answers, Move, Step, Weak, Machine, goes_on, may_read, after, at_first, Seen, Scene, scene_at, joined, entries_of, Table, machine_of, ◌-◌, no_entries, entries_after, get-set_same, Plays, Invariant, Notes, StandsSo, Test, occurs, AreRounds, if◌then◌else◌}
 use Rattle.spin_step.specs.Parties.{Entries}
 use Rattle.spin_laws.proofs.Waiting.{is_busy}
 use Rattle.spin_laws.proofs.Loads.{Wait}
@@ -9,9 +9,7 @@ use Rattle.spin_laws.proofs.Loads as walk
 -- The load of a holder, a number of rounds (see Loads.antt). A holder takes one round to begin its release, and one
 -- for the step of the release. To these are added the rounds that the waiting party needs after that (`bound`).
 abbrev load_by : {C L : Type 0} → ℕ → Bool → Option (Seat C L) → ℕ
-load_by bound true (Some (Calling c l h)) = bound + 1
-load_by bound true o = bound + 2
-load_by bound false o = 0
+load_by bound holds his = if holds then elim his [ Some (Calling c l h) ↦ bound + 1 | _ ↦ bound + 2 ] else 0
 
 load_none : {C L : Type 0} (bound n : ℕ) (b : Bool) (o : Option (Seat C L)) → load_by bound b o ≤ suc n → n < bound → b ≡ false
 load_none bound n b o few less = grind (arith, few, less)

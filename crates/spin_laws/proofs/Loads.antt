@@ -2,15 +2,16 @@
 -- which is a number of rounds and no atomic load. After at most this many rounds the party lets the others continue. A
 -- round lowers the highest loads by one, or reaches the goal. The record `Walks` below has what is to be shown of the
 -- steps of each object. All other moves are alike in every object.
-use Rattle.spin_laws.proofs.Names.{suc, max, if◌then◌else◌, eqb_self, ne_eqb, eq-eqb, entries, Gone, entries_of, Table, machine_of, StandsFor, entries_held, Mark, Notes, StandsSo, row_passes, ◌≡◌, ℕ, ◌<◌, ◌≤◌, ◌⊎◌, ◌==◌, ◌||◌, Bool, true, false, Option, Some, None, List, [], ◌∷◌, length, slice_get, refl, ap, sym, ◌∙◌, subst, arith, inl, inr, ⊎_elim, cases_eq, cases_lt, false≢true, Plain, IsOpenStep, Hold, Seat, Calling, Holding, Leaked, Next, Move, Begin, Step, Weak, BelongsTo, Machine, goes_on, resting, is_owners, Seen, Scene, scene, scene_at, opening, joined, seen_after, after, at_first, ◌-◌, get-set_same, of_event, Plays, Invariant, kept, good_after, state-seen_after, seen_after-append, state_is, seat_is, Test, occurs, IsRound, AreRounds}
+use Rattle.spin_laws.proofs.Names.{suc, max, if◌then◌else◌, eqb_self, ne_eqb, eq-eqb, entries, Gone, entries_of, Table, machine_of, entries_held, Notes, StandsSo, row_passes, ◌≡◌, ℕ, ◌<◌, ◌≤◌, ◌⊎◌, ◌==◌, ◌||◌, Bool, true, false, Option, Some, None, List, [], ◌∷◌, ◌++◌, length, slice_get, refl, ap, sym, ◌∙◌, subst, arith, inl, inr, ⊎_elim, cases_eq, cases_lt, false≢true, Plain, IsOpenStep, Hold, Seat, Calling, Holding, Leaked, Next, Move, Begin, Step, Weak, BelongsTo, Machine, goes_on, resting, is_owners, Seen, Scene, scene, scene_at, opening, joined, seen_after, after, at_first, ◌-◌, get-set_same, of_event, Plays, Invariant, kept, state-seen_after, state_is, seat_is, Test, occurs, IsRound, AreRounds}
 use Rattle.spin_laws.specs.Rounds.{is_release}
-use Rattle.spin_laws.proofs.Waiting.{of_call, or_left, or_right, or_rest, has_left, is_busy, is_idle, unawaited, awaited_of, same_beside, no_owner, left_never, moves_on, occurs-append, step_first}
+use Rattle.spin_world_core.proofs.Names.{StepKind}
+use Rattle.spin_laws.proofs.Waiting.{of_call, or_left, or_right, or_rest, held_by, is_busy, is_idle, unawaited, awaited_of, same_beside, no_owner, moves_on}
 use Rattle.spin_world.proofs.FairNames.{Entries}
-use Rattle.spin_step.specs.Schedules.{begun}
+use Rattle.spin_step.specs.Schedules.{Happened, begun}
 use Rattle.spin_step.specs.declared.schedule.Move.TheVariants.{Leak}
 use Rattle.spin_step.specs.StepKinds as step_kind
 use Rattle.spin_world_core.specs.Runs.{seat_of, scene_of}
-use Rattle.spin_world_core.proofs.Steps.{played, KnowsAt}
+use Rattle.spin_world_core.proofs.Steps.{played}
 use Rattle.spin_world_core.proofs.Reached as reached
 
 -- the party's seat implies that the party has entries in the plain lock that pass this test
@@ -23,11 +24,8 @@ module _ {W V C L A : Type 0} {t : Table W V C L A} (n : Notes t) (test : Entrie
   SitsSo p (Some (Gone h)) = test (entries_of p h) ≡ true
   SitsSo p _ = test (entries_held p None) ≡ true
 
-  sits_by : (p : ℕ) (s : Plain) (span : List Mark) (o : Option (Seat C L)) → StandsFor s p span o → KnowsAt n s p span o → test (entries p s) ≡ true → SitsSo p o
-  sits_by p s span o stands knows has = grind (arith, row_passes)
-
   pub sits_so : {f : Plays (machine_of t) n} (seen : Seen W V C L) → Invariant f seen → (p : ℕ) → test (entries p seen.plain) ≡ true → SitsSo p (seat_of seen p)
-  sits_so seen good p has = sits_by p seen.plain (seen.span p) _ (good.parties p).stands (good.parties p).knows has
+  sits_so seen good p has = grind (arith, row_passes, (good.parties p).stands, (good.parties p).knows, has)
 
 -- A party that waits for an event that passes the test `goal`. `At` are the points of its call, and `Known` is known
 -- there. `Fine` has to hold at the end of the rounds. `mine` is the load of the waiting party, by the plain lock and the
@@ -150,7 +148,7 @@ module _ {W V C L A B : Type 0} {t : Table W V C L B} {given : Machine W V C L A
   load seen l q = load_by seen.plain l q (seat_of seen q)
 
   abbrev awaited : ℕ → Option (Seat C L) → Test V C L A
-  awaited q o = awaited_of m q o
+  awaited q o = awaited_of m q (held_by o)
 
   -- the load is at most n, or is at most n + 1 while the party's awaited move is still to come
   abbrev Pays : World → L → ℕ → Turn → ℕ → Type 0
@@ -163,10 +161,9 @@ module _ {W V C L A B : Type 0} {t : Table W V C L B} {given : Machine W V C L A
         let o = seat_of seen q in
         (load seen l q ≤ n) ⊎ ((load seen l q ≤ suc n) × ((awaited q o sc.party sc.move sc.outcome (seat_after sc) || occurs m (awaited q o) sc.after.state es) ≡ true))
 
-    record On (sc : Event) : Type 0 where
-      point : L
-      waits : Waits sc.after point
-      pays : (q : ℕ) → Pays sc.after point n es q
+    -- after the event the party waits at the point i
+    abbrev On : Event → Type 0
+    On sc = (i : L) × Waits sc.after i × ((q : ℕ) → Pays sc.after i n es q)
 
     abbrev Goes : Event → Type 0
     Goes sc = ((q : ℕ) → Pays_by sc q) → Reaches sc ⊎ On sc
@@ -188,96 +185,62 @@ module _ {W V C L A B : Type 0} {t : Table W V C L B} {given : Machine W V C L A
     -- a party that keeps its seat at the event
     stays : (sc : Event) (i : L) (q : ℕ) → seat_of sc.after q ≡ seat_of seen q → load_by sc.after.plain i q (seat_of seen q) ≤ max (load seen l q) n → (sc.party ≡ q → is_idle sc.outcome ≡ true)
         → Pays_by sc q → Pays sc.after i n es q
-    stays sc i q same le idle h6 = grind (arith, after, awaited, or_rest, unawaited)
+    stays sc i q same le idle pays =
+        rw same (⊎_elim (λ (low : load seen l q ≤ n). inl (omega (arith, le, low)))
+        (λ y. inr (omega (arith, le, y.0), or_rest _ _ y.1 (unawaited m q sc.party (held_by (seat_of seen q)) sc.move sc.outcome idle))) pays)
 
-    -- the party still waits, at the same point
-    waits_on : (q : ℕ) (sc : Event) → After seen q sc → seat_of sc.after p ≡ seat_of seen p → ((q : ℕ) → Pays sc.after l n es q) → Reaches sc ⊎ On sc
-    waits_on q sc made mine pays = inr (record { point = l; waits = (mine ∙ w.0, w.1, made.known, made.good); pays = pays })
+    -- after an event of the party q the waiting party is at the point i; `Pays` holds of q, and no other load is above n
+    on : (q : ℕ) (sc : Event) (i : L) → sc.party ≡ q → After seen q sc → ((q : ℕ) → Pays_by sc q) → Sits sc.after i → x.At i → Pays sc.after i n es q
+        → ((o : ℕ) → (q ≡ o → ⊥) → load_by sc.after.plain i o (seat_of seen o) ≤ max (load seen l o) n) → Reaches sc ⊎ On sc
+    on q sc i party after pays sits at his others =
+        let stay = λ (o : ℕ) (other : q ≡ o → ⊥). stays sc i o (after.others o other) (others o other) (λ e. absurd (other (sym party ∙ e))) (pays o) in
+        inr (i, (sits, at, after.known, after.good), λ o. ⊎_elim (λ (same : q ≡ o). subst (Pays sc.after i n es) same his) (stay o) (cases_eq q o))
 
     -- an event that changes no seat
     quiet : (q : ℕ) (sc : Event) → sc.after.plain ≡ seen.plain → sc.after.state.seats ≡ seen.state.seats → is_idle sc.outcome ≡ true → After seen q sc → Goes sc
-    quiet q sc plain seats idle made = grind (arith, waits_on, stays)
+    quiet q sc plain seats idle made pays =
+        let same = λ (o : ℕ). ap (λ xs. slice_get xs o) seats in
+        inr (l, (same p ∙ w.0, w.1, made.known, made.good), λ o. stays sc l o (same o) (rw plain (omega arith)) (λ e. idle) (pays o))
 
     module _ (q : ℕ) (ne : q ≡ p → ⊥) where
-      -- an event that changes only the seat of its party q, if `Pays` holds of q after it
-      one_moves : (sc : Event) → sc.party ≡ q → After seen q sc → ((q : ℕ) → Pays_by sc q) → Pays sc.after l n es q → ((o : ℕ) → (q ≡ o → ⊥) → load_by sc.after.plain l o (seat_of seen o) ≤ max (load seen l o) n) → Reaches sc ⊎ On sc
-      one_moves sc party after pays his others =
-          waits_on q sc after (after.others p ne)
-          (λ o. ⊎_elim (λ (same : q ≡ o). subst (λ i. Pays sc.after l n es i) same his) (λ (other : q ≡ o → ⊥). stays sc l o (after.others o other) (others o other) (λ e. absurd (other (sym party ∙ e))) (pays o)) (cases_eq q o))
-
-      -- the party q gets this seat, and the plain lock is unchanged
-      moves_to : (y : Option (Seat C L)) (sc : Event) → sc.party ≡ q → sc.after.plain ≡ seen.plain → seat_of sc.after q ≡ y → After seen q sc → ((q : ℕ) → Pays_by sc q)
-          → (load_by seen.plain l q y ≤ n) ⊎ ((load_by seen.plain l q y ≤ suc n) × (occurs m (awaited q y) sc.after.state es ≡ true)) → Reaches sc ⊎ On sc
-      moves_to y sc party plain seat made pays his = grind (arith, one_moves, awaited, after)
-
-      abbrev begin_at : C → L → Option Hold → Event
-      begin_at d i j = scene_of seen q (Begin d) (Some (resting j)) (begun seen.state q d j (Some i)) None step_kind.plain None
-
-      his_load : (o : Option (Seat C L)) → load_by seen.plain l q o ≡ x.theirs seen.plain l q o
-      his_load o = other_load seen.plain l q o ne
-
-      begins_low : (d : C) (i : L) (j : Option Hold) → seat_of seen q ≡ Some (resting j) → m.begin d j ≡ Some i
-          → (load_by seen.plain l q (Some (Calling d i j)) ≤ load seen l q) × (is_release (m.asks d j) ≡ true → load_by seen.plain l q (Some (Calling d i j)) ≤ load seen l q - 1)
-      begins_low d i j at may = grind (arith, his_load)
-
-      -- after q begins a call, its load is at most n, or at most n + 1 with a step of this call still to come
-      begins_on : (d : C) (i : L) (j : Option Hold) → seat_of seen q ≡ Some (resting j) → m.begin d j ≡ Some i → Pays_by (begin_at d i j) q
-          → (load_by seen.plain l q (Some (Calling d i j)) ≤ n) ⊎ ((load_by seen.plain l q (Some (Calling d i j)) ≤ suc n) × (occurs m (awaited q (Some (Calling d i j))) (begin_at d i j).after.state es ≡ true))
-      begins_on d i j at may (inl low) = inl (omega (arith, low, (begins_low d i j at may).0))
-      begins_on d i None at may (inr y) = grind (arith, begins_low d i None at may, false≢true, cases_lt)
-      begins_on d i (Some h) at may (inr y) = by (is_release (m.asks d (Some h))) refl
-        where
-          ahead : (awaited q (Some (Holding h)) q (Begin d) (begin_at d i (Some h)).outcome (seat_after (begin_at d i (Some h))) || occurs m (awaited q (Some (Holding h))) (begin_at d i (Some h)).after.state es) ≡ true
-          ahead = subst (λ o. (awaited q o q (Begin d) (begin_at d i (Some h)).outcome (seat_after (begin_at d i (Some h))) || occurs m (awaited q o) (begin_at d i (Some h)).after.state es) ≡ true) at y.1
-
-          not_it : is_release (m.asks d (Some h)) ≡ false → awaited q (Some (Holding h)) q (Begin d) (begin_at d i (Some h)).outcome (seat_after (begin_at d i (Some h))) ≡ false
-          not_it is = grind (arith, is)
-
-          by : (b : Bool) → is_release (m.asks d (Some h)) ≡ b → (load_by seen.plain l q (Some (Calling d i (Some h))) ≤ n) ⊎ ((load_by seen.plain l q (Some (Calling d i (Some h))) ≤ suc n) × (occurs m (awaited q (Some (Calling d i (Some h)))) (begin_at d i (Some h)).after.state es ≡ true))
-          by true is = inl (omega (arith, y.0, (begins_low d i (Some h) at may).1 is))
-          by false is = inr (omega (arith, y.0, (begins_low d i (Some h) at may).0), step_first m (begin_at d i (Some h)).after es q d i (Some h) h (get-set_same seen.state.seats q _ _ at) (or_rest _ _ ahead (not_it is)))
-
-      abbrev leak_at : Hold → Event
-      leak_at h = scene_at m seen q Leak (Some (Holding h))
-
-      -- a party that leaks has at most the load n, since nobody waits for it
-      leaks_on : (h : Hold) → seat_of seen q ≡ Some (Holding h) → Pays_by (leak_at h) q → load_by seen.plain l q (Some (Leaked h)) ≤ n
-      leaks_on h at (inl low) = omega (arith, low, walks.leaks seen.plain l q h, ap (load_by seen.plain l q) at, his_load (Some (Leaked h)), his_load (Some (Holding h)))
-      leaks_on h at (inr y) =
-          absurd (left_never m (leak_at h).after es q _ (ap has_left (get-set_same seen.state.seats q (Leaked h) (Holding h) at)) (or_rest _ _ y.1 (unawaited m q q _ Leak (leak_at h).outcome (λ e. refl))))
-
-      abbrev step_at : C → L → Option Hold → Event
-      step_at d i j = scene_at m seen q Step (Some (Calling d i j))
-
-      abbrev refuse_at : C → L → Option Hold → Next L A → Event
-      refuse_at d i j next = scene_of seen q Weak (Some (Calling d i j)) (goes_on seen.state q d j next) None step_kind.weak None
+      -- an event without a plain step, at which the load of q falls (or was 0), or does not rise and is not awaited
+      slows : (move : Move C V) (at : Option (Seat C L)) (h : Happened W V C L A) (kind : StepKind) → let sc = scene_of seen q move at h None kind None in let o = seat_of sc.after q in
+          (load_by seen.plain l q o ≤ load seen l q - 1) ⊎ ((load_by seen.plain l q o ≤ load seen l q) × (held_by o ≡ held_by (seat_of seen q)) × (awaited q (seat_of seen q) q move h.outcome o ≡ false))
+          → After seen q sc → Goes sc
+      slows move at h kind slow after pays =
+          let sc = scene_of seen q move at h None kind None in
+          on q sc l refl after pays (after.others p ne ∙ w.0) w.1
+          (⊎_elim (λ falls. inl (omega (arith, falls, within_all sc pays q))) (λ s. ⊎_elim (λ (low : load seen l q ≤ n). inl (omega (arith, s.0, low)))
+          (λ y. inr (omega (arith, s.0, y.0), subst (λ h. occurs m (awaited_of m q h) sc.after.state es ≡ true) (sym s.1) (or_rest _ _ y.1 s.2))) (pays q)) slow)
+          (λ o other. omega arith)
 
       event : (move : Move C V) → After seen q (scene m seen q move) → Goes (scene m seen q move)
       event =
           of_event m seen q (λ sc. After seen q sc → Goes sc)
           (record {
             passes = λ move o r at closed. quiet q _ refl refl refl;
-            begins = λ d i j at may after pays. moves_to _ (begin_at d i j) refl refl (get-set_same seen.state.seats q _ _ at) after pays (begins_on d i j at may (pays q));
-            steps = λ d i j at after pays. ⊎_elim inl (λ (falls : Falls seen l q (step_at d i j) n). one_moves (step_at d i j) refl after pays (inl (omega (arith, falls.his, other_load (step_at d i j).after.plain l q (slice_get (step_at d i j).after.state.seats q) ne))) (λ o other. by_whom (step_at d i j) l o (λ is. falls.mine) (λ not_its. falls.others o not_its other))) (walks.steps seen l n w (within (step_at d i j) pays) q d i j ne at after);
-            refuses = λ d i j next at may after pays. ⊎_elim inl (λ (low : (o : Option (Seat C L)) → x.theirs seen.plain l q o ≤ theirs seen l q - 1). moves_to (slice_get (goes_on seen.state q d j next).next.seats q) (refuse_at d i j next) refl refl refl after pays (inl (omega (arith, low (slice_get (goes_on seen.state q d j next).next.seats q), his_load (slice_get (goes_on seen.state q d j next).next.seats q), his_load (seat_of seen q), within_all (refuse_at d i j next) pays q)))) (walks.refuses seen l w q d i j next ne at may);
+            begins = λ d i j at may. slows (Begin d) (Some (resting j)) (begun seen.state q d j (Some i)) _
+                (grind (arith, other_load, walks.begins seen l w q d i j ne at may, at, get-set_same seen.state.seats q (Calling d i j) _ at));
+            steps = λ d i j at after pays. let sc = scene_at m seen q Step (Some (Calling d i j)) in
+                ⊎_elim inl (λ (falls : Falls seen l q sc n).
+                on q sc l refl after pays (after.others p ne ∙ w.0) w.1 (inl (omega (arith, falls.his, other_load sc.after.plain l q (seat_of sc.after q) ne)))
+                (λ o other. by_whom sc l o (λ is. falls.mine) (λ not_its. falls.others o not_its other)))
+                (walks.steps seen l n w (within sc pays) q d i j ne at after);
+            refuses = λ d i j next at may after pays. ⊎_elim inl (λ (low : (o : Option (Seat C L)) → x.theirs seen.plain l q o ≤ theirs seen l q - 1).
+                slows Weak (Some (Calling d i j)) (goes_on seen.state q d j next) _ (inl (omega (arith, low (slice_get (goes_on seen.state q d j next).next.seats q), other_load seen.plain l q (seat_of seen q) ne, other_load seen.plain l q (slice_get (goes_on seen.state q d j next).next.seats q) ne))) after pays) (walks.refuses seen l w q d i j next ne at may);
             reads = λ b h at may. quiet q _ refl refl refl;
             writes = λ v b h at may. quiet q _ refl refl refl;
-            leaks = λ h at after pays. moves_to _ (leak_at h) refl refl (get-set_same seen.state.seats q (Leaked h) (Holding h) at) after pays (inl (leaks_on h at (pays q)));
+            leaks = λ h at. slows Leak (Some (Holding h)) _ _ (grind (arith, other_load, walks.leaks seen.plain l q h, at, get-set_same seen.state.seats q (Leaked h) (Holding h) at));
             gets = λ y at may. not_owned may;
             sets = λ v y at may. not_owned may;
           })
 
-    own_step : After seen p (scene_at m seen p Step (Some (Calling x.call l x.hold))) → Goes (scene_at m seen p Step (Some (Calling x.call l x.hold)))
+    own_step : let sc = scene_at m seen p Step (Some (Calling x.call l x.hold)) in After seen p sc → Goes sc
     own_step made pays =
         let sc = scene_at m seen p Step (Some (Calling x.call l x.hold)) in
-        ⊎_elim inl
-        (λ (on : (i : L) × Sits sc.after i × x.At i × (x.mine sc.after.plain i ≤ n) × Others seen l p sc i n).
-        inr (record {
-          point = on.0;
-          waits = (on.1, on.2, made.known, made.good);
-          pays = λ o. ⊎_elim (λ (same : p ≡ o). inl (subst (λ y. load sc.after on.0 y ≤ n) same (omega (arith, on.3, own_load sc.after.plain on.0 (seat_of sc.after p)))))
-              (λ (other : p ≡ o → ⊥). stays sc on.0 o (made.others o other) (by_whom sc on.0 o (λ is. absurd (other (sym is))) (λ not_its. on.4 o not_its other)) (λ e. absurd (other e)) (pays o)) (cases_eq p o);
-        }))
+        ⊎_elim inl (λ (o : (i : L) × Sits sc.after i × x.At i × (x.mine sc.after.plain i ≤ n) × Others seen l p sc i n).
+        on p sc o.0 refl made pays o.1 o.2 (inl (omega (arith, o.3, own_load sc.after.plain o.0 (seat_of sc.after p))))
+        (λ d other. by_whom sc o.0 d (λ is. absurd (other (sym is))) (λ not_its. o.4 d not_its other)))
         (walks.own seen l n w (within sc pays) made)
 
     own : (move : Move C V) → After seen p (scene m seen p move) → Goes (scene m seen p move)
@@ -309,42 +272,33 @@ module _ {W V C L A B : Type 0} {t : Table W V C L B} {given : Machine W V C L A
     fine_before seen [] good is = is
     fine_before seen (e ∷ es) good is = walks.fine seen e.0 e.1 good (fine_before (scene m seen e.0 e.1).after es (kept f seen e.0 e.1 good).good is)
 
-    -- the party still waits, and no load is above n
-    abbrev Waiting : World → ℕ → Type 0
-    Waiting seen n = (l : L) × Waits seen l × Within seen l n
-
-    through : (seen : World) (l : L) (n : ℕ) (es : Turn) → Waits seen l → x.Fine (seen_after m seen es) → ((q : ℕ) → Pays seen l n es q) → (occurs m x.goal seen.state es ≡ true) ⊎ Waiting (seen_after m seen es) n
-    through seen l n [] w fine pays = grind (arith, false≢true, own_load, other_load)
-    through seen l n (e ∷ es) w fine pays =
+    -- The entries `es` come, and then `rest`. If the goal is not reached in `es`, what holds after them decides.
+    through : (seen : World) (l : L) (n : ℕ) (es rest : Turn) → Waits seen l → x.Fine (seen_after m seen (es ++ rest)) → ((q : ℕ) → Pays seen l n es q)
+        → (let end = seen_after m seen es in (i : L) → Waits end i → x.Fine (seen_after m end rest) → Within end i n → occurs m x.goal end.state rest ≡ true)
+        → occurs m x.goal seen.state (es ++ rest) ≡ true
+    through seen l n [] rest w fine pays next = next l w fine (grind (arith, pays, false≢true, own_load, other_load))
+    through seen l n (e ∷ es) rest w fine pays next =
         let sc = scene m seen e.0 e.1 in
-        ⊎_elim (λ (r : Reaches sc). inl (or_left _ _ r))
-        (λ (on : On walks seen l w n es sc). ⊎_elim (λ (r : occurs m x.goal sc.after.state es ≡ true). inl (or_right _ _ r)) inr (through sc.after on.point n es on.waits fine on.pays))
-        (goes walks seen l w n es e.0 e.1 (fine_before sc.after es (kept f seen e.0 e.1 w.3).good fine) pays)
+        ⊎_elim (λ (r : Reaches sc). or_left _ _ r) (λ (on : On walks seen l w n es sc). or_right _ _ (through sc.after on.0 n es rest on.1 fine on.2 next))
+        (goes walks seen l w n es e.0 e.1 (fine_before sc.after (es ++ rest) (kept f seen e.0 e.1 w.3).good fine) pays)
 
-    -- a round lowers the highest loads by one, or reaches the goal
-    one_round : (seen : World) (l : L) (n : ℕ) (es : Turn) → Waits seen l → x.Fine (seen_after m seen es) → Within seen l (suc n) → IsRound m seen.state es → (occurs m x.goal seen.state es ≡ true) ⊎ Waiting (seen_after m seen es) n
-    one_round seen l n es w fine within round =
-        through seen l n es w fine
-        (λ q. ⊎_elim (λ (low : load seen l q < suc n). inl (omega (arith, low))) (λ (high : suc n ≤ load seen l q). inr (loads q, moves_on m seen.state es q _ (busy q high) (round q))) (cases_lt (load seen l q) (suc n)))
+    -- at the beginning of a round each party whose load is n + 1 still makes its awaited move
+    pays_first : (seen : World) (l : L) (n : ℕ) (es : Turn) → Waits seen l → Within seen l (suc n) → IsRound m seen.state es → (q : ℕ) → Pays seen l n es q
+    pays_first seen l n es w within round q =
+        ⊎_elim (λ (low : load seen l q < suc n). inl (omega (arith, low))) (λ (high : suc n ≤ load seen l q). inr (most, moves_on m seen.state es q _ (busy high) (round q))) (cases_lt (load seen l q) (suc n))
       where
-        loads : (q : ℕ) → load seen l q ≤ suc n
-        loads q = ⊎_elim (λ (is : q ≡ p). rw (eq-eqb q p is) within.mine) (λ (ne : q ≡ p → ⊥). omega (arith, within.theirs q ne, other_load seen.plain l q (seat_of seen q) ne)) (cases_eq q p)
+        most : load seen l q ≤ suc n
+        most = ⊎_elim (λ (is : q ≡ p). rw (eq-eqb q p is) within.mine) (λ (ne : q ≡ p → ⊥). omega (arith, within.theirs q ne, other_load seen.plain l q (seat_of seen q) ne)) (cases_eq q p)
 
-        busy : (q : ℕ) → suc n ≤ load seen l q → is_busy (seat_of seen q) ≡ true
-        busy q high = grind (arith, other_load, cases_eq)
+        busy : suc n ≤ load seen l q → is_busy (seat_of seen q) ≡ true
+        busy high = grind (arith, other_load, cases_eq)
 
     -- the goal is reached in as many rounds as the highest load says
     in_rounds : (rounds : List Turn) (seen : World) (l : L) → Waits seen l → x.Fine (seen_after m seen (joined rounds)) → AreRounds m seen.state rounds → Within seen l (length rounds) → occurs m x.goal seen.state (joined rounds) ≡ true
     in_rounds [] seen l w fine are within = absurd (walks.some seen l w within)
     in_rounds (es ∷ rounds) seen l w fine are within =
-        let next = seen_after m seen es in
-        let at : next.state ≡ after m seen.state es = state-seen_after m seen es in
-        let fine_there = subst x.Fine (seen_after-append m seen es (joined rounds)) fine in
-        occurs-append m x.goal seen.state es (joined rounds) ∙
-        ⊎_elim (λ (r : occurs m x.goal seen.state es ≡ true). or_left _ _ r)
-        (λ (y : Waiting next (length rounds)).
-        or_right _ _ (subst (λ s. occurs m x.goal s (joined rounds) ≡ true) at (in_rounds rounds next y.0 y.1 fine_there (subst (λ s. AreRounds m s rounds) (sym at) are.1) y.2)))
-        (one_round seen l (length rounds) es w (fine_before next (joined rounds) (good_after f seen es w.3) fine_there) within are.0)
+        through seen l (length rounds) es (joined rounds) w fine (pays_first seen l (length rounds) es w within are.0) (λ i w' fine' within'.
+        in_rounds rounds (seen_after m seen es) i w' fine' (subst (λ s. AreRounds m s rounds) (sym (state-seen_after m seen es)) are.1) within')
 
     -- the goal is reached in that many rounds also from the state after any schedule
     pub ends : (n : ℕ) (past : Turn) (rounds : List Turn) (l : L)

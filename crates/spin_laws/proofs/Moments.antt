@@ -4,7 +4,6 @@ use Rattle.std.proofs.Common.{◌≡◌, ℕ, Bool, true, Option, List, subst, a
 use Rattle.std.specs.List.{All, list_any}
 use Rattle.std.proofs.lemmas.List.Folds.{Any-from_list_any}
 use Rattle.spin_step.specs.Plain.{Plain}
-use Rattle.spin_core.specs.Own.{Numbered}
 use Rattle.spin_step.specs.Calls.{HasMoment, Mark, moment}
 use Rattle.spin_step.specs.Calls as meaning
 use Rattle.spin_step.specs.Asks.{same}
@@ -21,8 +20,8 @@ use Rattle.spin_world_core.proofs.Shapes.{InCall}
 use Rattle.spin_world_core.proofs.Preserved.{in_call}
 use Rattle.spin_world_core.proofs.Every.{kept}
 use Rattle.spin_world_core.proofs.Reached.{good}
-use Rattle.spin_laws.specs.Moments.{AtAMoment, Found}
-use Rattle.spin_laws.proofs.Calls.{span_of, IsBetween, IsAnswered, Call, call_of}
+use Rattle.spin_laws.specs.Moments.{Found}
+use Rattle.spin_laws.proofs.Calls.{span_of, IsBetween, IsAnswered, call_of}
 
 pub same_is : (there said : Bool) → same said there ≡ true → there ≡ said
 same_is there said is = grind (arith, is)
@@ -41,28 +40,19 @@ module _ {W V C L A B : Type 0} {t : Table W V C L B} {by : Machine W V C L A} {
 
     -- By `says` the answer means that some state of the call passed this test. If Q follows from the test for a party
     -- in this call, that state satisfied Q too.
-    module _ (test : ℕ → Plain → Bool) (says : (h : Option Hold) → (m.asks c h).answers (m.says a) ≡ meaning.found test) where
-      right_so : (p : ℕ) (h : Option Hold) (span : List Mark) → HasMoment (m.asks c h) (m.says a) p span → list_any (λ mark. test p mark.before) span ≡ true
-      right_so p h span is = subst (λ what. moment what p span ≡ true) (says h) is
-
-      module _ {Q : Plain → Type 0}
-          (so : (p : ℕ) (l : L) (h : Option Hold) (seen : Seen W V C L) → InCall k p c l h seen.plain seen.state.words (seen.span p)
-          → test p seen.plain ≡ true → Q seen.plain) where
-        of_call : {X : Type 0} (view : Option (Numbered X)) (old new : List (Entry C V)) → Call facts c a view old new → AtAMoment m c view old new Q
-        of_call view old new call =
-            let it = call.answered in let p = call.party in let h = call.held in let start = opening m call.parties in
-            let (mark, found, (past, from, to, before, (l, there))) = pick (λ mark. test p mark.before) (IsBetween facts p start old new c h) (span_of facts p it.seen) it.span (right_so p h (span_of facts p it.seen) (right p start old new h call.steps it)) in
-            record {
-              party = p;
-              is_number = call.is_number;
-              parties = call.parties;
-              played = call.played;
-              moment = past;
-              behind = from;
-              before = to;
-              in_call = (l, h, there);
-              so = so p l h (seen_after m start past) (in_call facts p (good facts call.parties past) there) (subst (λ s. test p s ≡ true) before found);
-            }
-
-        pub found : {X : Type 0} → Found m X c a Q
-        found view now old new made = of_call now old new (call_of facts c a view now old new made)
+    module _ (test : ℕ → Plain → Bool) (says : (h : Option Hold) → (m.asks c h).answers (m.says a) ≡ meaning.found test) {Q : Plain → Type 0}
+        (so : (p : ℕ) (l : L) (h : Option Hold) (seen : Seen W V C L) → InCall k p c l h seen.plain seen.state.words (seen.span p)
+        → test p seen.plain ≡ true → Q seen.plain) where
+      pub found : {X : Type 0} → Found m X c a Q
+      found view now old new made =
+          let call = call_of facts c a view now old new made in
+          let it = call.answered in let p = call.pass.party in let h = call.held in let start = opening m call.pass.parties in
+          let (mark, tested, (past, from, to, before, (l, there))) = pick (λ mark. test p mark.before) (IsBetween facts p start old new c h) (span_of facts p it.seen) it.span (subst (λ what. moment what p (span_of facts p it.seen) ≡ true) (says h) (right p start old new h call.steps it)) in
+          record {
+            pass = call.pass;
+            moment = past;
+            behind = from;
+            before = to;
+            in_call = (l, h, there);
+            so = so p l h (seen_after m start past) (in_call facts p (good facts call.pass.parties past) there) (subst (λ s. test p s ≡ true) before tested);
+          }

@@ -1,11 +1,10 @@
 -- In any four rounds a call with a closure is answered, or some closure fails.
-use Rattle.spin_laws.proofs.Names.{seat_of, Bool, suc, eqb-true, eq-eqb, Seat, Outcome, ◌≡◌, ℕ, ◌≤◌, ◌⊎◌, ◌==◌, true, false, Option, Some, List, [], ◌∷◌, slice_get, if◌then◌else◌, refl, ap, sym, ◌∙◌, subst, arith, inl, inr, ⊎_elim, cases_eq, ne_eqb, Plain, Phase, nothing, running, complete, Change, is_running, once_word, apply_some, IsOpenStep, Answer, Hold, Calling, Next, Move, Step, BelongsTo, Seen, Scene, scene, scene_at, opening, State, seen_after, once_machine, eqb_self, get-set_same, Plays, Invariant, in_call, kept, good_first, state_is, numbers_are}
-use Rattle.spin_world.proofs.OnceNames.{OnceCall, OncePoint, Look, TryBegin, Await, Run, asks_of, Entries, once_after, has_closure, OnceMachine}
+use Rattle.spin_laws.proofs.Names.{seat_of, Bool, suc, eqb-true, eq-eqb, ◌≡◌, ℕ, ◌≤◌, ◌⊎◌, ◌==◌, true, false, Option, Some, List, [], ◌∷◌, slice_get, if◌then◌else◌, refl, ap, sym, ◌∙◌, subst, arith, inl, inr, ⊎_elim, cases_eq, ne_eqb, Plain, Phase, nothing, running, complete, Change, is_running, once_word, apply_some, IsOpenStep, Answer, Hold, Calling, Move, Step, BelongsTo, Seen, Scene, scene, scene_at, opening, State, seen_after, once_machine, eqb_self, get-set_same, Plays, Invariant, in_call, kept, good_first, state_is, numbers_are}
+use Rattle.spin_world.proofs.OnceNames.{OnceCall, OncePoint, Look, TryBegin, Await, Run, asks_of, OnceSchedule, state_at, has_closure, OnceMachine}
 use Rattle.spin_world.proofs.OnceOwed.{once_notes, once_facts}
 use Rattle.spin_step.specs.OnceKind.{once}
 use Rattle.spin_world.proofs.Keeping.{run_here}
-use Rattle.spin_laws.specs.Once.{answers, answers_or_fails, AnswersInFour, AnswersAtLast, AnswersInOne, SomebodyRuns}
-use Rattle.spin_laws.proofs.Endless.{at_last}
+use Rattle.spin_laws.specs.Once.{answers, answers_or_fails, AnswersInFour, AnswersInOne, SomebodyRuns}
 use Rattle.spin_laws.proofs.Waiting.{is_busy, same_beside, no_owner}
 use Rattle.spin_laws.proofs.Loads.{Wait}
 use Rattle.spin_laws.proofs.Loads as walk
@@ -13,10 +12,8 @@ use Rattle.spin_laws.proofs.Loads as walk
 -- The load of a call with a closure, a number of rounds (see Loads.antt), by the phase and the call's point. While
 -- another party's closure runs, this load is 0, since the call waits for that closure.
 abbrev mine_by : Phase → ℕ → OncePoint → ℕ
-mine_by complete p l = 1
-mine_by (running q) p l = if q == p then 1 else 0
-mine_by nothing p TryBegin = 3
-mine_by nothing p l = 4
+mine_by phase p l =
+    elim phase [ complete ↦ 1 | running q ↦ if q == p then 1 else 0 | nothing ↦ elim l [ TryBegin ↦ 3 | _ ↦ 4 ] ]
 
 abbrev theirs_by : Phase → ℕ → ℕ
 theirs_by phase q = if is_running q phase then 2 else 0
@@ -27,9 +24,6 @@ onward nothing p TryBegin = (Run, running p)
 onward nothing p l = (TryBegin, nothing)
 onward phase p Look = (TryBegin, phase)
 onward phase p l = (Await, phase)
-
-loads_fit : (s : Phase) (p q : ℕ) (l : OncePoint) → (mine_by s p l ≤ 4) × (theirs_by s q ≤ 4)
-loads_fit s p q l = grind arith
 
 theirs_run : (s : Phase) (q : ℕ) → 1 ≤ theirs_by s q → s ≡ running q
 theirs_run s q some = grind (arith, some, eqb-true)
@@ -42,10 +36,6 @@ begins_running q r p n l ne few = grind (arith, ne, few)
 phase_beside : (s : Plain) (r : ℕ) (step : Option Change) → IsOpenStep s r step → BelongsTo once step → is_running r s.phase ≡ false
     → ((apply_some s step).phase ≡ s.phase) ⊎ ((s.phase ≡ nothing) × ((apply_some s step).phase ≡ running r))
 phase_beside s r step may belongs other = grind arith
-
--- if a party runs a closure after another party's step, it already ran the closure before this step
-runs_before : (s : Plain) (r q : ℕ) (step : Option Change) → IsOpenStep s r step → BelongsTo once step → (r ≡ q → ⊥) → (apply_some s step).phase ≡ running q → s.phase ≡ running q
-runs_before s r q step may belongs ne is = grind arith
 
 point_cases : (l : OncePoint) → (l ≡ Run) ⊎ (l ≡ Run → ⊥)
 point_cases l = grind arith
@@ -69,19 +59,12 @@ module _ {V : Type 0} (value : Option V) where
   abbrev Event : Type 0
   Event = Scene ℕ V (OnceCall V) OncePoint (Answer V)
 
-  strong : (c : OnceCall V) (l : OncePoint) (h : Option Hold) (next : Next OncePoint (Answer V)) → m.refuse c l h ≡ Some next → ⊥
-  strong c l h next is = cc (is)
-
   word_is : (seen : World) → Invariant f seen → seen.state.words ≡ once_word seen.plain
   word_is seen good = cc (good.encodes)
 
   told_by : (seen : World) (p : ℕ) (c : OnceCall V) (l : OncePoint) (h : Option Hold) → Invariant f seen → seat_of seen p ≡ Some (Calling c l h) → seen.plain.phase ≡ complete
       → let sc = scene_at m seen p Step (Some (Calling c l h)) in answers p p Step sc.outcome (seat_of sc.after p) ≡ true
   told_by seen p c l h good there is = grind (arith, word_is seen good, is, eqb_self p, (in_call f p good there).knows)
-
-  -- an event that passes the test `answers` also passes the test of the goal
-  answered : (p q : ℕ) (move : Move (OnceCall V) V) (o : Outcome (Answer V) V) (x : Option (Seat (OnceCall V) OncePoint)) → answers p q move o x ≡ true → answers_or_fails m p q move o x ≡ true
-  answered p q move o x is = grind (arith, is)
 
   -- The party q is in a call that runs its closure
 
@@ -113,16 +96,16 @@ module _ {V : Type 0} (value : Option V) where
         ⊎_elim (λ (same : r ≡ q). subst (λ i. (scene m seen i move).after.plain.phase ≡ running q → Runs (scene m seen i move).after q) (sym same) (own_kept q move))
         (λ (ne : r ≡ q → ⊥) is.
         let keeps = (kept f seen r move good).keeps in
-        let at = runner q (runs_before seen.plain r q (scene m seen r move).change keeps.opens keeps.belongs ne is) in
+        let at = runner q (grind (arith, is, ne, keeps.opens, keeps.belongs)) in
         (at.0, at.1, same_beside m seen r q q at.0 Run at.1 at.2 move ne ∙ at.2))
         (cases_eq r q)
 
   -- after any schedule, while the phase says that a party runs a closure, this party is in its call
-  runner_after : (seen : World) (es : Entries V) → Invariant f seen → RunnerIn seen → RunnerIn (seen_after m seen es)
+  runner_after : (seen : World) (es : OnceSchedule V) → Invariant f seen → RunnerIn seen → RunnerIn (seen_after m seen es)
   runner_after seen [] good runner = runner
   runner_after seen (e ∷ es) good runner = runner_after (scene m seen e.0 e.1).after es (kept f seen e.0 e.1 good).good (runner_kept seen good runner e.0 e.1)
 
-  runner_there : (n : ℕ) (past : Entries V) → RunnerIn (seen_after m (opening m n) past)
+  runner_there : (n : ℕ) (past : OnceSchedule V) → RunnerIn (seen_after m (opening m n) past)
   runner_there n past = runner_after (opening m n) past (good_first f n) (λ q is. absurd (grind (arith, is)))
 
   module _ (p : ℕ) (c : OnceCall V) (h : Option Hold) (closure : has_closure (asks_of c) ≡ true) where
@@ -140,7 +123,7 @@ module _ {V : Type 0} (value : Option V) where
       goes phase is unmade ne = grind (arith, word_is seen w.3, is, unmade, ne, closure, get-set_same seen.state.seats p (Calling c (onward phase p l).0 h) _ w.0)
 
       own_at : (n : ℕ) → walk.Within f x seen l (suc n) → (phase : Phase) → s.phase ≡ phase → (l ≡ Run → ⊥) → walk.Own f x seen l n sc
-      own_at n within complete is ne = inl (answered p p Step sc.outcome _ (told_by seen p c l h w.3 w.0 is))
+      own_at n within complete is ne = inl (grind (arith, told_by seen p c l h w.3 w.0 is))
       own_at n within nothing is ne = grind (arith, goes nothing is, ne, within.mine, is, eqb_self p)
       own_at n within (running q) is ne = grind (arith, goes (running q) is, ne, w.2 q is, w.0, ne_eqb q p, is)
 
@@ -189,23 +172,19 @@ module _ {V : Type 0} (value : Option V) where
           keeps = λ seen q move l w. inr (runner_kept seen w.3 w.2 q move);
           own = λ seen l n w within made. own seen l w n within;
           steps = λ seen l n w within q d i j ne at made. steps seen l w n within q d i j ne at made;
-          weak = λ seen l next at may. absurd (strong c l h next may);
-          refuses = λ seen l w q d i j next ne at may. absurd (strong d i j next may);
+          weak = λ seen l next at may. absurd (cc (may));
+          refuses = λ seen l w q d i j next ne at may. absurd (cc (may));
           begins = λ seen l w q d i j ne at may. (omega arith, λ is. absurd (grind (arith, is)));
           leaks = λ s l q h. omega arith;
           busy = λ seen l q w ne. busy seen l w q;
           some = some;
         }
 
-  pub answers_in_four : (n : ℕ) (past : Entries V) (rounds : List (Entries V)) → AnswersInFour m n past rounds
+  pub answers_in_four : (n : ℕ) (past : OnceSchedule V) (rounds : List (OnceSchedule V)) → AnswersInFour m n past rounds
   answers_in_four n past rounds p c l h there closure are few =
       let seen = seen_after m (opening m n) past in
       walk.ends f (x p c h closure) (walks p c h closure) n past rounds l there tt (runner_there n past) tt are
-      (λ w. record { mine = omega (arith, few, (loads_fit seen.plain.phase p p l).0); theirs = λ q ne. omega (arith, few, (loads_fit seen.plain.phase p q l).1) })
-
-  pub answers_at_last : (n : ℕ) (past : Entries V) (schedule : ℕ → ℕ × Move (OnceCall V) V) → AnswersAtLast m n past schedule
-  answers_at_last n past schedule p c l h there closure fair =
-      at_last m (answers_or_fails m p) (once_after m n past) 4 (λ rounds are long. answers_in_four n past rounds p c l h there closure are (omega (arith, long))) schedule fair
+      (λ w. record { mine = grind (arith, few); theirs = λ q ne. grind (arith, few) })
 
   -- While there is a value
 
@@ -218,18 +197,15 @@ module _ {V : Type 0} (value : Option V) where
   abbrev ready : ℕ → OnceCall V → Option Hold → Wait ℕ V (OnceCall V) OncePoint (Answer V)
   ready p c h = record { goal = answers p; party = p; call = c; hold = h; At = λ l. Unit {0}; Known = is_told; Fine = λ seen. Unit {0}; mine = λ s l. 1; theirs = λ s l q his. 0 }
 
-  ready_walks : (p : ℕ) (c : OnceCall V) (h : Option Hold) → walk.Walks f (ready p c h)
-  ready_walks p c h = grind (arith, complete_stays, told_by, strong)
-
-  word_there : (n : ℕ) (past : Entries V) → (once_after m n past).words ≡ once_word (seen_after m (opening m n) past).plain
+  word_there : (n : ℕ) (past : OnceSchedule V) → (state_at m n past).words ≡ once_word (seen_after m (opening m n) past).plain
   word_there n past = cc (numbers_are f n past)
 
-  pub answers_in_one : (n : ℕ) (past : Entries V) (rounds : List (Entries V)) → AnswersInOne m n past rounds
+  pub answers_in_one : (n : ℕ) (past : OnceSchedule V) (rounds : List (OnceSchedule V)) → AnswersInOne m n past rounds
   answers_in_one n past rounds p c l h there is are some =
       let seen = seen_after m (opening m n) past in
-      walk.ends f (ready p c h) (ready_walks p c h) n past rounds l there tt (grind (arith, word_there n past, is)) tt are (λ w. record { mine = omega (arith, some); theirs = λ q ne. omega arith })
+      walk.ends f (ready p c h) (grind (arith, complete_stays, told_by)) n past rounds l there tt (grind (arith, word_there n past, is)) tt are (λ w. record { mine = omega (arith, some); theirs = λ q ne. omega arith })
 
-  pub somebody_runs : (n : ℕ) (past : Entries V) → SomebodyRuns m n past
+  pub somebody_runs : (n : ℕ) (past : OnceSchedule V) → SomebodyRuns m n past
   somebody_runs n past is =
       let seen = seen_after m (opening m n) past in
       let who = runs_where seen.plain (sym (word_there n past) ∙ is) in

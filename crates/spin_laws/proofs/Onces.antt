@@ -21,7 +21,6 @@ use Rattle.spin_step.specs.declared.place.Seat.{Seat}
 use Rattle.spin_step.specs.declared.place.Seat.TheVariants.{Idle, Calling}
 use Rattle.spin_step.specs.declared.schedule.Move.TheVariants.{Begin, Step, Weak}
 use Rattle.spin_step.specs.declared.schedule.Outcome.TheVariants.{Answered}
-use Rattle.spin_step.specs.declared.stepped.Next.{Next}
 use Rattle.spin_step.specs.Schedules.{Happened, after, at_first, happens, moves_at}
 use Rattle.spin_step.proofs.Schedules.{after-append}
 use Rattle.spin_once.specs.Foretold.{will_fail, foretold}
@@ -41,7 +40,7 @@ use Rattle.spin_world_core.proofs.Reached.{numbers_are}
 use Rattle.spin_world_core.proofs.Values.{keeps_value}
 use Rattle.spin_world.proofs.OnceOwed.{once_facts}
 use Rattle.spin_laws.specs.Moments.{AtAMoment, AsAnswered}
-use Rattle.spin_laws.specs.Onces.{foretold_till, Called, has_value, FoundOnce, GaveOnce}
+use Rattle.spin_laws.specs.Onces.{foretold_till, Called, has_value}
 use Rattle.spin_laws.proofs.Calls.{event, one_more, call_of}
 use Rattle.spin_laws.proofs.Moments.{found}
 
@@ -69,9 +68,6 @@ own_kept p (e ∷ es) is = grind (arith, is, own_kept p es, none_fails p es, nam
 made_plain : (p : ℕ) (c : OnceCall (Unit {0})) (i : ℕ) → are_plain (by_party p (Begin c ∷ (replicate i Step ++ Step ∷ []))) ≡ true
 made_plain p c zero = refl
 made_plain p c (suc i) = made_plain p c i
-
-abbrev Ending : Type 0
-Ending = Next OncePoint (Answer (Unit {0}))
 
 module _ (given : Option (Unit {0})) where
   -- if the word says that there is a value, there is one
@@ -205,16 +201,13 @@ module _ (given : Option (Unit {0})) where
       let lies : s.after.state.value ≡ Some tt = subst (λ o. GivesAt (t given) Step o s.after.state.value) comes keeps.gives in
       keeps.phase ∙ ap is_some lies
 
-  gave_in : (c : OnceCall (Unit {0})) (before now : Option (Numbered View)) (old new : List Made) → Called given c (Value tt) before old now new → AsAnswered (t given) c (Value tt) now (foretold_till old new) (foretold new) (λ s. has_value s ≡ true)
+  pub gave_in : (c : OnceCall (Unit {0})) (before now : Option (Numbered View)) (old new : List Made) → Called given c (Value tt) before old now new → AsAnswered (t given) c (Value tt) now (foretold_till old new) (foretold new) (λ s. has_value s ≡ true)
   gave_in c before now old new made =
       let (q, it_is) = called c (Value tt) before now old new made in
       let call = call_of (once_facts given) c (Value tt) (at_end q (foretold_till old new)) now (foretold_till old new) (foretold new) it_is in
-      let it = call.answered in let p = call.party in let start = opening (t given) call.parties in
+      let it = call.answered in let p = call.pass.party in let start = opening (t given) call.pass.parties in
       record {
-        party = p;
-        is_number = call.is_number;
-        parties = call.parties;
-        played = call.played;
+        pass = call.pass;
         last = it.past;
         behind = it.known;
         before = it.before;
@@ -224,10 +217,3 @@ module _ (given : Option (Unit {0})) where
             (ap (λ z. (event (once_facts given) z (p, Step)).after) it.leads ∙ sym (one_more (once_facts given) start it.past (p, Step)))
             (given_there it.seen p it.fine it.comes);
       }
-
-pub found_once : (c : OnceCall (Unit {0})) (a : Answer (Unit {0})) (test : Plain → Bool) (P : Plain → Type 0) → ((given : Option (Unit {0})) (h : Option Hold) → ((t given).asks c h).answers ((t given).says a) ≡ meaning.found (λ p s. test s)) → ((s : Plain) → test s ≡ true → P s)
-    → FoundOnce c a P
-found_once c a test P says so given = found_in given c a test P (says given) so
-
-pub gave_once : GaveOnce
-gave_once c given = gave_in given c

@@ -1,5 +1,5 @@
 -- A registered party may starve in a `lock` of a fair lock.
-use Rattle.spin_laws.proofs.Names.{◌≡◌, ℕ, zero, suc, ◌+◌, ◌≤◌, nat_lt, min, true, false, Some, None, List, [], ◌∷◌, ◌++◌, slice_get, refl, ap, arith, lt-ltb, most_starvers, is_starver, Calling, Holding, Move, Begin, Step, State, Machine, Answer, after, at_first, opening, seen_after, calls, ends_or_weak, fair_machine}
+use Rattle.spin_laws.proofs.Names.{◌≡◌, ℕ, zero, suc, ◌+◌, ◌≤◌, nat_lt, min, true, false, Some, None, List, [], ◌∷◌, ◌++◌, slice_get, refl, ap, arith, lt-ltb, most_starvers, Calling, Holding, Move, Begin, Step, State, Machine, Answer, after, at_first, opening, seen_after, calls, ends_or_weak, fair_machine}
 use Rattle.std.proofs.lemmas.Bool.{le-ltb}
 use Rattle.spin_step.proofs.Schedules.{after-append}
 use Rattle.spin_step.specs.Asks.{waits_or_starves}
@@ -74,8 +74,8 @@ module _ {V : Type 0} (v : V) (cap patience : ℕ) where
     seated : slice_get (after m (at_first m 2) past).seats 0 ≡ Some (Calling Lock SetFlag None)
     seated = ap (λ (s : World). slice_get s.seats 0) there
 
-    registered : is_starver 0 (seen_after m (opening m 2) past).plain.starvers ≡ true
-    registered = grind (arith, (calls (fair_facts v cap patience) 2 past 0 seated).knows, is_starver-from_entries 0 (seen_after m (opening m 2) past).plain.starvers)
-
     pub registered_starves : MayStarveWhere Starves m 2 (waits_or_starves patience)
-    registered_starves = forever_where m Starves (λ p. ends_or_weak p) 2 past start there (1, Begin StarverLock) turn 0 Lock SetFlag None refl (record { fair = grind (arith, more); back = grind (arith, more); none = grind (arith, more) }) registered
+    registered_starves =
+        forever_where m Starves ends_or_weak 2 past start there (1, Begin StarverLock) turn Lock SetFlag None refl
+        (grind (arith, more), grind (arith, more), grind (arith, more))
+        (grind (arith, (calls (fair_facts v cap patience) 2 past 0 seated).knows, is_starver-from_entries 0 (seen_after m (opening m 2) past).plain.starvers))

@@ -1,13 +1,12 @@
 -- A party that has asked to upgrade gets its upgrade in three rounds. All other readers leave within the first two
 -- rounds.
-use Rattle.spin_step.specs.Plain.{comes, given}
-use Rattle.spin_laws.proofs.Names.{Plays, seat_of, ◌≡◌, ℕ, ◌≤◌, ◌==◌, Bool, true, false, Option, Some, List, [], ◌∷◌, refl, sym, ◌∙◌, arith, Plain, Kind, reading, upgradable, asking, writing, Holder, Change, gets, releases, turns, is_holder, with_kind, count_kind, weight, rw_word, entries, apply_some, IsOpenStep, IsExclusive, ◌-◌, ◌⊎◌, ◌||◌, filter, sum_by-cons, list_any, same_kind, without_holder, effect, apply, is_open, is_open_to, Ask, entries_after, entries-own, against, one_of, by_kinds, all_kinds, sum-less, Answer, Done, Seat, Calling, Move, Step, Machine, after, at_first, Seen, Scene, scene_at, opening, seen_after, get-set_same, eqb_self, Invariant, in_call, calls_so, RwCall, Upgrade, RwPoint, Asking, rw_machine, rw_notes, rw_facts, holder_by, Test, grants, refuses_weakly, UpgradesInThree, UpgradesAtLast}
+use Rattle.spin_step.specs.Plain.{comes}
+use Rattle.spin_laws.proofs.Names.{Plays, seat_of, ◌≡◌, ℕ, ◌≤◌, ◌==◌, Bool, true, false, Option, Some, List, [], ◌∷◌, refl, sym, ◌∙◌, arith, Plain, Kind, reading, upgradable, asking, writing, Holder, Change, gets, releases, turns, is_holder, with_kind, count_kind, weight, rw_word, entries, IsOpenStep, IsExclusive, ◌-◌, ◌⊎◌, ◌||◌, filter, sum_by-cons, list_any, same_kind, without_holder, apply, is_open, entries_after, entries-own, against, one_of, by_kinds, all_kinds, sum-less, Answer, Done, Seat, Calling, Move, Step, Machine, after, Seen, Scene, scene_at, opening, seen_after, get-set_same, eqb_self, Invariant, in_call, calls_so, RwCall, Upgrade, RwPoint, Asking, rw_machine, rw_notes, rw_facts, holder_by, Test, grants_party, refuses_weakly, UpgradesInThree, either}
 use Rattle.spin_step.proofs.Exclusive.{Lets, lets}
 use Rattle.spin_world.proofs.RwNames.{Entries, one_of_each, only_asking-word}
 use Rattle.spin_step_more.proofs.Readers.{beside_asking}
 use Rattle.spin_step_more.proofs.Upgrading.{alone_when_gone}
 use Rattle.std.proofs.Common.{true≢false}
-use Rattle.spin_laws.proofs.Endless.{at_last}
 use Rattle.spin_step.specs.declared.place.Hold.TheVariants as hold
 use Rattle.spin_laws.proofs.Leaving as leaving
 
@@ -24,21 +23,13 @@ with_other q r j k (h ∷ hs) other none = grind (arith, other, none, with_other
 nobody_comes : (s : Plain) (p q : ℕ) (k : Kind) → IsExclusive s → is_holder p asking s.holders ≡ true → Lets s q (comes k) → ⊥
 nobody_comes s p q k alone found let_in = grind (arith, beside_asking s p alone found, all_kinds s.holders, by_kinds (against k) s.holders)
 
-none_gets : (s : Plain) (p q r : ℕ) (ask : Ask) → IsExclusive s → is_holder p asking s.holders ≡ true → is_holder q reading s.holders ≡ false → is_open_to s r ask ≡ true
-    → is_holder q reading (given s r (effect ask)).holders ≡ false
-none_gets s p q r ask alone asks none may =
-    grind (arith, none, lets s r ask may, nobody_comes s p r reading alone asks, nobody_comes s p r upgradable alone asks, nobody_comes s p r writing alone asks, with_other q r upgradable writing s.holders refl none, with_other q r asking writing s.holders refl none)
-
 not_reading : (s : Plain) (p q : ℕ) (c : Change) → IsExclusive s → is_holder p asking s.holders ≡ true → is_holder q reading s.holders ≡ false → is_open s c ≡ true → is_holder q reading (apply s c).holders ≡ false
-not_reading s p q (gets r ask) alone asks none may = none_gets s p q r ask alone asks none may
+not_reading s p q (gets r ask) alone asks none may =
+    grind (arith, none, lets s r ask may, nobody_comes s p r reading alone asks, nobody_comes s p r upgradable alone asks, nobody_comes s p r writing alone asks, with_other q r upgradable writing s.holders refl none, with_other q r asking writing s.holders refl none)
 not_reading s p q (releases r k) alone asks none may = without_other q r k s.holders none
 not_reading s p q (turns r j k) alone asks none may =
     absurd (grind (arith, beside_asking s p alone asks, sum-less (one_of writing) r writing s.holders, sum-less (one_of upgradable) r upgradable s.holders, may))
 not_reading s p q _ alone asks none may = none
-
-not_reading_some : (s : Plain) (p q r : ℕ) (step : Option Change) → IsExclusive s → is_holder p asking s.holders ≡ true → is_holder q reading s.holders ≡ false → IsOpenStep s r step
-    → is_holder q reading (apply_some s step).holders ≡ false
-not_reading_some s p q r step alone asks none may = grind (arith, not_reading)
 
 no_readers : (hs : List Holder) → ((q : ℕ) → is_holder q reading hs ≡ false) → count_kind reading hs ≡ 0
 no_readers [] none = refl
@@ -53,8 +44,7 @@ any_own kind q [] = refl
 any_own kind q (h ∷ hs) = grind (arith, any_own kind q hs)
 
 abbrev at_upgrade : RwPoint → Type 0
-at_upgrade Asking = Unit {0}
-at_upgrade _ = ⊥
+at_upgrade l = elim l [ Asking ↦ Unit {0} | _ ↦ ⊥ ]
 
 module _ {V : Type 0} (v : V) (cap : ℕ) where
   abbrev m : Machine ℕ V RwCall RwPoint (Answer V)
@@ -68,7 +58,7 @@ module _ {V : Type 0} (v : V) (cap : ℕ) where
 
   module _ (p : ℕ) where
     abbrev goal : Test V RwCall RwPoint (Answer V)
-    goal q move o x = grants m p q move o x || refuses_weakly p q move o x
+    goal = either (grants_party m p) (refuses_weakly p)
 
     abbrev its : Option (Seat RwCall RwPoint)
     its = Some (Calling Upgrade Asking (Some hold.Upgradable))
@@ -85,7 +75,7 @@ module _ {V : Type 0} (v : V) (cap : ℕ) where
 
       -- a step makes nobody a reader
       no_reader : (q : ℕ) (step : Option Change) → any_of reading (entries q seen.plain) ≡ false → IsOpenStep seen.plain q step → any_of reading (entries_after seen.plain step (entries q seen.plain)) ≡ false
-      no_reader q step none opens = grind (arith, entries-own, any_own, not_reading_some, good, asks)
+      no_reader q step none opens = grind (arith, entries-own, any_own, not_reading, good, asks)
 
       -- if nobody reads, the word is that of one reader that asks to upgrade
       open_now : ((q : ℕ) → any_of reading (entries q seen.plain) ≡ false) → (seen.state.words == weight asking) ≡ true
@@ -100,7 +90,7 @@ module _ {V : Type 0} (v : V) (cap : ℕ) where
           none = refl;
           not_its = λ l at so. grind (arith, at, so);
           reads = λ q h is. grind (arith, is);
-          own = own_at;
+          own = λ seen l good there at. grind (arith, true≢false, open_now, own);
           weak = λ seen l next at may. grind (arith, eqb_self);
           comes = λ seen l q d i j w there none opens. grind (arith, no_reader, w, there, none, opens);
           releases = λ q d i j w u so. (Done, grind (arith, so));
@@ -108,17 +98,9 @@ module _ {V : Type 0} (v : V) (cap : ℕ) where
           few = λ l. omega arith;
           some = λ l. omega arith;
         }
-      where
-        own_at : (seen : World) (l : RwPoint) → Invariant f seen → seat_of seen p ≡ Some (Calling Upgrade l (Some hold.Upgradable)) → at_upgrade l → let x = scene_at m seen p Step (Some (Calling Upgrade l (Some hold.Upgradable))) in
-            (goal p Step x.outcome (seat_of x.after p) ≡ true) ⊎ ((i : RwPoint) × (seat_of x.after p ≡ Some (Calling Upgrade i (Some hold.Upgradable))) × at_upgrade i × (((q : ℕ) → any_of reading (entries q seen.plain) ≡ false) → 1 ≤ 1 - 1))
-        own_at seen l good there at = grind (arith, true≢false, open_now, own)
 
   pub upgrades_in_three : (n : ℕ) (past : List (ℕ × Move RwCall V)) (rounds : List (List (ℕ × Move RwCall V))) → UpgradesInThree m n past rounds
   upgrades_in_three n past rounds p c l h there found are long =
       let seen = seen_after m (opening m n) past in
       let at : Some (Calling c l h) ≡ Some (Calling Upgrade Asking (Some hold.Upgradable)) = grind (arith, calls_so f n past (any_of asking) p there (any_own asking p seen.plain.holders ∙ found)) in
       leaving.two_rounds f (goal p) p Upgrade (Some hold.Upgradable) at_upgrade (any_of reading) (λ l. 1) 1 (leaves p) n past rounds Asking (there ∙ at) tt are long
-
-  pub upgrades_at_last : (n : ℕ) (past : List (ℕ × Move RwCall V)) (schedule : ℕ → ℕ × Move RwCall V) → UpgradesAtLast m n past schedule
-  upgrades_at_last n past schedule p c l h there found fair =
-      at_last m (goal p) (after m (at_first m n) past) 3 (λ rounds are long. upgrades_in_three n past rounds p c l h there found are (omega (arith, long))) schedule fair

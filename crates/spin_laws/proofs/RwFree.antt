@@ -1,11 +1,10 @@
 -- A read-write lock is free of deadlock. All readers leave within the first two rounds. A holder that does more than
 -- read is then alone, and makes one of its moves in each round.
-use Rattle.spin_laws.proofs.Names.{seat_of, good, cases_eq, scene, eqb-true, empty_is, ◌<◌, one_of, eq-eqb, row_tells, in_call, StandsFor, ne_eqb, entries-other, max, suc, not, resting, ◌≡◌, ℕ, ◌+◌, ◌≤◌, ◌==◌, Bool, true, false, Option, Some, None, List, [], ◌∷◌, length, slice_get, refl, ap, sym, ◌∙◌, arith, Plain, Kind, reading, upgradable, asking, writing, Holder, Change, releases, turns, count_kind, weight, rw_word, apply_some, IsOpenStep, IsExclusive, ◌-◌, ◌⊎◌, ◌||◌, ◌&&◌, subst, inl, inr, ⊎_elim, nat_lt, min, if◌then◌else◌, lt-ltb, sum_by-cons, same_kind, upgrader, all_kinds, by_kinds, reader_limit, Answer, Hold, Seat, Idle, Calling, Next, Move, Step, Weak, Machine, after, at_first, goes_on, get-set_same, Seen, Scene, scene_at, opening, seen_after, eqb_self, Plays, Invariant, calls, RwCall, RwPoint, rw_machine, rw_notes, rw_facts, Test, grants_any, without_holder, with_kind, filter, list_any, list_all, entries, is_empty}
-use Rattle.spin_laws.specs.Rw.{GrantsSomebody, RwIsDeadlockFree, refuses_any, leading, rounds_by, rounds_beside}
+use Rattle.spin_laws.proofs.Names.{seat_of, good, cases_eq, scene, eqb-true, empty_is, ◌<◌, one_of, eq-eqb, row_tells, in_call, StandsFor, ne_eqb, entries-other, max, suc, not, resting, ◌≡◌, ℕ, ◌+◌, ◌≤◌, ◌==◌, Bool, true, false, Option, Some, None, List, [], ◌∷◌, length, refl, ap, sym, ◌∙◌, arith, Plain, Kind, reading, upgradable, asking, writing, Holder, Change, releases, turns, count_kind, weight, rw_word, apply_some, IsOpenStep, IsExclusive, ◌-◌, ◌⊎◌, ◌||◌, ◌&&◌, subst, inl, inr, ⊎_elim, nat_lt, min, if◌then◌else◌, lt-ltb, sum_by-cons, same_kind, upgrader, all_kinds, by_kinds, reader_limit, Answer, Hold, Seat, Idle, Calling, Move, Step, Machine, after, get-set_same, Seen, Scene, scene_at, opening, seen_after, eqb_self, Plays, Invariant, calls, RwCall, RwPoint, rw_machine, rw_notes, rw_facts, Test, grants_any, without_holder, with_kind, filter, list_any, list_all, entries, is_empty, either}
+use Rattle.spin_laws.specs.Rw.{rounds_by, GrantsSomebody, refuses_any, leading}
 use Rattle.spin_world.proofs.RwNames.{Write, Exchange, Release, Entries, Read, UpgradeableRead, may_turn, read, read_upgradable}
 use Rattle.spin_step_more.specs.declared.rw_calls.RwPoint.TheVariants.{First}
 use Rattle.std.proofs.Common.{sum_by, true≢false}
-use Rattle.spin_laws.proofs.Endless.{at_last}
 use Rattle.spin_laws.proofs.Waiting.{is_busy}
 use Rattle.spin_laws.proofs.Loads.{Wait}
 use Rattle.spin_laws.proofs.Loads as walk
@@ -14,10 +13,7 @@ abbrev RwSeat : Type 0
 RwSeat = Seat RwCall RwPoint
 
 abbrev at_come : RwCall → Type 0
-at_come Read = Unit {0}
-at_come UpgradeableRead = Unit {0}
-at_come Write = Unit {0}
-at_come _ = ⊥
+at_come c = elim c [ Read ↦ Unit {0} | UpgradeableRead ↦ Unit {0} | Write ↦ Unit {0} | _ ↦ ⊥ ]
 
 -- Who holds: the party u, which may do more than read, and others, which read
 
@@ -25,8 +21,7 @@ abbrev its : ℕ → List Holder → List Holder
 its u hs = filter (λ h. h.party == u) hs
 
 abbrev kind_in : List Holder → Option Kind
-kind_in [] = None
-kind_in (h ∷ hs) = Some h.kind
+kind_in holders = elim holders [ [] ↦ None | h ∷ hs ↦ Some h.kind ]
 
 abbrev kind_of : ℕ → List Holder → Option Kind
 kind_of u hs = kind_in (its u hs)
@@ -98,14 +93,8 @@ some_read : (hs : List Holder) → reads hs ≡ true → 1 ≤ length hs
 some_read [] is = absurd (cc (is))
 some_read (h ∷ hs) is = omega arith
 
-no_kind : (hs : List Holder) (k : Kind) → is_empty hs ≡ true → kind_in hs ≡ Some k → ⊥
-no_kind hs k none is = grind (arith, true≢false)
-
 kind_holds : (u : ℕ) (k : Kind) (hs : List Holder) → kind_of u hs ≡ Some k → 1 ≤ length (its u hs)
 kind_holds u k hs is = grind arith
-
-none_word : (hs : List Holder) → kind_in hs ≡ None → sum_by (λ (h : Holder). weight h.kind) hs ≡ 0
-none_word hs none = grind arith
 
 one_word : (k : Kind) (hs : List Holder) → length hs ≤ 1 → kind_in hs ≡ Some k → sum_by (λ (h : Holder). weight h.kind) hs ≡ weight k
 one_word k [] few is = absurd (cc (is))
@@ -166,16 +155,11 @@ same_is : (j k : Option Kind) → same_kinds j k ≡ true → j ≡ k
 same_is j k is = grind (arith, is)
 
 abbrev leaves : Option RwSeat → Bool
-leaves (Some (Calling Release l h)) = true
-leaves _ = false
+leaves seat = elim seat [ Some (Calling Release l h) ↦ true | _ ↦ false ]
 
 -- after the readers beside u have left, at most this many rounds remain; the kind of u's hold decides
 abbrev base : Option Kind → ℕ
-base None = 2
-base (Some reading) = 3
-base (Some upgradable) = 4
-base (Some asking) = 1
-base (Some writing) = 4
+base kind = elim kind [ None ↦ 2 | Some reading ↦ 3 | Some upgradable ↦ 4 | Some asking ↦ 1 | Some writing ↦ 4 ]
 
 -- the load of u if no other party holds. `w`: the waiting call is a `write`. `room`: two parties may hold. `out`: u is releasing.
 abbrev alone : Bool → Bool → Kind → Bool → ℕ
@@ -185,12 +169,10 @@ alone w room asking out = 1
 alone w room writing out = if out then 3 else 6
 
 abbrev its_load : Bool → Bool → Option Kind → Bool → ℕ
-its_load w room None out = 0
-its_load w room (Some k) out = alone w room k out
+its_load w room kind out = elim kind [ None ↦ 0 | Some k ↦ alone w room k out ]
 
 abbrev is_asking : Option Kind → Bool
-is_asking (Some asking) = true
-is_asking _ = false
+is_asking kind = elim kind [ Some asking ↦ true | _ ↦ false ]
 
 -- The load of a party. `b`: somebody holds beside u. `own`: the party is u. `reader`: the party reads. `out`: the
 -- party is releasing.
@@ -202,50 +184,25 @@ abbrev theirs_by : Bool → Bool → ℕ → List Holder → ℕ → Option RwSe
 theirs_by w room u hs q his = theirs_of w room (kind_of u hs) (beside u hs) (q == u) (reads (its q hs)) (leaves his)
 
 abbrev is_write : RwCall → Bool
-is_write Write = true
-is_write c = false
+is_write c = elim c [ Write ↦ true | _ ↦ false ]
 
 -- how many more steps the waiting call takes if nobody holds
 abbrev own_rank : RwCall → RwPoint → ℕ
-own_rank Write l = 1
-own_rank c (Exchange k) = if k == 0 then 1 else 2
-own_rank c l = 2
+own_rank c l = if is_write c then 1 else elim l [ Exchange k ↦ if k == 0 then 1 else 2 | _ ↦ 2 ]
 
 -- how many more steps the waiting call takes if one reader holds and leaves room for the call, plus one
 abbrev reading_rank : RwPoint → ℕ
-reading_rank (Exchange k) = if k == weight reading then 2 else 3
-reading_rank l = 3
+reading_rank l = elim l [ Exchange k ↦ if k == weight reading then 2 else 3 | _ ↦ 3 ]
 
 abbrev mine_alone : RwCall → Bool → RwPoint → Option Kind → ℕ
-mine_alone c room l None = own_rank c l
-mine_alone c room l (Some reading) = if is_write c then 0 else if room then reading_rank l else 0
-mine_alone c room l (Some k) = 0
+mine_alone c room l kind =
+    elim kind [ None ↦ own_rank c l | Some reading ↦ if not (is_write c) && room then reading_rank l else 0 | _ ↦ 0 ]
 
 abbrev mine_of : RwCall → Bool → RwPoint → Option Kind → Bool → ℕ
 mine_of c room l k b = if b then 0 else mine_alone c room l k
 
 abbrev mine_by : RwCall → Bool → ℕ → List Holder → RwPoint → ℕ
 mine_by c room u hs l = mine_of c room l (kind_of u hs) (beside u hs)
-
--- a party that begins a call gets no higher load
-theirs_begun : (w room : Bool) (k : Option Kind) (b own reader out : Bool) → theirs_of w room k b own reader out ≤ theirs_of w room k b own reader false
-theirs_begun w room k b own reader out = grind arith
-
--- when a party begins its release, its load falls (or was 0)
-theirs_leaving : (w room : Bool) (k : Option Kind) (b own reader : Bool) → (own ≡ true → is_asking k ≡ false) → theirs_of w room k b own reader true ≤ theirs_of w room k b own reader false - 1
-theirs_leaving w room k b own reader asks = grind (arith, asks)
-
-reader_some : (w room : Bool) (k : Option Kind) (b out : Bool) → 1 ≤ theirs_of w room k b false true out
-reader_some w room k b out = grind arith
-
-own_some : (c : RwCall) (l : RwPoint) → 1 ≤ own_rank c l
-own_some c l = grind arith
-
-alone_some : (c : RwCall) (room : Bool) (l : RwPoint) (a : Kind) (reader out : Bool) → mine_of c room l (Some a) false ≤ 0 → theirs_of (is_write c) room (Some a) false true reader out ≤ 0 → ⊥
-alone_some c room l a reader out mine theirs = grind (arith, mine, theirs)
-
-base_some : (k : Option Kind) → 1 ≤ base k
-base_some k = grind arith
 
 -- if a reader beside u has a load of at most n + 1, `base` is at most n
 reader_long : (w room : Bool) (k : Option Kind) (b out : Bool) (n : ℕ) → theirs_of w room k b false true out ≤ suc n → base k ≤ n
@@ -271,6 +228,9 @@ mine_gone c room l k b later n few less = grind (arith, few, less)
 mine_left : (c : RwCall) (room : Bool) (l : RwPoint) (k : Kind) (b reader : Bool) (n : ℕ) → theirs_of (is_write c) room (Some k) b true reader true ≤ suc n → at_come c → is_asking (Some k) ≡ false → mine_of c room l None b ≤ max (mine_of c room l (Some k) b) n
 mine_left c room l k b reader n few comes asks = grind (arith, few, comes, asks)
 
+base_some : (k : Option Kind) → 1 ≤ base k
+base_some k = grind arith
+
 -- when the hold of u turns into another kind, the load of u is at most n afterwards
 its_turned : (w room : Bool) (j k : Kind) (b reader : Bool) (n : ℕ) → may_turn j k ≡ true → theirs_of w room (Some j) b true reader false ≤ suc n → (b ≡ true → 1 ≤ n) → theirs_of w room (Some k) b true reader false ≤ n
 its_turned w room j k b reader n may few beside = grind (arith, may, few, beside)
@@ -284,25 +244,19 @@ mine_turned c room l j k b reader n may few = grind (arith, may, few)
 
 -- what the step function of `read` or `upgradeable_read` returns; `None` for the other calls
 abbrev lets : ℕ → RwCall → ℕ → Option ℕ
-lets cap Read w = read cap w
-lets cap UpgradeableRead w = read_upgradable cap w
-lets cap c w = None
+lets cap c w = elim c [ Read ↦ read cap w | UpgradeableRead ↦ read_upgradable cap w | _ ↦ None ]
 
 -- which kind of holder a step removes
 abbrev from : Option Change → Option Kind
-from (Some (releases q k)) = Some k
-from (Some (turns q j k)) = Some j
-from _ = None
+from step = elim step [ Some (releases q k) ↦ Some k | Some (turns q j k) ↦ Some j | _ ↦ None ]
 
 -- whether a holder leaves by this plain step
 abbrev is_out : Option Change → Bool
-is_out (Some (releases q k)) = true
-is_out _ = false
+is_out step = elim step [ Some (releases q k) ↦ true | _ ↦ false ]
 
 -- whether a holder turns to a kind to which it may turn
 abbrev is_turn : Option Change → Bool
-is_turn (Some (turns q j k)) = may_turn j k
-is_turn _ = false
+is_turn step = elim step [ Some (turns q j k) ↦ may_turn j k | _ ↦ false ]
 
 module _ {V : Type 0} (v : V) (cap : ℕ) (some : 1 ≤ cap) where
   abbrev m : Machine ℕ V RwCall RwPoint (Answer V)
@@ -318,16 +272,13 @@ module _ {V : Type 0} (v : V) (cap : ℕ) (some : 1 ≤ cap) where
   room = nat_lt 1 cap
 
   abbrev goal : Test V RwCall RwPoint (Answer V)
-  goal q move o x = grants_any m q move o x || refuses_any q move o x
+  goal = either (grants_any m) refuses_any
 
   abbrev sc : World → ℕ → RwCall → RwPoint → Option Hold → Scene ℕ V RwCall RwPoint (Answer V)
   sc seen q c l h = scene_at m seen q Step (Some (Calling c l h))
 
   abbrev Grants : World → ℕ → RwCall → RwPoint → Option Hold → Type 0
   Grants seen q c l h = let y = sc seen q c l h in goal q Step y.outcome (seat_of y.after q) ≡ true
-
-  weak : (seen : World) (q : ℕ) (c : RwCall) (h : Option Hold) (next : Next RwPoint (Answer V)) → let n = goes_on seen.state q c h next in goal q Weak n.outcome (slice_get n.next.seats q) ≡ true
-  weak seen q c h next = grind arith
 
   abbrev Sits : (Entries → Bool) → ℕ → Option RwSeat → Type 0
   Sits = walk.SitsSo (rw_notes v cap)
@@ -349,9 +300,6 @@ module _ {V : Type 0} (v : V) (cap : ℕ) (some : 1 ≤ cap) where
   -- if u holds alone, its step makes a plain step or is a grant
   its_step_alone : (seen : World) (u : ℕ) (c : RwCall) (l : RwPoint) (h : Option Hold) (kind : Kind) → seen.state.words ≡ weight kind → Sits (λ e. same_kinds (Some kind) (kind_in e.holders)) u (Some (Calling c l h)) → (sc seen u c l h).change ≡ None → Grants seen u c l h
   its_step_alone seen u c l h kind word so none = grind (arith, word, so, none)
-
-  none_two : (q : ℕ) (o : Option RwSeat) → Sits (λ e. nat_lt 1 (length e.holders)) q o → ⊥
-  none_two q o so = grind (arith, so)
 
   module _ (p u : ℕ) (c : RwCall) (comes : at_come c) where
     abbrev Known : World → Type 0
@@ -375,7 +323,7 @@ module _ {V : Type 0} (v : V) (cap : ℕ) (some : 1 ≤ cap) where
 
       -- the party u is one holder at most
       one : length (its u s.holders) ≤ 1
-      one = grind (arith, none_two u (seat_of seen u), sits (λ e. nat_lt 1 (length e.holders)) u)
+      one = grind (arith, sits (λ e. nat_lt 1 (length e.holders)) u)
 
       word_is : b ≡ false → seen.state.words ≡ sum_by (λ (h : Holder). weight h.kind) (its u s.holders)
       word_is none = let word : seen.state.words ≡ rw_word s = cc (good.encodes) in word ∙ ap (λ hs. sum_by (λ (h : Holder). weight h.kind) hs) (sym (all_its u s.holders none))
@@ -436,7 +384,7 @@ module _ {V : Type 0} (v : V) (cap : ℕ) (some : 1 ≤ cap) where
               (subst (λ r. theirs_of (is_write c) room kind b false r (leaves (seat_of seen z.0)) ≤ suc n) z.3 (subst (λ o. theirs_of (is_write c) room kind b o (reads (its z.0 s.holders)) (leaves (seat_of seen z.0)) ≤ suc n) (ne_eqb z.0 u (λ e. absurd (z.1 e))) (within.theirs z.0 z.2)))
 
           own_before : theirs_of (is_write c) room kind b true (reads (its q s.holders)) (leaves (Some (Calling d i j))) ≤ suc n
-          own_before = subst (λ z. theirs_of (is_write c) room kind b z (reads (its q s.holders)) (leaves (Some (Calling d i j))) ≤ suc n) (eq-eqb q u is) before
+          own_before = rw (eq-eqb q u is) at before
 
           so : Sits (λ e. same_kinds kind (kind_in e.holders)) q (Some (Calling d i j))
           so = subst (Sits (λ e. same_kinds kind (kind_in e.holders)) q) at (sits (λ e. same_kinds kind (kind_in e.holders)) q (subst (λ z. same_kinds kind (kind_of z s.holders) ≡ true) (sym is) (same_self kind)))
@@ -489,8 +437,7 @@ module _ {V : Type 0} (v : V) (cap : ℕ) (some : 1 ≤ cap) where
         mine_sc = sc seen p c l None
 
         abbrev onward : Option ℕ → RwPoint
-        onward (Some to) = Exchange seen.state.words
-        onward None = First
+        onward o = elim o [ Some to ↦ Exchange seen.state.words | None ↦ First ]
 
         abbrev GoesTo : RwPoint → Type 0
         GoesTo e = (seat_of mine_sc.after p ≡ Some (Calling c e None)) × (mine_sc.after.plain ≡ s)
@@ -515,7 +462,7 @@ module _ {V : Type 0} (v : V) (cap : ℕ) (some : 1 ≤ cap) where
 
         own : (ko : Option Kind) → kind ≡ ko → (z : Bool) → b ≡ z → walk.Own f x seen l n mine_sc
         own ko kind_is true b_is = idles (λ e. rw b_is (omega arith))
-        own None kind_is false b_is = grind (arith, on, goes_free (word_is b_is ∙ none_word (its u s.holders) kind_is))
+        own None kind_is false b_is = grind (arith, on, goes_free (word_is b_is ∙ grind (arith, kind_is)))
         own (Some reading) kind_is false b_is = by (is_write c) refl room refl
           where
             by : (w : Bool) → is_write c ≡ w → (two : Bool) → room ≡ two → walk.Own f x seen l n mine_sc
@@ -558,11 +505,11 @@ module _ {V : Type 0} (v : V) (cap : ℕ) (some : 1 ≤ cap) where
         hs = seen.plain.holders
 
         by : (z : Bool) → beside u hs ≡ z → (o : Option Kind) → kind_of u hs ≡ o → ⊥
-        by true is o kind_is = grind (arith, reader_beside seen w.3 w.2 w.0 is, reader_some, ne_eqb)
-        by false is None kind_is = omega (arith, own_some c l, subst (λ z. mine_of c room l None z ≤ 0) is (subst (λ o. mine_of c room l o (beside u hs) ≤ 0) kind_is none.mine))
+        by true is o kind_is = grind (arith, reader_beside seen w.3 w.2 w.0 is, ne_eqb)
+        by false is None kind_is = grind (arith, none.mine, is, kind_is)
         by false is (Some a) kind_is =
-            let his = none.theirs u (λ e. no_kind (its u hs) a (ap (λ i. is_empty (its i hs)) e ∙ nothing_mine seen w.3 l w.0) kind_is) in
-            grind (arith, alone_some c room l a (reads (its u hs)) (leaves (seat_of seen u)), none.mine, his, is, kind_is, eqb_self u)
+            let his = none.theirs u (λ e. grind (arith, true≢false, ap (λ i. is_empty (its i hs)) e ∙ nothing_mine seen w.3 l w.0, kind_is)) in
+            grind (arith, none.mine, his, is, kind_is, eqb_self u)
 
     walks : walk.Walks f x
     walks =
@@ -572,20 +519,21 @@ module _ {V : Type 0} (v : V) (cap : ℕ) (some : 1 ≤ cap) where
           own = λ seen l n w within made. own seen w.3 l n within w.0 (kind_of u seen.plain.holders) refl (beside u seen.plain.holders) refl;
           steps = λ seen l n w within q d i j ne at made.
               ⊎_elim (λ (is : q ≡ u). its_steps seen w.3 l n within w.2 q d i j ne at made w.0 is) (λ (other : q ≡ u → ⊥). reader_steps seen w.3 l n within w.2 q d i j ne at made w.0 other) (cases_eq q u);
-          weak = λ seen l next at may. weak seen p c None next;
-          refuses = λ seen l w q d i j next ne at may. inl (weak seen q d j next);
-          begins = λ seen l w q d i j ne at may. (grind (arith, theirs_begun, room, beside, reads, w.3, at), λ is. grind (arith, leaves, theirs_leaving, room, beside, reads, asks_not, w.3, at, is));
+          weak = λ seen l next at may. grind arith;
+          refuses = λ seen l w q d i j next ne at may. inl (grind arith);
+          begins = λ seen l w q d i j ne at may. (grind (arith, room, beside, reads, w.3, at), λ is. grind (arith, leaves, room, beside, reads, asks_not, w.3, at, is));
           leaks = λ s l q h. omega arith;
           busy = λ seen l q w ne long. busy_by seen w.3 l q long;
           some = some_load;
         }
 
   pub grants_somebody : (n : ℕ) (past : List (ℕ × Move RwCall V)) (rounds : List (List (ℕ × Move RwCall V))) → GrantsSomebody m n past rounds
-  grants_somebody n past rounds p c l there asks are few =
+  grants_somebody n past rounds p c l h here (holds, asks) are few =
       let seen = seen_after m (opening m n) past in
       let hs = seen.plain.holders in
       let u = lead p hs in
-      let at : at_come c = grind (arith, asks, (calls f n past p there).knows) in
+      let there = here ∙ ap (λ z. Some (Calling c l z)) holds in
+      let at : at_come c = grind (arith, holds, asks, (calls f n past p there).knows) in
       let known : Known p u c at seen = λ q ne. others_read p q hs (one_leads seen.plain (good f n past).exclusive) ne in
       walk.ends f (x p u c at) (walks p u c at) n past rounds l there tt known tt are
       (λ w.
@@ -595,7 +543,3 @@ module _ {V : Type 0} (v : V) (cap : ℕ) (some : 1 ≤ cap) where
         mine = omega (arith, few, mine_start c room l (leading hs) (kind_of u hs) (beside u hs) (reads hs) none leads);
         theirs = λ q ne. omega (arith, few, theirs_start (is_write c) room (leading hs) (kind_of u hs) (beside u hs) (q == u) (reads (its q hs)) (leaves (seat_of seen q)) (reads hs) none leads (reads_in q hs));
       })
-
-  pub deadlock_free : (n : ℕ) (past : List (ℕ × Move RwCall V)) (schedule : ℕ → ℕ × Move RwCall V) → RwIsDeadlockFree m n past schedule
-  deadlock_free n past schedule p c l there asks fair =
-      at_last m goal (after m (at_first m n) past) (rounds_beside (seen_after m (opening m n) past).plain.holders) (λ rounds are long. grants_somebody n past rounds p c l there asks are (omega (arith, long))) schedule fair

@@ -1,13 +1,14 @@
 -- A seat is granted within four rounds. Parties that have a seat leave within two rounds, and a waiting party takes two
 -- rounds to look and make its exchange.
-use Rattle.spin_laws.proofs.Names.{seat_of, cases_eq, ◌≡◌, ℕ, ◌≤◌, ◌⊎◌, ◌==◌, Bool, true, false, Option, Some, List, nat_lt, refl, arith, entries, Hold, Calling, Answer, Move, Step, after, at_first, Seen, scene_at, ◌-◌, if◌then◌else◌, empty_is, seats, lt-ltb, Done, SeatsMachine, seats_machine, get-set_same, Invariant, Test, grants_any}
+use Rattle.spin_laws.proofs.Names.{seat_of, Bool, inr, ⊎_elim, cases_eq, ◌≡◌, ℕ, ◌≤◌, ◌⊎◌, ◌==◌, true, false, Option, Some, List, nat_lt, refl, arith, entries, Hold, Calling, Answer, Move, Step, after, Seen, scene_at, ◌-◌, if◌then◌else◌, empty_is, seats, lt-ltb, Done, SeatsMachine, seats_machine, get-set_same, Invariant, Test, grants_any}
 use Rattle.spin_seats.specs.declared.calls.SeatsCall.{SeatsCall}
 use Rattle.spin_seats.specs.declared.calls.SeatsCall.TheVariants.{Enter}
 use Rattle.spin_seats.specs.declared.calls.SeatsPoint.{SeatsPoint}
 use Rattle.spin_seats.specs.declared.calls.SeatsPoint.TheVariants.{First, Exchange}
 use Rattle.spin_world_seats.proofs.Owed.{seats_facts}
-use Rattle.spin_laws.specs.Seats.{SeatsSomebodyInFour, SeatsAreDeadlockFree}
-use Rattle.spin_laws.proofs.Endless.{at_last}
+use Rattle.std.specs.Option.{is_some}
+use Rattle.spin_seats.specs.Seats.{entered}
+use Rattle.spin_laws.specs.Seats.{SeatsSomebodyInFour}
 use Rattle.spin_laws.proofs.Flag.{nobody_holds}
 use Rattle.spin_laws.proofs.Waiting.{holds_lock}
 use Rattle.spin_laws.proofs.Leaving as leaving
@@ -41,7 +42,21 @@ module _ (n : ℕ) (some : 1 ≤ n) where
     -- the waiting party's own step reaches the goal, or leads to a point of its call; if nobody holds, the rank falls
     own : (seen : World) (l : SeatsPoint) → Invariant (seats_facts n) seen → seat_of seen p ≡ Some (Calling Enter l h) → let x = scene_at m seen p Step (Some (Calling Enter l h)) in
         (goal p Step x.outcome (seat_of x.after p) ≡ true) ⊎ ((i : SeatsPoint) × (seat_of x.after p ≡ Some (Calling Enter i h)) × Unit {0} × (Nobody seen → rank_by i ≤ rank_by l - 1))
-    own seen l good there = grind (arith, get-set_same, nobody_holds, good.encodes, room, cases_eq seen.state.words 0)
+    own seen First good there = inr (
+      onward seen (is_some (entered n seen.state.words)),
+      grind (arith, there, get-set_same, good.encodes),
+      tt,
+      λ nobody. grind (arith, nobody, nobody_holds, good.encodes, room, cases_eq seen.state.words 0),
+    )
+    own seen (Exchange k) good there = ⊎_elim
+        (λ (same : seen.state.words ≡ k). grind (arith, there, same, get-set_same, nobody_holds, good.encodes, room))
+        (λ (ne : seen.state.words ≡ k → ⊥). inr (
+          onward seen (is_some (entered n seen.state.words)),
+          grind (arith, there, ne, get-set_same, good.encodes),
+          tt,
+          λ nobody. grind (arith, nobody, ne, nobody_holds, good.encodes, room, cases_eq seen.state.words 0),
+        ))
+        (cases_eq seen.state.words k)
 
     leaves : leaving.Leaves (seats_facts n) goal p Enter h (λ l. Unit {0}) holds_lock rank_by 2
     leaves =
@@ -61,7 +76,3 @@ module _ (n : ℕ) (some : 1 ≤ n) where
   pub enters_in_four : (parties : ℕ) (past : List (ℕ × Move SeatsCall (Unit {0}))) (rounds : List (List (ℕ × Move SeatsCall (Unit {0})))) → SeatsSomebodyInFour m parties past rounds
   enters_in_four parties past rounds p Enter l h there asks are few = leaving.two_rounds (seats_facts n) goal p Enter h (λ l. Unit {0}) holds_lock rank_by 2 (leaves p h) parties past rounds l there tt are few
   enters_in_four parties past rounds p c l h there asks are few = absurd (grind (arith, asks))
-
-  pub deadlock_free : (parties : ℕ) (past : List (ℕ × Move SeatsCall (Unit {0}))) (schedule : ℕ → ℕ × Move SeatsCall (Unit {0})) → SeatsAreDeadlockFree m parties past schedule
-  deadlock_free parties past schedule p c l h there asks fair =
-      at_last m goal (after m (at_first m parties) past) 4 (λ rounds are long. enters_in_four parties past rounds p c l h there asks are (omega (arith, long))) schedule fair

@@ -7,7 +7,9 @@ use Rattle.spin_step.specs.declared.schedule.Move.{Move}
 use Rattle.spin_step.specs.declared.schedule.Outcome.{Outcome}
 use Rattle.spin_step.specs.Machines.{Machine}
 use Rattle.spin_step.specs.Schedules.{State, Entry, happens}
-use Rattle.spin_laws.specs.Rounds.{Test, occurs, refuses_weakly}
+use Rattle.spin_step.specs.declared.place.Hold.{Hold}
+use Rattle.spin_world_core.specs.Runs.{Seen}
+use Rattle.spin_laws.specs.Rounds.{InRounds, Test, either, occurs, refuses_weakly}
 use Rattle.spin_laws.specs.Rw.{refuses_any}
 use Rattle.spin_laws.specs.Between.{NoneFailsSpuriously, is_sure}
 use Rattle.spin_laws.specs.Progress.{InHistory}
@@ -37,15 +39,24 @@ module _ {W V C L A : Type 0} (m : Machine W V C L A) where
   any_is_weak q move o x sure = grind (arith, sure)
 
   pub without : (goal weak : Test V C L A) → IsWeak weak → (s : State W V C L) (es : Schedule) → NoneFailsSpuriously es
-      → occurs m (λ q move o x. goal q move o x || weak q move o x) s es ≡ true → occurs m goal s es ≡ true
+      → occurs m (either goal weak) s es ≡ true → occurs m goal s es ≡ true
   without goal weak never s [] sure some = absurd (false≢true some)
   without goal weak never s (e ∷ es) sure some =
       let h = happens m s e.0 e.1 in grind (arith, sure, some, never e.0 e.1 h.outcome (slice_get h.next.seats e.0), without goal weak never h.next es)
 
 module _ {W V C L A B X S : Type 0} {t : Table W V C L B} {by : Machine W V C L A} {k : Notes t} (seat_of : X → Seat C L) (words_of : W → ℕ × S) (f : Plays by k) where
-  -- what holds of any rounds without spurious failures holds of each cut of a history of threads
-  pub in_history : (played t by).lock_kind.makes_value ≡ false → (log : List (Entry C V)) (words : ℕ × S) (parties : List (Numbered X)) → IsRun (played t by) seat_of words_of log words parties
-      → (P : ℕ → List (Entry C V) → List (List (Entry C V)) → Type 0) → ((n : ℕ) (past : List (Entry C V)) (rounds : List (List (Entry C V))) → NoneFailsSpuriously (joined rounds) → P n past rounds) → InHistory (played t by) log P
-  in_history strong log words parties run P each =
-      let n = length (map kind run.0) in
-      (n, run.6, λ past rest rounds cut. each n past rounds (sure_part (played t by) past (joined rounds) rest (subst NoneFailsSpuriously cut (none_fails seat_of words_of f strong log run.8))))
+  -- what is promised of any rounds, or else a spurious failure, holds of the rounds of a history of threads
+  pub in_history : (played t by).lock_kind.makes_value ≡ false → (log : List (Entry C V)) (words : ℕ × S) (parties : List (Numbered X))
+      → IsRun (played t by) seat_of words_of log words parties → let m = played t by in
+      (Q : Seen W V C L → ℕ → C → Option Hold → Type 0) (bound : ℕ → List (Entry C V) → ℕ) (goal weak : ℕ → Test V C L A)
+      → ((p : ℕ) → IsWeak m (weak p))
+      → ((n : ℕ) (past : List (Entry C V)) (rounds : List (List (Entry C V))) → InRounds m Q (bound n past) (λ p. either (goal p) (weak p)) n past rounds)
+      → InHistory m log (λ n past. InRounds m Q (bound n past) goal n past)
+  in_history strong log words parties run Q bound goal weak fails promised =
+      let m = played t by in let sure = none_fails seat_of words_of f strong log run.8 in (
+        length (map kind run.0),
+        run.6,
+        λ past rest rounds cut p c l h there so are few.
+            without m (goal p) (weak p) (fails p) _ (joined rounds) (sure_part m past (joined rounds) rest (subst NoneFailsSpuriously cut sure))
+            (promised _ past rounds p c l h there so are few),
+      )

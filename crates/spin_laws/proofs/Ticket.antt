@@ -1,12 +1,11 @@
 -- In how many rounds a `lock` is granted: first until the call has its ticket, and then with this ticket.
-use Rattle.spin_laws.proofs.Names.{seat_of, Knows, empty_is, max, ◌++◌, ◌⊎◌, cases_lt, resting, if◌then◌else◌, ◌≡◌, ℕ, ◌+◌, ◌-◌, ◌<◌, ◌≤◌, ◌==◌, Bool, true, false, not, Option, Some, None, List, [], ◌∷◌, refl, ap, sym, ◌∙◌, arith, filter, slice_get, Plain, Change, is_empty, apply_some, IsOpenStep, Seen, scene, opening, ticket_machine, Plays, after, at_first, seen_after, zero, ticket_limit, Answer, Hold, Calling, Holding, Move, Step, TicketWords, TicketCall, TicketPoint, Take, suc, ◌*◌, ◌&&◌, subst, inr, ⊎_elim, length, nat_lt, and_parts, cases_eq, eqb-true, ne_eqb, eq-eqb, lt-ltb, Seat, Next, BelongsTo, Mark, joined, Machine, occurs, AreRounds, grants, Scene, scene_at, State, happens, eqb_self, get-set_same, Invariant, in_call, good_after, state-seen_after, good, state_is, numbers_are, calls_so, calls, EntersInRounds, IsNeverStarved, LocksInRounds, slice_get_past, length-happens}
-use Rattle.spin_world.proofs.TicketNames.{Entries, Numbered, enters_in_turn, serving-taken, stands, serving-moves, asks_of, bit, Lock, Release, Await, queued, Queued, LoadNext, Serve, is_first, serving_word}
+use Rattle.spin_laws.proofs.Names.{seat_of, Knows, empty_is, max, ◌++◌, ◌⊎◌, cases_lt, resting, if◌then◌else◌, ◌≡◌, ℕ, ◌+◌, ◌-◌, ◌<◌, ◌≤◌, ◌==◌, Bool, true, false, not, Option, Some, None, List, [], ◌∷◌, refl, ap, sym, ◌∙◌, arith, filter, slice_get, Plain, Change, is_empty, apply_some, IsOpenStep, Seen, scene, opening, ticket_machine, Plays, after, at_first, seen_after, zero, ticket_limit, Answer, Hold, Calling, Holding, Move, Step, TicketWords, TicketCall, TicketPoint, Take, suc, ◌*◌, ◌&&◌, subst, inr, ⊎_elim, length, nat_lt, and_parts, cases_eq, eqb-true, ne_eqb, eq-eqb, lt-ltb, Seat, Next, BelongsTo, Mark, joined, Machine, occurs, AreRounds, grants_party, Scene, scene_at, State, happens, eqb_self, get-set_same, Invariant, in_call, good_after, state-seen_after, good, state_is, numbers_are, calls_so, calls, EntersInRounds, LocksInRounds, slice_get_past, length-happens}
+use Rattle.spin_world.proofs.TicketNames.{Entries, HasTicketNumbers, enters_in_turn, serving-taken, stands, serving-moves, asks_of, bit, Lock, Release, Await, queued, Queued, LoadNext, Serve, is_first, serving_word}
 use Rattle.spin_world.proofs.TicketOwed.{ticket_notes, ticket_facts}
 use Rattle.spin_step.specs.TicketKind.{ticket}
 use Rattle.spin_step.proofs.Tickets.{serving-gone}
 use Rattle.spin_step.specs.Tickets.{numbered_from}
 use Rattle.spin_world_core.proofs.Names.{length-replicate, true≢false, slice_get_within}
-use Rattle.spin_laws.proofs.Endless.{at_last}
 use Rattle.spin_laws.proofs.Loads.{Wait}
 use Rattle.spin_laws.proofs.Waiting.{is_busy}
 use Rattle.spin_step.specs.declared.place.Hold.TheVariants as hold
@@ -35,16 +34,12 @@ later p n k ts numbers e ne = grind (arith, in_queue)
 stays_empty : (s : Plain) (q : ℕ) (step : Option Change) → is_empty s.tickets ≡ true → IsOpenStep s q step → (apply_some s step).next ≤ s.next → (apply_some s step).tickets ≡ []
 stays_empty s q step none opens same = grind (arith, empty_is)
 
--- the party of the first ticket has a ticket
-first_own : (ts : List Queued) → is_empty ts ≡ false → is_empty (own (first_party ts) ts) ≡ false
-first_own ts some = grind (arith, eqb_self)
-
 -- if the first ticket is p's and has not entered, this ticket may enter
 first_turn : (p n : ℕ) (ts : List Queued) → own p ts ≡ queued p n false ∷ [] → p ≡ first_party ts → is_first p false ts ≡ true
 first_turn p n ts mine is = grind (arith, eqb_self)
 
 -- another party's step does not change the first ticket's party and number
-leaves_first : (s : Plain) (q : ℕ) (step : Option Change) → is_empty s.tickets ≡ false → Numbered s → (q ≡ first_party s.tickets → ⊥) → IsOpenStep s q step → BelongsTo ticket step
+leaves_first : (s : Plain) (q : ℕ) (step : Option Change) → is_empty s.tickets ≡ false → HasTicketNumbers s → (q ≡ first_party s.tickets → ⊥) → IsOpenStep s q step → BelongsTo ticket step
     → (first_party (apply_some s step).tickets ≡ first_party s.tickets) × (serving_word (apply_some s step) ≡ serving_word s)
 leaves_first s q step some numbered ne may belongs = grind (arith, serving-moves)
 
@@ -119,9 +114,6 @@ next_grows s step = grind arith
 abbrev doorway : ℕ → ℕ → Bool → ℕ
 doorway n taken next = (if nat_lt taken 2 then 2 else max 2 (3 * n - 2)) + taken - (if next then 1 else 0)
 
-doorway_next : (n taken r : ℕ) → doorway n taken false ≤ suc r → doorway n taken true ≤ r
-doorway_next n taken r le = grind (arith, le)
-
 doorway_less : (n taken later : ℕ) (next soon : Bool) → later < taken → doorway n later soon ≤ doorway n taken next
 doorway_less n taken later next soon less = grind (arith, less)
 
@@ -137,9 +129,6 @@ doorway_long n taken r next many le = grind (arith, many, le)
 
 bit_few : (b : Bool) → (if b then 1 else 0) ≤ 1
 bit_few b = grind arith
-
-at_most_one : (a b p r : ℕ) → (a ≡ b) ⊎ (1 ≤ r) → (if a == p then 1 else 0) ≤ max (if b == p then 1 else 0) r
-at_most_one a b p r either = grind (arith, either)
 
 abbrev has_ticket : Entries → Bool
 has_ticket e = not (is_empty e.tickets)
@@ -198,12 +187,9 @@ module _ {V : Type 0} (v : V) (first : ℕ) where
   next_of : (seen : World) → Invariant f seen → seen.state.words.next ≡ seen.plain.next
   next_of seen good = cc (good.encodes)
 
-  none_two : (q : ℕ) (o : Option TicketSeat) → SitsSo two q o → ⊥
-  none_two q o so = grind (arith, so)
-
   module _ (seen : World) (good : Invariant f seen) where
     each_one : (q : ℕ) → length (own q seen.plain.tickets) ≤ 1
-    each_one q = grind (arith, none_two q (seat_of seen q), walk.sits_so (ticket_notes v first) two seen good q)
+    each_one q = grind (arith, walk.sits_so (ticket_notes v first) two seen good q)
 
     nobody : (q : ℕ) → length seen.state.seats ≤ q → is_empty (own q seen.plain.tickets) ≡ true
     nobody q past = grind (arith, slice_get_past seen.state.seats q past)
@@ -213,7 +199,7 @@ module _ {V : Type 0} (v : V) (first : ℕ) where
 
   module _ (p n N : ℕ) where
     abbrev x : Wait TicketWords V TicketCall TicketPoint (Answer V)
-    x = record { goal = grants m p; party = p; call = Lock; hold = None; At = at_lock N; Known = λ seen. length seen.state.seats ≡ n; Fine = λ seen. seen.plain.next ≤ N; mine = mine_by p n N; theirs = theirs_by N }
+    x = record { goal = grants_party m p; party = p; call = Lock; hold = None; At = at_lock N; Known = λ seen. length seen.state.seats ≡ n; Fine = λ seen. seen.plain.next ≤ N; mine = mine_by p n N; theirs = theirs_by N }
 
     abbrev its : World → TicketPoint → Scene TicketWords V TicketCall TicketPoint (Answer V)
     its seen l = scene_at m seen p Step (Some (Calling Lock l None))
@@ -225,20 +211,17 @@ module _ {V : Type 0} (v : V) (first : ℕ) where
       abbrev d : ℕ
       d = first_party s.tickets
 
-      abbrev numbered : Numbered s
+      abbrev numbered : HasTicketNumbers s
       numbered = w.3.shape.numbered
 
       serving_is : seen.state.words.serving ≡ serving_word s
       serving_is = let good = w.3 in cc (good.encodes)
 
-      next_is : seen.state.words.next ≡ s.next
-      next_is = next_of seen w.3
-
       among : p < n
       among = omega (arith, w.2, slice_get_within seen.state.seats p _ w.0)
 
       his_sits : is_empty s.tickets ≡ false → SitsSo has_ticket d (seat_of seen d)
-      his_sits some = walk.sits_so (ticket_notes v first) has_ticket seen w.3 d (ap not (first_own s.tickets some))
+      his_sits some = walk.sits_so (ticket_notes v first) has_ticket seen w.3 d (grind (arith, some, eqb_self))
 
       turn_of : (q j : ℕ) → own q s.tickets ≡ queued q j false ∷ [] → (seen.state.words.serving == j) ≡ is_first q false s.tickets
       turn_of q j his = ap (λ i. i == j) serving_is ∙ sym (enters_in_turn s q (serving_word s) j numbered refl his)
@@ -296,26 +279,23 @@ module _ {V : Type 0} (v : V) (first : ℕ) where
 
     -- Before p has a ticket
 
-    no_ticket : (seen : World) (l : TicketPoint) → walk.Waits f x seen l → at_door l → is_empty (own p seen.plain.tickets) ≡ true
-    no_ticket seen l w door = grind (arith, in_call)
-
     -- while p has no ticket, there are fewer tickets than parties
     queue_few : (seen : World) (l : TicketPoint) → walk.Waits f x seen l → at_door l → seen.plain.next - serving_word seen.plain + 1 ≤ n
     queue_few seen l w door =
         let ts = seen.plain.tickets in
-        omega (arith, numbered seen l w, all_in n ts (λ q past. nobody seen w.3 q (omega (arith, past, w.2))), fewer p n ts (each_one seen w.3) (no_ticket seen l w door) (among seen l w))
+        omega (arith, numbered seen l w, all_in n ts (λ q past. nobody seen w.3 q (omega (arith, past, w.2))), fewer p n ts (each_one seen w.3) (grind (arith, in_call, door)) (among seen l w))
 
     module _ (seen : World) (l : TicketPoint) (w : walk.Waits f x seen l) (r : ℕ) (within : walk.Within f x seen l (suc r)) where
       abbrev sc : Scene TicketWords V TicketCall TicketPoint (Answer V)
       sc = its seen l
 
       left_is : N < ticket_limit → seen.plain.next ≤ N → nat_lt seen.state.words.next ticket_limit ≡ true
-      left_is room low = lt-ltb seen.state.words.next ticket_limit (omega (arith, next_is seen l w, low, room))
+      left_is room low = lt-ltb seen.state.words.next ticket_limit (omega (arith, next_of seen w.3, low, room))
 
       -- the call's step finds the next number, and the call then tries to take it
       goes_for_next : N < ticket_limit → mine_by p n N seen.plain l ≡ doorway n (N - seen.plain.next) false → ((o : ℕ) (his : Option TicketSeat) → theirs_by N seen.plain (Take seen.state.words.next) o his ≡ theirs_by N seen.plain l o his)
           → seat_of sc.after p ≡ Some (Calling Lock (Take seen.state.words.next) None) → sc.after.plain ≡ seen.plain → walk.Own f x seen l r sc
-      goes_for_next room stale same at plain = grind (arith, eq-eqb, doorway_next)
+      goes_for_next room stale same at plain = grind (arith, eq-eqb)
 
     -- the party takes its ticket, whose number was the next one
     own_taken : (seen : World) (j r : ℕ) → (w : walk.Waits f x seen (Take j)) → walk.Within f x seen (Take j) (suc r) → walk.After f x seen p (its seen (Take j)) → seen.state.words.next ≡ j → nat_lt seen.state.words.next ticket_limit ≡ true → walk.Own f x seen (Take j) r (its seen (Take j))
@@ -335,7 +315,7 @@ module _ {V : Type 0} (v : V) (first : ℕ) where
         taken = rw (eq-eqb seen.state.words.next j e, left) (refl, refl)
 
         fresh : doorway n (N - s.next) true ≤ suc r
-        fresh = omega (arith, within.mine, ap (doorway n (N - s.next)) (eq-eqb j s.next (sym e ∙ next_is seen (Take j) w)))
+        fresh = omega (arith, within.mine, ap (doorway n (N - s.next)) (eq-eqb j s.next (sym e ∙ next_of seen w.3)))
 
         one_left : s.next + 1 ≤ N
         one_left = omega (arith, made.fine, taken.0)
@@ -348,14 +328,14 @@ module _ {V : Type 0} (v : V) (first : ℕ) where
 
         others_now : (o : ℕ) → (o ≡ p → ⊥) → ahead j (serving_word sc.after.plain) sc.after.plain.tickets o (seat_of seen o) ≤ max (theirs_by N s (Take j) o (seat_of seen o)) r
         others_now o other =
-            grind (arith, cases_lt (N - s.next) 2, serves_same, taken.1, e, next_is seen (Take j) w, one_left, ahead_most, left_few, few_ahead, doorway_long n (N - s.next) r true, fresh, ahead_other, ahead_same, other)
+            grind (arith, cases_lt (N - s.next) 2, serves_same, taken.1, e, next_of seen w.3, one_left, ahead_most, left_few, few_ahead, doorway_long n (N - s.next) r true, fresh, ahead_other, ahead_same, other)
 
     own_take : (seen : World) (j r : ℕ) → (w : walk.Waits f x seen (Take j)) → walk.Within f x seen (Take j) (suc r) → walk.After f x seen p (its seen (Take j)) → walk.Own f x seen (Take j) r (its seen (Take j))
     own_take seen j r w within made =
         ⊎_elim (λ (e : seen.state.words.next ≡ j). own_taken seen j r w within made e left)
         (λ (ne : seen.state.words.next ≡ j → ⊥).
         let other = ne_eqb seen.state.words.next j ne in
-        goes_for_next seen (Take j) w r within w.1 (ap (doorway n (N - seen.plain.next)) (ne_eqb j seen.plain.next (λ e. absurd (ne (next_is seen (Take j) w ∙ sym e))))) (λ o his. refl)
+        goes_for_next seen (Take j) w r within w.1 (ap (doorway n (N - seen.plain.next)) (ne_eqb j seen.plain.next (λ e. absurd (ne (next_of seen w.3 ∙ sym e))))) (λ o his. refl)
         (rw (other, left) (get-set_same seen.state.seats p _ _ w.0)) (rw other refl))
         (cases_eq seen.state.words.next j)
       where
@@ -377,7 +357,7 @@ module _ {V : Type 0} (v : V) (first : ℕ) where
       steps_with : (t : ℕ) → l ≡ Await t → walk.After f x seen q y → walk.Falls f x seen (Await t) q y r
       steps_with t is made =
           let turned = turns seen l w t r (some seen l w t is) (behind seen l w t is) q c i h ne at made (subst (λ o. ahead t (serving_word seen.plain) seen.plain.tickets q o ≤ suc r) at (subst (λ i. theirs_by N seen.plain i q (seat_of seen q) ≤ suc r) is (within.theirs q ne))) in
-          record { his = turned.mine; mine = at_most_one (first_party y.after.plain.tickets) (first_party seen.plain.tickets) p r turned.first_same; others = λ o other not_his. turned.others o not_his }
+          record { his = turned.mine; mine = grind (arith, turned.first_same); others = λ o other not_his. turned.others o not_his }
 
       module _ (door : at_door l) (made : walk.After f x seen q y) (fits : doorway n (N - seen.plain.next) (is_fresh l seen.plain.next) ≤ suc r) where
         abbrev next : ℕ
@@ -441,12 +421,9 @@ module _ {V : Type 0} (v : V) (first : ℕ) where
         grind (arith, none.mine, none.theirs (first_party seen.plain.tickets), behind seen (Await t) w t refl, ahead_own, some seen (Await t) w t refl, cases_eq (first_party seen.plain.tickets) p, eq-eqb)
     some_load seen l w none = grind (arith, none.mine, doorway_fits, w.1)
 
-    door_few : (seen : World) (l : TicketPoint) → walk.Waits f x seen l → at_door l → (q : ℕ) → (if N - seen.plain.next == 1 then ahead seen.plain.next (serving_word seen.plain) seen.plain.tickets q (seat_of seen q) else 0) ≤ max 2 (3 * n - 2) + (N - seen.plain.next)
-    door_few seen l w door q = grind (arith, queue_few seen l w door, ahead_most seen.plain.next (serving_word seen.plain) seen.plain.tickets q (seat_of seen q), left_few (seat_of seen q))
-
     -- the loads at the start are at most the bound
     loads_few : (seen : World) (l : TicketPoint) → walk.Waits f x seen l → walk.Within f x seen l (max 2 (3 * n - 2) + (N - seen.plain.next))
-    loads_few seen l w = grind (arith, bit_few, near, ahead_most, left_few, doorway_fits, next, door_few)
+    loads_few seen l w = grind (arith, bit_few, near, ahead_most, left_few, doorway_fits, next, queue_few)
 
     walks : walk.Walks f x
     walks =
@@ -492,19 +469,15 @@ module _ {V : Type 0} (v : V) (first : ℕ) where
     many = ap (λ (x : State TicketWords V TicketCall TicketPoint). length x.seats) (state_is f n past) ∙ (parties past (at_first m n) ∙ length-replicate n _)
 
     granted_in : (p : ℕ) (l : TicketPoint) (rounds : List (List (ℕ × Move TicketCall V))) → let N = last rounds in slice_get now.seats p ≡ Some (Calling Lock l None) → at_lock N l → AreRounds m now rounds → (walk.Waits f (x p n N) seen l → walk.Within f (x p n N) seen l (length rounds))
-        → occurs m (grants m p) now (joined rounds) ≡ true
+        → occurs m (grants_party m p) now (joined rounds) ≡ true
     granted_in p l rounds there at are enough = walk.ends f (x p n (last rounds)) (walks p n (last rounds)) n past rounds l there at many (omega arith) are enough
 
     pub enters_in_rounds : (rounds : List (List (ℕ × Move TicketCall V))) → EntersInRounds m n past rounds
-    enters_in_rounds rounds p t c l h there with_it are long =
+    enters_in_rounds rounds t p c l h there with_it are long =
         let at : Some (Calling c l h) ≡ Some (Calling Lock (Await t) None) = grind (arith, eqb-true, and_parts, calls_so f n past (λ e. waits_by t e.tickets) p there (ap (λ (e : Entries). waits_by t e.tickets) with_it ∙ rw (eqb_self t) refl)) in
         let long_here : 3 * (t - serving_word seen.plain) + 1 ≤ length rounds = omega (arith, long, ap (λ z. t - z) numbers.1) in
         granted_in p (Await t) rounds (there ∙ at) tt are
         (λ w. record { mine = omega (arith, bit_few (first_party seen.plain.tickets == p), long_here); theirs = λ q ne. omega (arith, long_here, ahead_most t (serving_word seen.plain) seen.plain.tickets q (seat_of seen q), left_few (seat_of seen q)) })
-
-    pub never_starved : (schedule : ℕ → ℕ × Move TicketCall V) → IsNeverStarved m n past schedule
-    never_starved schedule p t c l h there with_it fair =
-        at_last m (grants m p) now (3 * (t - now.words.serving) + 1) (λ rounds are long. enters_in_rounds rounds p t c l h there with_it are (omega (arith, long))) schedule fair
 
     pub locks_in_rounds : (rounds : List (List (ℕ × Move TicketCall V))) → LocksInRounds m n past rounds
     locks_in_rounds rounds p c l h there asks are room long =

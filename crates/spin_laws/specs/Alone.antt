@@ -26,8 +26,7 @@ disturbs m p s (e ∷ es) =
 
 -- the party's call is answered, or its exchange fails spuriously
 abbrev pub ends_or_fails : {V C L A : Type 0} → ℕ → Test V C L A
-ends_or_fails p q move (outcome.Answered a b) x = q == p
-ends_or_fails p q move o x = refuses_weakly p q move o x
+ends_or_fails p q move o x = elim o [ outcome.Answered a b ↦ q == p | other ↦ refuses_weakly p q move other x ]
 
 -- Suppose that a party's call waits, and that what the call asks is open. Take as many rounds as an undisturbed call
 -- takes steps (`steps_alone`), at least one. In them the call is answered, or another party changes a word, or the

@@ -19,21 +19,24 @@ use Rattle.spin_world_core.specs.Users.{seen_after}
 abbrev pub IsInCall : {C L : Type 0} → C → Option (Seat C L) → Type 0
 IsInCall {L = L} call seat = (l : L) × (held : Option Hold) × (seat ≡ Some (Calling call l held))
 
+-- A pass with this view is a party of a world. The world has the history `new`, and none of its moves is skipped.
+pub record OfPass {W V C L A X : Type 0} (m : Machine W V C L A) (view : Option (Numbered X)) (new : List (Entry C V)) : Type 0 where
+  pub party : ℕ
+  pub is_number : IsNumber party view
+  pub parties : ℕ
+  pub played : IsPlayed m parties new
+
 -- At some moment of a party's call the plain lock satisfied P. Before the call the party knew the history `old`. After
 -- the call the party has this view and knows the history `new`.
 pub record AtAMoment {W V C L A X : Type 0} (m : Machine W V C L A) (call : C) (view : Option (Numbered X)) (old new : List (Entry C V)) (P : Plain → Type 0) : Type 0 where
-  pub party : ℕ
-  pub is_number : IsNumber party view
-  -- `new` is the history of a world with this many parties, and none of its moves is skipped
-  pub parties : ℕ
-  pub played : IsPlayed m parties new
+  pub pass : OfPass m view new
   -- the history at that moment
   pub moment : List (Entry C V)
   pub behind : IsPrefix old moment
   pub before : IsPrefix moment new
   -- the party was in this call, and the plain lock satisfied P
-  pub in_call : IsInCall call (slice_get (seen_after m (opening m parties) moment).state.seats party)
-  pub so : P (seen_after m (opening m parties) moment).plain
+  pub in_call : IsInCall call (slice_get (seen_after m (opening m pass.parties) moment).state.seats pass.party)
+  pub so : P (seen_after m (opening m pass.parties) moment).plain
 
 -- `look` is a test or a count of the plain lock, and gives this answer
 abbrev pub Was : {X : Type 0} → (Plain → X) → X → Plain → Type 0
@@ -49,16 +52,12 @@ Found {V = V} {C = C} m View call answer P =
 -- Just after the step that gave a party's call this answer, the plain lock satisfied P. Before the call the party knew
 -- the history `old`. After the call the party has this view and knows the history `new`.
 pub record AsAnswered {W V C L A X : Type 0} (m : Machine W V C L A) (call : C) (answer : A) (view : Option (Numbered X)) (old new : List (Entry C V)) (P : Plain → Type 0) : Type 0 where
-  pub party : ℕ
-  pub is_number : IsNumber party view
-  -- `new` is the history of a world with this many parties, and none of its moves is skipped
-  pub parties : ℕ
-  pub played : IsPlayed m parties new
+  pub pass : OfPass m view new
   -- the history before the step that answered the call; the party was in this call then
   pub last : List (Entry C V)
   pub behind : IsPrefix old last
-  pub before : IsPrefix (last ++ (party, Step) ∷ []) new
-  pub in_call : IsInCall call (slice_get (seen_after m (opening m parties) last).state.seats party)
-  pub answers : (happens m (seen_after m (opening m parties) last).state party Step).outcome ≡ Answered answer None
+  pub before : IsPrefix (last ++ (pass.party, Step) ∷ []) new
+  pub in_call : IsInCall call (slice_get (seen_after m (opening m pass.parties) last).state.seats pass.party)
+  pub answers : (happens m (seen_after m (opening m pass.parties) last).state pass.party Step).outcome ≡ Answered answer None
   -- after that step the plain lock satisfied P
-  pub so : P (seen_after m (opening m parties) (last ++ (party, Step) ∷ [])).plain
+  pub so : P (seen_after m (opening m pass.parties) (last ++ (pass.party, Step) ∷ [])).plain

@@ -28,8 +28,8 @@ ghost use Rattle.spin_step_more.specs.Readers.{reader_limit};
 ghost use Rattle.spin_step_more.specs.Starvers.{most_starvers};
 ghost use Rattle.spin_step_more.specs.declared.fair_calls.FairCall.TheVariants as fair;
 ghost use Rattle.spin_step_more.specs.declared.rw_calls.RwCall.TheVariants as rw;
-ghost use Rattle.spin_ticket.specs.Queue as ticket_mutex;
-ghost use Rattle.spin_ticket.specs.Queue.{View as TicketMutexView};
+ghost use Rattle.spin_mutex.specs.Queue as ticket_mutex;
+ghost use Rattle.spin_mutex.specs.Queue.{View as TicketMutexView};
 ghost use Rattle.spin_laws.specs.Moments.{Was, Found};
 ghost use Rattle.spin_laws.specs.Onces.{FoundOnce, GaveOnce, has_value};
 

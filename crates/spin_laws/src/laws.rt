@@ -18,8 +18,8 @@ ghost use Rattle.spin_once.specs.declared.once_core.rule.Stage.{Stage as OnceSta
 ghost use Rattle.spin_rwlock.specs.Rw as rwlock;
 ghost use Rattle.spin_rwlock.specs.Rw.{View as RwLockView};
 ghost use Rattle.spin_seats.specs.Rule as seats;
-ghost use Rattle.spin_ticket.specs.Queue as ticket_mutex;
-ghost use Rattle.spin_ticket.specs.Queue.{View as TicketMutexView};
+ghost use Rattle.spin_mutex.specs.Queue as ticket_mutex;
+ghost use Rattle.spin_mutex.specs.Queue.{View as TicketMutexView};
 ghost use Rattle.spin_laws.specs.Between.{Between};
 ghost use Rattle.spin_world.specs.Fairness.{ComesAfterStarvers};
 

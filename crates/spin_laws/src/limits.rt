@@ -19,8 +19,8 @@ ghost use Rattle.spin_step_more.specs.declared.rw_calls.RwCall.TheVariants.{Upgr
 ghost use Rattle.spin_rwlock.specs.Rw as rwlock;
 ghost use Rattle.spin_rwlock.specs.Rw.{View as RwLockView};
 ghost use Rattle.spin_seats.specs.Rule as seats;
-ghost use Rattle.spin_ticket.specs.Queue as ticket_mutex;
-ghost use Rattle.spin_ticket.specs.Queue.{View as TicketMutexView};
+ghost use Rattle.spin_mutex.specs.Queue as ticket_mutex;
+ghost use Rattle.spin_mutex.specs.Queue.{View as TicketMutexView};
 ghost use Rattle.spin_laws.specs.Counts.{KeepsLimits, StepsOfCall, TakesTicketWithin, HasChanged};
 ghost use Rattle.spin_laws.specs.Turns.{EntersInTurn};
 

@@ -19,7 +19,7 @@ ghost use Rattle.spin_step_more.specs.declared.rw_calls.RwCall.{RwCall};
 ghost use Rattle.spin_world.specs.declared.rw.Rw.{Rw};
 ghost use Rattle.spin_world.specs.declared.once.OnceObject.{OnceObject};
 ghost use Rattle.spin_step.specs.declared.once_calls.OnceCall.{OnceCall};
-ghost use Rattle.spin_world.specs.Keeping.{Entries};
+ghost use Rattle.spin_world.specs.Keeping.{OnceSchedule};
 ghost use Rattle.spin_world.specs.declared.barrier.BarrierObject.{BarrierObject};
 ghost use Rattle.spin_seats.specs.declared.calls.SeatsCall.{SeatsCall};
 ghost use Rattle.spin_world_seats.specs.declared.seats.Seats.{Seats};
@@ -193,7 +193,7 @@ pub fn a_call_is_answered_in_one_round_where_there_is_a_value<V: Copy>()
 /// States that while the word says that a closure runs, some party runs this closure. The party's next step ends the
 /// closure.
 pub fn a_running_closure_has_its_party<V: Copy>()
-    ensures { (object : OnceObject V) (n : ℕ) (past : Entries V) → SomebodyRuns (⟦<OnceObject<V> as Object>⟧.machine object) n past }
+    ensures { (object : OnceObject V) (n : ℕ) (past : OnceSchedule V) → SomebodyRuns (⟦<OnceObject<V> as Object>⟧.machine object) n past }
 {}
 
 /// States that a call with a closure may starve while closures of others fail again and again.

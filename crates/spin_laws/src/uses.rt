@@ -18,8 +18,8 @@ ghost use Rattle.spin_rwlock.specs.RwPasses as rw_passes;
 ghost use Rattle.spin_step.specs.Parties.{is_held};
 ghost use Rattle.spin_step_more.specs.declared.fair_calls.FairCall.TheVariants as fair;
 ghost use Rattle.spin_step_more.specs.declared.rw_calls.RwCall.TheVariants as rw;
-ghost use Rattle.spin_ticket.specs.Queue as ticket_mutex;
-ghost use Rattle.spin_ticket.specs.TicketPasses as ticket_passes;
+ghost use Rattle.spin_mutex.specs.Queue as ticket_mutex;
+ghost use Rattle.spin_mutex.specs.TicketPasses as ticket_passes;
 ghost use Rattle.spin_laws.specs.Moments.{AtAMoment, Was};
 ghost use Rattle.spin_laws.specs.Onces.{foretold_till, has_value};
 
@@ -30,9 +30,9 @@ use crate::answers::{
 };
 use spin_fair::fair::Pass as FairPass;
 use spin_flag::spin::Pass as SpinPass;
+use spin_mutex::ticket::{Pass as TicketPass, TicketMutexGuard};
 use spin_once::once::Pass as OncePass;
 use spin_rwlock::rwlock::Pass as RwPass;
-use spin_ticket::ticket::{Pass as TicketPass, TicketMutexGuard};
 
 /// Asks once whether a `SpinMutex` is held.
 pub fn look_at_a_spin_mutex<T, R>(pass: SpinPass<'_, T, R>) -> (bool, SpinPass<'_, T, R>)

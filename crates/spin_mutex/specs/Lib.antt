@@ -1,1 +1,4 @@
-pub mod MutexGuard
+pub mod Mutex
+pub mod Queue
+pub mod TicketQueue
+pub mod TicketPasses

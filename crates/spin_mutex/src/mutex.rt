@@ -1,15 +1,14 @@
 //! `Mutex`, which uses only the contract of an inner lock. Begin at [`Mutex::lock`].
-ghost use Rattle.std.specs.Prelude.{◌≡◌, Some, IfSome};
-ghost use Rattle.spin_mutex.specs.MutexGuard.{Ends, Grants, Lock, OpensWith, TryLock, held_value, new_in, opening, value_of};
+ghost use Rattle.std.specs.Prelude.{◌≡◌, IfSome};
+ghost use Rattle.spin_mutex.specs.Mutex.{Ends, Grants, Lock, OpensWith, TryLock, new_in, opening};
 
+use crate::ticket::{self, TicketMutex, TicketMutexGuard};
 use spin_core::lock::{Lock, with_guard};
 use spin_core::relax::{RelaxStrategy, Spin};
-use spin_ticket::ticket::{self, TicketMutex, TicketMutexGuard};
-use std::marker::PhantomData;
-use std::ops::{Deref, DerefMut};
 use std::sync::Wait;
 
 mod texts;
+pub mod tickets;
 
 /// A mutual exclusion lock on which a waiting thread spins.
 ///
@@ -42,14 +41,20 @@ pub struct Mutex<T, R = Spin> {
 /// It gives access to the value by `Deref` and `DerefMut`.
 ///
 /// # Contract
-/// `value_of` is the lock's value. A read through the guard returns what was last written through it.
-#[derive(Drop)]
-#[must_use = "dropping the guard at once releases the lock: bind it, or write `drop(..)`"]
-pub struct MutexGuard<'a, T, R = Spin> {
-    inner: TicketMutexGuard<'a, T, R>,
-    // The clause of `deref_mut` needs this lifetime, and the guard's type has to name it itself.
-    life: PhantomData<&'a ()>,
-}
+/// `guard_value` is the lock's value. What is written through the guard is read through it.
+///
+/// # Examples
+/// ```
+/// use spin::{Mutex, MutexGuard};
+///
+/// let total: Mutex<u64> = Mutex::new(1);
+/// let held = MutexGuard::hold(total.lock(&rt));
+/// let guard = held.into_guard();
+/// assert_eq!(rt; *guard, 1);
+/// drop(guard);
+/// assert!(rt; !total.is_locked());
+/// ```
+pub type MutexGuard<'a, T, R = Spin> = TicketMutexGuard<'a, T, R>;
 
 /// A hold on a [`Mutex`]: it keeps the lock held without a guard, and gives no access to the value.
 ///
@@ -58,38 +63,7 @@ pub struct MutexGuard<'a, T, R = Spin> {
 ///
 /// # Contract
 /// `held_value` is the value of the guard that became this hold.
-#[derive(Drop)]
-#[must_use = "dropping a hold does not release the lock: pass it to `force_unlock`"]
-pub struct Held<'a, T, R = Spin> {
-    inner: ticket::Held<'a, T, R>,
-}
-
-impl<'a, T, R> Held<'a, T, R> {
-    /// Turns the hold into a guard again.
-    ///
-    /// # Contract
-    /// The guard has the hold's value. The call returns.
-    ///
-    /// # Examples
-    /// ```
-    /// use spin::{Mutex, MutexGuard};
-    ///
-    /// let total: Mutex<u64> = Mutex::new(1);
-    /// let held = MutexGuard::hold(total.lock(&rt));
-    /// let guard = held.into_guard();
-    /// assert_eq!(rt; *guard, 1);
-    /// drop(guard);
-    /// assert!(rt; !total.is_locked());
-    /// ```
-    pub fn into_guard(self) -> MutexGuard<'a, T, R>
-        ensures { Some (value_of result) ≡ held_value self.entry }
-    {
-        MutexGuard {
-            inner: self.inner.into_guard(),
-            life: PhantomData,
-        }
-    }
-}
+pub type Held<'a, T, R = Spin> = ticket::Held<'a, T, R>;
 
 impl<T, R> Mutex<T, R> {
     /// Creates an unlocked mutex that holds `value`.
@@ -167,11 +141,7 @@ impl<T, R> Mutex<T, R> {
     pub fn try_lock(&self) -> Option<MutexGuard<'_, T, R>>
         ensures { IfSome result (Grants TryLock (new_in (opening self.now))) }
     {
-        let inner = self.inner.try_lock()?;
-        Some(MutexGuard {
-            inner,
-            life: PhantomData,
-        })
+        self.inner.try_lock()
     }
 
     /// Returns `true` if it finds that a thread holds the lock or waits for it, else `false`.
@@ -214,7 +184,7 @@ impl<T, R> Mutex<T, R> {
     /// # Contract
     /// Only that the call returns.
     pub fn force_unlock(held: Held<'_, T, R>) {
-        TicketMutex::force_unlock(held.inner);
+        TicketMutex::force_unlock(held);
     }
 }
 
@@ -241,91 +211,10 @@ impl<T, R: RelaxStrategy> Mutex<T, R> {
     pub fn lock<W: Wait>(&self, rt: &W) -> MutexGuard<'_, T, R>
         ensures { Grants Lock (new_in (opening self.now)) result }
     {
-        MutexGuard {
-            inner: self.inner.lock(rt),
-            life: PhantomData,
-        }
+        self.inner.lock(rt)
     }
 }
 
-impl<'a, T, R> MutexGuard<'a, T, R> {
-    /// Consumes the guard and returns a mutable reference to the value.
-    ///
-    /// The lock stays held, and the reference lives as long as the borrow of the lock.
-    ///
-    /// # Contract
-    /// The reference has the value of the guard. The call returns.
-    ///
-    /// # Examples
-    /// ```
-    /// use spin::{Mutex, MutexGuard};
-    ///
-    /// let total: Mutex<u64> = Mutex::new(1);
-    /// *MutexGuard::leak(total.lock(&rt)) = 9;
-    /// assert!(rt; total.try_lock().is_none());
-    /// assert_eq!(rt; total.into_inner(), 9);
-    /// ```
-    pub fn leak(this: Self) -> &'a mut T
-        ensures { result.now ≡ value_of this.entry }
-    {
-        TicketMutexGuard::leak(this.inner)
-    }
-
-    /// Consumes the guard and keeps the lock held, until [`Mutex::force_unlock`].
-    ///
-    /// # Contract
-    /// `held_value` of the hold is the value of the guard. The call returns.
-    ///
-    /// # Examples
-    /// ```
-    /// use spin::{Mutex, MutexGuard};
-    ///
-    /// let total: Mutex<u64> = Mutex::new(1);
-    /// let held = MutexGuard::hold(total.lock(&rt));
-    /// assert!(rt; total.is_locked());
-    /// Mutex::force_unlock(held);
-    /// assert!(rt; !total.is_locked());
-    /// ```
-    pub fn hold(this: Self) -> Held<'a, T, R>
-        ensures { held_value result ≡ Some (value_of this.entry) }
-    {
-        Held {
-            inner: TicketMutexGuard::hold(this.inner),
-        }
-    }
-}
-
-impl<T, R> Deref for MutexGuard<'_, T, R> {
-    type Target = T;
-
-    ghost deref_gives = { λ g x. x ≡ value_of g };
-
-    fn deref(&self) -> &T
-        ensures { result.now ≡ value_of self.now }
-    {
-        &self.inner
-    }
-}
-
-impl<T, R> DerefMut for MutexGuard<'_, T, R> {
-    ghost use Rattle.std.specs.Prelude.{[]};
-    ghost use mir.Syntax.{named};
-    ghost use types.Logic.{sem};
-    ghost use denote.Follow.{follows};
-    ghost use Rattle.spin_mutex.specs.contracts.mutex.MutexGuard.{the_row};
-    ghost use Rattle.spin_mutex.specs.MutexGuard.{with_value};
-
-    ghost deref_mut_gives = { λ g x. x ≡ value_of g };
-
-    fn deref_mut(&mut self) -> &mut T
-        ensures* writes_back { sem 𝓛 (follows (the_row (record { mir = named 1; lft = [] }) T.row R.row) T.row self.entry.ghost_name result.ghost_name (with_value self.old)) }
-        ensures value { result.now ≡ value_of self.old }
-    {
-        self.inner.deref_mut()
-    }
-}
-
-/// Creates an unlocked mutex that holds the default value.
 impl<T: Default, R> Default for Mutex<T, R> {
     fn default() -> Self {
         Self::new(T::default())
@@ -354,15 +243,3 @@ unsafe impl<T: Send, R> Send for Mutex<T, R> {}
 
 // SAFETY: the inner lock gives the value to one holder at a time, on whatever thread.
 unsafe impl<T: Send, R> Sync for Mutex<T, R> {}
-
-// SAFETY: the new thread has the value to itself, like the old one.
-unsafe impl<T: Send, R> Send for MutexGuard<'_, T, R> {}
-
-// SAFETY: a shared guard lends a `&T` and no more.
-unsafe impl<T: Sync, R> Sync for MutexGuard<'_, T, R> {}
-
-// SAFETY: the new thread may release the lock, and so pass the value to its next user. The bounds are those of a guard.
-unsafe impl<T: Send, R> Send for Held<'_, T, R> {}
-
-// SAFETY: a shared hold lends nothing.
-unsafe impl<T: Send, R> Sync for Held<'_, T, R> {}

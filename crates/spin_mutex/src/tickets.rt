@@ -1,42 +1,45 @@
-//! The ticket numbers of a mutex, by the functions of `spin_ticket::tickets`. Begin at [`next`].
-use crate::mutex::Mutex;
-use spin_ticket::tickets;
+//! The numbers of the tickets: the next number, and a lock whose first ticket has a high number. Begin at [`next`].
+use crate::ticket::TicketMutex;
 
-/// Returns the number of the next ticket. If the mutex was created by [`Mutex::new`], this is how many
-/// tickets were taken.
+/// Returns the number of the next ticket.
+///
+/// The first ticket of a lock from [`TicketMutex::new`] has the number 0. So for this lock the answer is how many
+/// tickets were taken, and no counter beside the lock is needed.
 ///
 /// # Contract
 /// Only that the call returns.
 ///
 /// # Examples
 /// ```
-/// use spin_mutex::mutex::Mutex;
+/// use spin_mutex::ticket::TicketMutex;
 /// use spin_mutex::tickets::next;
 ///
-/// let mutex: Mutex<u64> = Mutex::new(5);
-/// drop(mutex.lock(&rt));
-/// assert_eq!(rt; next(&mutex), 1);
+/// let lock: TicketMutex<u64> = TicketMutex::new(5);
+/// drop(lock.lock(&rt));
+/// drop(lock.lock(&rt));
+/// assert_eq!(rt; next(&lock), 2);
 /// ```
-pub fn next<T, R>(mutex: &Mutex<T, R>) -> u64 {
-    tickets::next(&mutex.inner)
+pub fn next<T, R>(lock: &TicketMutex<T, R>) -> u64 {
+    lock.pass().next_number()
 }
 
-/// Creates an unlocked mutex whose first ticket has the number `first`. With a large number, tickets are soon
-/// used up.
+/// Creates an unlocked mutex whose first ticket has the number `first`.
+///
+/// A lock from [`TicketMutex::new`] has 2^64 - 1 tickets. With a late first ticket a caller can test what its program
+/// does when no ticket is left.
 ///
 /// # Contract
 /// Only that the call returns.
 ///
 /// # Examples
 /// ```
-/// use spin_mutex::mutex::Mutex;
+/// use spin_mutex::ticket::TicketMutex;
 /// use spin_mutex::tickets::starting_at;
 ///
-/// let mutex: Mutex<u64> = starting_at(5, u64::MAX);
-/// assert!(rt; mutex.try_lock().is_none());
+/// let lock: TicketMutex<u64> = starting_at(5, u64::MAX - 1);
+/// assert!(rt; lock.try_lock().is_some());
+/// assert!(rt; lock.try_lock().is_none());
 /// ```
-pub fn starting_at<T, R>(value: T, first: u64) -> Mutex<T, R> {
-    Mutex {
-        inner: tickets::starting_at(value, first),
-    }
+pub fn starting_at<T, R>(value: T, first: u64) -> TicketMutex<T, R> {
+    TicketMutex::starting_at(value, first)
 }

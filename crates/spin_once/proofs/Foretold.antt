@@ -36,13 +36,10 @@ module _ (given : Option (Unit {0})) where
   -- A party that is in no call makes no step before it begins a call. Until then no closure of this party fails.
   pub quiet : (es : List Made) (s : World) (p : ℕ) → list_all is_played (outcomes (m given) s es) ≡ true → rests (slice_get s.seats p) ≡ true → will_fail es p ≡ false
   quiet [] s p played is = refl
-  quiet (e ∷ es) s p played is =
-      let s' : World = (happens (m given) s e.0 e.1).next in
-      let each = and_parts (is_played (happens (m given) s e.0 e.1).outcome) (list_all is_played (outcomes (m given) s' es)) played in
-      by_move e.0 e.1 each.0 (λ ne. quiet es s' p each.1 (rests_after given s e.0 p is e.1 (slice_get s.seats e.0) ne))
-    where
-      by_move : (q : ℕ) (move : OneMove) → is_played (happens (m given) s q move).outcome ≡ true → ((is_step move ≡ true → q ≡ p → ⊥) → will_fail es p ≡ false) → will_fail ((q, move) ∷ es) p ≡ false
-      by_move q move played later = grind (arith, is, played, later)
+  quiet ((q, move) ∷ es) s p played is =
+      let now = happens (m given) s q move in
+      let each = and_parts (is_played now.outcome) (list_all is_played (outcomes (m given) now.next es)) played in
+      grind (arith, is, each.0, λ (ne : is_step move ≡ true → q ≡ p → ⊥). quiet es now.next p each.1 (rests_after given s q p is move (slice_get s.seats q) ne))
 
   -- from the state `o` these entries lead the object to the state `end`, and none of them is skipped
   abbrev Leads : Object → List Made → Object → Type 0
@@ -80,19 +77,18 @@ module _ (given : Option (Unit {0})) where
   pub leads_on : (es later : List Made) (s : World) → list_all is_played (outcomes (m given) s (es ++ later)) ≡ true
       → Leads (object (will_fail (es ++ later)) s) (before es later) (object (will_fail later) (after (m given) s es))
   leads_on [] later s played = (refl, refl)
-  leads_on (e ∷ es) later s played =
-      let s' : World = (happens (m given) s e.0 e.1).next in
-      let each = and_parts (is_played (happens (m given) s e.0 e.1).outcome) (list_all is_played (outcomes (m given) s' (es ++ later))) played in
-      one_more e.0 e.1 each.0 each.1 (leads_on es later s' each.1)
-    where
-      one_more : (p : ℕ) (move : OneMove) → is_played (happens (m given) s p move).outcome ≡ true → list_all is_played (outcomes (m given) (happens (m given) s p move).next (es ++ later)) ≡ true
-          → Leads (object (will_fail (es ++ later)) (happens (m given) s p move).next) (before es later) (object (will_fail later) (after (m given) (happens (m given) s p move).next es))
-          → Leads (object (will_fail ((p, move) ∷ es ++ later)) s) (before ((p, move) ∷ es) later) (object (will_fail later) (after (m given) s ((p, move) ∷ es)))
-      one_more p Weak head tail ends = rw (weak_alike s p (es ++ later) (slice_get s.seats p) refl head) ends
-      one_more p move head tail ends =
-          let alike = happens_alike (will_fail (es ++ later)) s p move (λ still. quiet (es ++ later) (happens (m given) s p move).next p tail still) (λ e. absurd (cc e)) in
-          subst (λ o. Leads o ((p, renamed move (will_fail (es ++ later) p)) ∷ before es later) (object (will_fail later) (after (m given) s ((p, move) ∷ es)))) (sym (named_later s p move (es ++ later) head (λ e. absurd (cc e))))
-          (rw (alike.0, alike.1, head, after) ends)
+  leads_on ((p, Weak) ∷ es) later s played =
+      let now = happens (m given) s p Weak in
+      let each = and_parts (is_played now.outcome) (list_all is_played (outcomes (m given) now.next (es ++ later))) played in
+      rw (weak_alike s p (es ++ later) (slice_get s.seats p) refl each.0) (leads_on es later now.next each.1)
+  leads_on ((p, move) ∷ es) later s played =
+      let now = happens (m given) s p move in let f = will_fail (es ++ later) in
+      let each = and_parts (is_played now.outcome) (list_all is_played (outcomes (m given) now.next (es ++ later))) played in
+      let alike = happens_alike f s p move (λ still. quiet (es ++ later) now.next p each.1 still) (λ e. absurd (cc e)) in
+      let end : Object = object (will_fail later) (after (m given) s ((p, move) ∷ es)) in
+      subst (λ o. Leads o ((p, renamed move (f p)) ∷ before es later) end)
+      (sym (named_later s p move (es ++ later) each.0 (λ e. absurd (cc e))))
+      (rw (alike.0, alike.1, each.0, after) (leads_on es later now.next each.1))
 
   -- the whole schedule leads the object where all moves lead the model
   pub all_alike : (es : List Made) (s : World) → list_all is_played (outcomes (m given) s es) ≡ true → Leads (object (will_fail es) s) (foretold es) (object (λ p. false) (after (m given) s es))
@@ -104,13 +100,8 @@ named_kept (TryCallOnceOk v) = refl
 named_kept c = refl
 
 module _ (given : Option (Unit {0})) where
-  abbrev sitting : List (Option View) → List (Seat Call Point)
-  sitting came = map (sits (m given) seat_of words_of) came
-
-  abbrev placed_at : List (Option View) → List (Seat Call OncePoint)
-  placed_at came = map (sits (t given) place_of words_of) came
-
-  places : (came : List (Option View)) (more : ℕ) → seats_named (λ p. false) (sitting came ++ replicate more Idle) ≡ placed_at came ++ replicate more Idle
+  places : (came : List (Option View)) (more : ℕ)
+      → seats_named (λ p. false) (map (sits (m given) seat_of words_of) came ++ replicate more Idle) ≡ map (sits (t given) place_of words_of) came ++ replicate more Idle
   places [] more = named_idle (λ p. false) more
   places (v ∷ came) more = grind (arith, named_kept, places came more)
 
@@ -141,15 +132,10 @@ present_marked log k [] = refl
 present_marked log k (v ∷ came) = grind (arith, present_marked log (suc k) came)
 
 -- the rest of the object's schedule, after its part for the first `n` moves
-cut : (n : ℕ) (es : List Made) → drop (length (foretold (take n es))) (foretold es) ≡ foretold (drop n es)
-cut zero es = refl
-cut (suc n) [] = refl
+cut : (n : ℕ) (es : List Made) → (length (foretold (take n es)) ≤ length (foretold es)) × (drop (length (foretold (take n es))) (foretold es) ≡ foretold (drop n es))
+cut zero es = (omega arith, refl)
+cut (suc n) [] = (omega arith, refl)
 cut (suc n) (e ∷ es) = grind (arith, cut n es)
-
-fewer : (n : ℕ) (es : List Made) → length (foretold (take n es)) ≤ length (foretold es)
-fewer zero es = omega arith
-fewer (suc n) [] = omega arith
-fewer (suc n) (e ∷ es) = grind (arith, fewer n es)
 
 none_told : (q : ℕ) (es : List Made) → entries_by q es ≡ [] → entries_by q (foretold es) ≡ []
 none_told q [] is = refl
@@ -158,7 +144,7 @@ none_told q (e ∷ es) is = grind (arith, is, none_told q es)
 rested_marked : (log : List Made) (k : ℕ) (came : List Came) → Rested log k came → Rested (foretold log) k (map (marked log) came)
 rested_marked log k [] is = λ q ge. none_told q log (is q ge)
 rested_marked log k (None ∷ came) is = (tt, rested_marked log (suc k) came is.1)
-rested_marked log k (Some u ∷ came) is = ((fewer u.1 log, ap (entries_by k) (cut u.1 log) ∙ none_told k (drop u.1 log) is.0.1), rested_marked log (suc k) came is.1)
+rested_marked log k (Some u ∷ came) is = (((cut u.1 log).0, ap (entries_by k) (cut u.1 log).1 ∙ none_told k (drop u.1 log) is.0.1), rested_marked log (suc k) came is.1)
 
 -- ---- the moves of the parties
 module _ (given : Option (Unit {0})) where

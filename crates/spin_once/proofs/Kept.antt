@@ -1,12 +1,14 @@
 -- Each step keeps the rule of a value that is made once, and appends its moves to the trace.
 use Rattle.std.proofs.Common.{◌≡◌, ◌≢◌, Bool, true, false, ℕ, zero, suc, ◌+◌, ◌<◌, List, [], ◌∷◌, Option, Some, None, refl, sym, ap, ◌∙◌, subst, arith}
-use mathlib.Core.Logic.{◌⊎◌, inl, inr}
-use Rattle.spin_core.specs.Cell.{off, reads, writes, use_of, alone, Fixed, Opens, Rests, Lends, Knowing, readers_of, writers_of, no_fact}
+use mathlib.Core.Logic.{◌⊎◌}
+use Rattle.std.specs.Option.{MatchOption}
+use Rattle.std.proofs.lemmas.List.Folds.{fold-map}
+use Rattle.spin_once.specs.Passes.{Ends}
+use Rattle.spin_core.specs.Cell.{off, reads, writes, writing, use_of, alone, Fixed, Opens, Starts, Rests, Lends, Knowing, readers_of, writers_of, no_fact}
 use Rattle.spin_core.specs.Own.{Numbered, what, IsRun, Runs, Tells}
 use Rattle.spin_core.specs.Passes.{IsStep, Ending}
 use Rattle.spin_core.specs.Stable.{maybe_stable, StableAt}
 use Rattle.spin_core.specs.Traced.{Traces}
-use Rattle.spin_core.specs.declared.cell.stable.MaybeStable.{MaybeStable}
 use Rattle.spin_core.specs.declared.tie.Opening.{Opening}
 use Rattle.spin_core.specs.declared.trace.Trace.{Trace}
 use Rattle.spin_core.proofs.CellWays.{knowing_rest}
@@ -22,38 +24,24 @@ use Rattle.spin_step.specs.Schedules.{Entry}
 use Rattle.spin_step.specs.declared.once_calls.OnceCall.TheVariants.{TryCallOnceOk, Wait}
 use Rattle.spin_step.specs.declared.once_calls.OncePoint.{OncePoint}
 use Rattle.spin_step.specs.declared.once_calls.OncePoint.TheVariants.{Look, Run}
-use Rattle.spin_step.specs.declared.place.Seat.TheVariants.{Idle, Calling}
+use Rattle.spin_step.specs.declared.place.Seat.TheVariants.{Idle}
 use Rattle.spin_step.specs.declared.schedule.Move.TheVariants.{Write, Weak, Step}
 use Rattle.spin_once.specs.Model.{model}
-use Rattle.spin_once.specs.OnceValues.{Valued, bare, bare_trace, given_of, made, AtMostOne, IsMade, lent_key}
-use Rattle.spin_once.specs.Once.{Call, View, OneMove, HasClosure, IsAt, use_of_view, use_of_party, Word, reader, in_call, is_run, is_running, is_done, IsMadeFrom, once_ways, seat_of, words_of, Says, IsOnce, Told, next_at, view_of, turn, turn_by, fails_by}
+use Rattle.spin_once.specs.OnceValues.{Content, Valued, bare, bare_trace, given_of, made, AtMostOne, IsMade, lent_key, value_in}
+use Rattle.spin_once.specs.Once.{Call, View, OneMove, HasClosure, IsAt, use_of_view, use_of_party, Word, IsPhase, reader, in_call, is_run, runs_closure, is_done, IsMadeFrom, once_ways, seat_of, words_of, Says, IsOnce, Told, next_at, view_of, turn, fails_by}
 use Rattle.spin_once.specs.declared.once_core.rule.Key.{Key}
 use Rattle.spin_once.specs.declared.once_core.rule.Stage.{Stage}
 use Rattle.spin_once.specs.declared.once_core.rule.Stage.TheVariants.{Seed, Done}
 use Rattle.spin_once.proofs.Steps as steps
 use Rattle.spin_once.proofs.Steps.{ComesTo, May, Fits}
-use Rattle.spin_once.proofs.Moves.{Moves, after_word, finding, turn_moves, fail_moves, words_at, free_at, fits_at, ends_at}
-use Rattle.spin_once.proofs.Valued.{valued, writes_none, none_written, plainly, bare_moves, Leaving}
+use Rattle.spin_once.proofs.Moves.{Moves, after_word, finding, gives_by, turn_moves, fail_moves, give_moves, fits_at}
+use Rattle.spin_once.proofs.Valued.{valued, writes_none, none_written, plainly, bare_moves}
 
 -- while a closure runs the word is 1, and the history has no value
 none_yet : {T : Type 0} (n : ℕ) (vs : List T) → AtMostOne n vs → n ≡ 1 → vs ≡ []
 none_yet n vs few one = grind (arith, few, one)
 
--- a party that does not run a closure does not use the content, or reads it and begins a call
-pub quiet_use : (c : Call) (l : OncePoint) (view : Option View) → IsAt c l view → is_run l ≡ false → (use_of use_of_view view ≡ off) ⊎ ((use_of use_of_view view ≡ reads) × (l ≡ Look))
-quiet_use c l view at quiet = grind (arith, at, quiet)
-
--- the play of a step is that of its point
-pub turn_is : (c : Call) (l : OncePoint) (view : Option View) → IsAt c l view → turn_by (Some c) view ≡ turn (has_begun view) c l
-turn_is c l view (inl is) = rw is refl
-turn_is c l (Some (Calling d k h)) (inr (look, out)) = absurd (cc out)
-turn_is c l _ (inr (look, out)) = rw look refl
-
--- a party in a call makes the step of this call, whichever call it may begin
-pub any_call : (first c : Call) (l : OncePoint) (view : Option View) → view ≡ Some (in_call c l) → turn_by (Some first) view ≡ turn_by (Some c) view
-any_call first c l view is = rw is refl
-
-pub running_call : (view : Option View) → is_running view ≡ true → (c : Call) × HasClosure c × (view ≡ Some (in_call c Run))
+pub running_call : (view : Option View) → runs_closure view ≡ true → (c : Call) × HasClosure c × (view ≡ Some (in_call c Run))
 running_call view is = grind (arith, is)
 
 -- a party that runs its closure writes
@@ -61,34 +49,25 @@ pub writes_at : (view : Option (Numbered View)) (c : Call) → what view ≡ Som
 writes_at view c is = sym (tie.same_use use_of_view view) ∙ ap (use_of use_of_view) is
 
 module _ {T S : Type 0} (makes : S → T → Type 0) (key : Key T S) where
-  abbrev Content : Type 0
-  Content = MaybeStable (Stage T S)
-
   abbrev given : Option (Unit {0})
   given = given_of key.opening.value
 
-  abbrev name : ℕ
-  name = key.opening.name
-
-  abbrev Keeps : Option (Numbered View) → Option Content → (ℕ → ℕ) → Says → Type 0
-  Keeps view shown f says = Traces (IsOnce key.opening) (once_ways makes key) view shown f (Told key.opening says view)
-
   -- a store says nothing of the number that it finds
-  abbrev Stores : Option (Numbered View) → Option Content → (ℕ → ℕ) → Says → Type 0
+  abbrev Stores : Option (Numbered View) → Option (Content T S) → (ℕ → ℕ) → Says → Type 0
   Stores view shown f says = Traces (IsOnce key.opening) (once_ways makes key) view shown f (λ log es n. Told key.opening says view log es 0)
 
-  traces : (view : Option (Numbered View)) (shown : Option Content) (f : ℕ → ℕ) (leads : ℕ → View → Type 0) (says : Says)
+  traces : (view : Option (Numbered View)) (shown : Option (Content T S)) (f : ℕ → ℕ) (leads : ℕ → View → Type 0) (says : Says)
       → Moves given (what view) f leads says → steps.Allowed makes key (what view) shown f leads
-      → Traces (Runs (model given) seat_of words_of Word name) (steps.way makes key, use_of_party, no_fact) view shown f (Tells (model given) seat_of words_of says view)
+      → Traces (Runs (model given) seat_of words_of Word key.opening.name) (steps.way makes key, use_of_party, no_fact) view shown f (Tells (model given) seat_of words_of says view)
   traces view shown f leads says moves allows =
-      tie.traces (model given) seat_of words_of Word name Content (steps.way makes key) use_of_view no_fact view shown
+      tie.traces (model given) seat_of words_of Word key.opening.name (Content T S) (steps.way makes key) use_of_view no_fact view shown
       (by_first f) leads says moves (λ own outs n u said t word p. tt) allows
 
   -- the history's moves for a step that writes nothing are those of the model
   lifts : (on : Bool) (c : Call) (o : Ending (Unit {0})) (own : List OneMove) (outs : List (Ending (Unit {0}))) → IsStep on c o own outs → bare_moves (plainly {T = T} own) ≡ own
   lifts on c o own outs is = grind (arith, is)
 
-  module _ (c : Call) (l : OncePoint) (view : Option (Numbered View)) (shown : Option Content) (at : IsAt c l (what view)) where
+  module _ (c : Call) (l : OncePoint) (view : Option (Numbered View)) (shown : Option (Content T S)) (at : IsAt c l (what view)) where
     abbrev was : Option View
     was = what view
 
@@ -98,24 +77,23 @@ module _ {T S : Type 0} (makes : S → T → Type 0) (key : Key T S) where
     abbrev says : Says
     says = turn (has_begun was) c l
 
-    moving : Moves given was (after_word c l) (ComesTo (λ n. view_of c (next_at c l n)) found) (finding found says)
-    moving = turn_moves given c (after_word c l) found l (λ n may. words_at c l n) (λ n may. free_at c l n) was at
-
     -- the next step of the party's call, if this step writes nothing
-    keeps : is_run l ≡ false → Keeps view shown (after_word c l) says
+    keeps : is_run l ≡ false → Traces (IsOnce key.opening) (once_ways makes key) view shown (after_word c l) (Told key.opening says view)
     keeps quiet =
-        let used = quiet_use c l was at quiet in let silent : use_of use_of_view was ≢ writes = λ e. elim used [ inl none ↦ absurd (let d : off ≡ writes = sym none ∙ e in cc) | inr reading ↦ absurd (let d : reads ≡ writes = sym reading.0 ∙ e in cc) ] in
+        let used : (use_of use_of_view was ≡ off) ⊎ ((use_of use_of_view was ≡ reads) × (l ≡ Look)) = grind (arith, at, quiet) in
+        let silent : use_of use_of_view was ≢ writes = λ e. absurd (grind (arith, at, quiet, e)) in
         valued makes key view shown (after_word c l) (finding found says) says plainly (λ own outs n u said. said.0)
         (λ own outs n u said. lifts (has_begun was) c (outcome_of (next_at c l n)) own outs said.0.1)
         (writes_none makes key view shown (after_word c l) (finding found says) (λ e. silent (tie.same_use use_of_view view ∙ e)) (stays l quiet)) (λ idle. none_written)
-        (traces view shown (after_word c l) _ (finding found says) moving
+        (traces view shown (after_word c l) (ComesTo (λ n. view_of c (next_at c l n)) found) (finding found says)
+        (turn_moves given c found l was at)
         (steps.steps makes key was shown (λ n. view_of c (next_at c l n)) (after_word c l) (fits_at c l quiet (use_of use_of_view was) used) (λ n r e. absurd (silent e))))
       where
         stays : (l : OncePoint) → is_run l ≡ false → (n : ℕ) → n ≡ 2 → after_word c l n ≡ 2
         stays l quiet n two = grind (arith, quiet, two)
 
-    pub turns : is_run l ≡ false → Operates just_one (IsOnce key.opening) (once_ways makes key) view shown 0 (wrapped (operation_by (act_of c l None))) (Told key.opening (turn_by (Some c) was) view)
-    turns quiet = rw (turn_is c l was at) (operates c l quiet (Told key.opening says view) (keeps quiet))
+    pub turns : is_run l ≡ false → Operates just_one (IsOnce key.opening) (once_ways makes key) view shown 0 (wrapped (operation_by (act_of c l None))) (Told key.opening says view)
+    turns quiet = operates c l quiet (Told key.opening says view) (keeps quiet)
       where
         operates : (c : Call) (l : OncePoint) → is_run l ≡ false → (told : List (Entry Call T) → List (Entry Call T) → ℕ → Numbered View → Type 0) → Traces (IsOnce key.opening) (once_ways makes key) view shown (after_word c l) told
             → Operates just_one (IsOnce key.opening) (once_ways makes key) view shown 0 (wrapped (operation_by (act_of c l None))) told
@@ -124,59 +102,45 @@ module _ {T S : Type 0} (makes : S → T → Type 0) (key : Key T S) where
         operates c l quiet told so = so
 
   -- the last step of a call whose closure gave a value is a write of that value
-  pub ends : (c : Call) → HasClosure c → (view : Option (Numbered View)) → what view ≡ Some (in_call c Run) → (first : Call) (value : T) → makes key.seed.value value
-      → Stores view (Some (maybe_stable (Done value))) (λ _. 2) (turn_by (Some first) (what view))
+  pub ends : (c : Call) → HasClosure c → (view : Option (Numbered View)) → what view ≡ Some (in_call c Run) → (value : T) → makes key.seed.value value
+      → Stores view (Some (maybe_stable (Done value))) (λ _. 2) gives_by
   unfolding Told
-  ends c may view is first value is_made =
-      let done : Option Content = Some (maybe_stable (Done value)) in let exact : Says = finding (λ n. n ≡ 1) (turn true c Run) in let to : ℕ → View = λ n. view_of c (next_at c Run n) in
-      subst (λ was. Stores view done (λ _. 2) (turn_by (Some first) was)) (sym is)
-      (valued makes key view done (λ _. 2) exact (λ own outs n v. turn true c Run own outs 0 v) (λ own. Write value ∷ []) any_word (λ own outs n u said. sym said.0.1.0) puts (λ idle. absurd (no_runner idle))
-      (traces view done (λ _. 2) (ComesTo to (λ n. n ≡ 1)) exact
-      (rw is (turn_moves given c (λ _. 2) (λ n. n ≡ 1) Run (λ n one. words_at c Run n ∙ (ends_at c may n).1) (λ n one. free_at c Run n) (Some (in_call c Run)) (inl refl)))
-      (rw is (steps.steps makes key (Some (in_call c Run)) done to (λ _. 2) (λ n one. rw (reads_then n) refl) (λ n r e. rw (reads_then n) is_made)))))
-    where
-      no_runner : is_running (what view) ≡ false → ⊥
-      no_runner idle = grind (arith, idle, is, may)
-
-      reads_then : (n : ℕ) → view_of c (next_at c Run n) ≡ reader
-      reads_then n = ap (view_of c) (ends_at c may n).0
-
-      any_word : (own : List OneMove) (outs : List (Ending (Unit {0}))) (n : ℕ) (u : View) → finding (λ n. n ≡ 1) (turn true c Run) own outs n u → turn true c Run own outs 0 u
-      any_word own outs n u said = subst (λ next. (u ≡ view_of c next) × IsStep true c (outcome_of next) own outs) ((ends_at c may n).0 ∙ sym (ends_at c may 0).0) said.0
-
-      puts : Leaving makes key view (Some (maybe_stable (Done value))) (λ _. 2) (finding (λ n. n ≡ 1) (turn true c Run)) (λ own outs n v. turn true c Run own outs 0 v) (λ own. Write value ∷ [])
-      puts own outs n u said vs few =
-          let none = none_yet n vs few said.1 in let u_is : u ≡ reader = said.0.0 ∙ reads_then n in
-          rw (none, writes_at view c is, ap use_of_view u_is) ((λ other. absurd (other refl), omega arith), λ told. refl)
+  ends c may view is value is_made =
+      let done : Option (Content T S) = Some (maybe_stable (Done value)) in let exact : Says = finding (λ n. n ≡ 1) gives_by in
+      valued makes key view done (λ _. 2) exact gives_by (λ own. Write value ∷ []) (λ own outs n u said. said.0) (λ own outs n u said. sym said.0.1.0)
+      (λ own outs n u said vs few.
+      let none = none_yet n vs few said.1 in rw (none, writes_at view c is, ap use_of_view said.0.0) ((λ other. absurd (other refl), omega arith), λ told. refl))
+      (λ idle. absurd (grind (arith, idle, is, may)))
+      (traces view done (λ _. 2) (ComesTo (λ n. reader) (λ n. n ≡ 1)) exact (rw is (give_moves given c may))
+      (rw is (steps.steps makes key (Some (in_call c Run)) done (λ n. reader) (λ _. 2) (λ n one. refl) (λ n r e. is_made))))
 
   -- the last step of a call whose closure failed
   pub gives_up : (view : Option (Numbered View)) → what view ≡ Some (in_call (TryCallOnceOk tt) Run)
       → Stores view (Some (maybe_stable (Seed key.seed.value))) (λ _. 0) fails_by
   unfolding Told
   gives_up view is =
-      let shown : Option Content = Some (maybe_stable (Seed key.seed.value)) in
+      let shown : Option (Content T S) = Some (maybe_stable (Seed key.seed.value)) in
       valued makes key view shown (λ _. 0) (finding (λ n. n ≡ 1) fails_by) fails_by plainly
-      (λ own outs n u said. said.0) (λ own outs n u said. ap (λ l. bare_moves (plainly {T = T} l)) said.0.1.0 ∙ sym said.0.1.0) leaves (λ idle. none_written)
-      (traces view shown (λ _. 0) (ComesTo (λ n. Idle) (λ n. n ≡ 1)) (finding (λ n. n ≡ 1) fails_by) (rw is (fail_moves given (λ _. 0) (λ n. refl)))
+      (λ own outs n u said. said.0) (λ own outs n u said. ap (λ l. bare_moves (plainly {T = T} l)) said.0.1.0 ∙ sym said.0.1.0)
+      (λ own outs n u said vs few.
+      let none = none_yet n vs few said.1 in let own_is : own ≡ Weak ∷ Step ∷ [] = said.0.1.0 in let u_is : u ≡ Idle = said.0.0 in
+      rw (none, own_is, writes_at view (TryCallOnceOk tt) is, ap use_of_view u_is) ((λ other. refl, omega arith), tt))
+      (λ idle. none_written)
+      (traces view shown (λ _. 0) (ComesTo (λ n. Idle) (λ n. n ≡ 1)) (finding (λ n. n ≡ 1) fails_by) (rw is (fail_moves given))
       (rw is (steps.steps makes key (Some (in_call (TryCallOnceOk tt) Run)) shown (λ n. Idle) (λ _. 0) (λ n one. refl) (λ n r e. refl))))
-    where
-      leaves : Leaving makes key view (Some (maybe_stable (Seed key.seed.value))) (λ _. 0) (finding (λ n. n ≡ 1) fails_by) fails_by plainly
-      leaves own outs n u said vs few =
-          let none = none_yet n vs few said.1 in let own_is : own ≡ Weak ∷ Step ∷ [] = said.0.1.0 in let u_is : u ≡ Idle = said.0.0 in
-          rw (none, own_is, writes_at view (TryCallOnceOk tt) is, ap use_of_view u_is) ((λ other. refl, omega arith), tt)
 
   -- ---- a new cell
-  pub starts : (t : Trace (Valued T) (Unit {0})) → t.name ≡ name → t.entries ≡ [] → (it : S) → key.opening.value ≡ Seed it → it ≡ key.seed.value
+  pub starts : (t : Trace (Valued T) (Unit {0})) → t.name ≡ key.opening.name → t.entries ≡ [] → (it : S) → key.opening.value ≡ Seed it → it ≡ key.seed.value
       → Opens (IsOnce key.opening) (once_ways makes key) 0 t (maybe_stable (Seed it))
   unfolding IsOnce
   starts t named empty it is same =
-      let met = tie.opens (model given) seat_of words_of Word name Content (steps.way makes key) use_of_view no_fact 0 (bare_trace t) named (ap bare empty) (rw is refl) (steps.meets makes key 0 tt [] (refl, refl)) in
+      let met = tie.opens (model given) seat_of words_of Word key.opening.name (Content T S) (steps.way makes key) use_of_view no_fact 0 (bare_trace t) named (ap bare empty) (rw is refl) (steps.meets makes key 0 tt [] (refl, refl)) in
       let few : AtMostOne 0 (made key.opening.value t.entries) = rw (is, empty) (λ other. refl, omega arith) in ([], tt, ((met.0, few), met.1), (tt, same))
 
   one_more : (more : ℕ) → 1 + more ≡ suc more
   one_more more = omega arith
 
-  pub starts_made : (t : Trace (Valued T) (Unit {0})) → t.name ≡ name → t.entries ≡ [] → (value : T) → key.opening.value ≡ Done value → makes key.seed.value value
+  pub starts_made : (t : Trace (Valued T) (Unit {0})) → t.name ≡ key.opening.name → t.entries ≡ [] → (value : T) → key.opening.value ≡ Done value → makes key.seed.value value
       → Opens (IsOnce key.opening) (once_ways makes key) 2 t (maybe_stable (Done value))
   unfolding IsOnce
   starts_made t named empty value is is_made =
@@ -191,11 +155,20 @@ module _ {T S : Type 0} (makes : S → T → Type 0) (key : Key T S) where
   fixed : (r w : ℕ) → 0 < r → (x : Stage T S) → Fixed (steps.way makes key) r w (maybe_stable x) ≡ IsMadeFrom makes key.seed true x
   fixed r w few x = grind (arith, few)
 
-  was_made : (x : Stage T S) → IsMadeFrom makes key.seed true x → is_done x ≡ true
-  was_made x is = grind (arith, is)
+  left : (n r : ℕ) (vs : List T) (x : Stage T S) → IsPhase n r 0 → AtMostOne n vs → IsMade key.opening.told vs x → Fixed (steps.way makes key) r 0 (maybe_stable x)
+      → MatchOption (value_in x) (vs ≡ []) (λ v. makes key.seed.value v × (key.opening.told ≡ true → vs ≡ v ∷ []))
+  left n r vs x phase few made fixed = grind (arith, phase, few, made, fixed)
 
-  made_of_any : ((it : S) (value : T) → makes it value) → (x : Stage T S) → is_done x ≡ true → IsMadeFrom makes key.seed true x
-  made_of_any any x done = grind (arith, any key.seed.value, done)
+  pub ends_with : (n : ℕ) (t : Trace (Valued T) (Unit {0})) (x : Stage T S) → Starts (IsOnce key.opening) (once_ways makes key) n t (maybe_stable x) → Ends makes key (value_in x, t)
+  unfolding IsOnce
+  ends_with n t x (vs, meets, known) = (
+    n,
+    vs,
+    meets.0,
+    λ none.
+        let at = rw none at known in let writers = fold-map (λ s v. s + writing (use_of_view v)) (λ (v : Numbered View). v.0) 0 vs in
+        left n (readers_of use_of_party vs) (made key.opening.value t.entries) x (rw (tie.as_many_read use_of_view vs, writers, none) at meets.0.0.1) meets.0.1 at.0 at.1,
+  )
 
   -- The content that some party reads is a value that was made. Any other value may replace it if the trace does not
   -- tell the value any more, and each seed may give each value.
@@ -205,27 +178,26 @@ module _ {T S : Type 0} (makes : S → T → Type 0) (key : Key T S) where
       let vs = lies.0 in let rs = readers_of use_of_party vs in let ws = writers_of use_of_party vs in let know = (once_ways makes key).2 in
       let few : 0 < rs = subst (λ r. 0 < r) (tie.as_many_read use_of_view vs) lies.1.0.0.1.0 in
       let same = fixed rs ws few in
-      (was_made x (subst (λ A. A) (same x) (knowing_rest know t ws (maybe_stable x) lies.2)), λ y done. (vs, lies.1, untold_knows t ws y (subst (λ A. A) (sym (same y)) (made_of_any any y done))))
+      let now : IsMadeFrom makes key.seed true x = subst (λ A. A) (same x) (knowing_rest know t ws (maybe_stable x) lies.2) in (
+        grind (arith, now),
+        λ y done.
+            let then : IsMadeFrom makes key.seed true y = grind (arith, any key.seed.value, done) in
+            (vs, lies.1, untold_knows t ws y (subst (λ A. A) (sym (same y)) then)),
+      )
     where
-      untold_is : (l : List T) (y : Stage T S) → IsMade key.opening.told l y
-      untold_is l y = grind (arith, untold)
-
       untold_knows : (t : Trace (Valued T) (Unit {0})) (w : ℕ) (y : Stage T S) {A : Type 0} → A → Knowing (once_ways makes key).2 t w (maybe_stable y) A
-      untold_knows t zero y a = (untold_is (made key.opening.value t.entries) y, a)
+      untold_knows t zero y a = (grind (arith, untold), a)
       untold_knows t (suc w) y a = a
 
 -- the owner may borrow the value; from then on the trace does not tell the value
 module _ {T S : Type 0} (makes : S → T → Type 0) (key : Key T S) where
-  less : (t : Trace (Valued T) (Unit {0})) (w : ℕ) (x : MaybeStable (Stage T S)) (A : Type 0) → Knowing (once_ways makes key).2 t w x A → Knowing (once_ways makes (lent_key key)).2 t w x A
-  less t w x A known = grind (arith, known)
-
   pub lends : Lends (IsOnce key.opening) (once_ways makes key) (IsOnce (lent_key key).opening) (once_ways makes (lent_key key))
   unfolding IsOnce
   lends = (
     (λ shared. shared),
     (λ v. refl),
     λ n t x starts.
-        (starts.0, starts.1, less t (writers_of use_of_party starts.0) x (Fixed (once_ways makes key).0 (readers_of use_of_party starts.0) (writers_of use_of_party starts.0) x) starts.2),
+        (starts.0, starts.1, grind (arith, starts.2)),
   )
 
 -- ---- which parties may leave

@@ -69,10 +69,7 @@ named_seen f [] = refl
 named_seen f (x ∷ xs) = grind (arith, named_seen (λ q. f (suc q)) xs)
 
 -- ---- a party's move has the same outcome in the object
-abbrev Ending : Type 0 → Type 0
-Ending L = Happened ℕ (Unit {0}) Call L (Answer (Unit {0}))
-
-abbrev pub Alike : (ℕ → Bool) → Ending Point → Ending OncePoint → Type 0
+abbrev pub Alike : (ℕ → Bool) → Happened ℕ (Unit {0}) Call Point (Answer (Unit {0})) → Happened ℕ (Unit {0}) Call OncePoint (Answer (Unit {0})) → Type 0
 Alike f a b = (b.next ≡ object f a.next) × (is_played b.outcome ≡ is_played a.outcome)
 
 abbrev pub renamed : OneMove → Bool → OneMove

@@ -1,12 +1,12 @@
 -- The steps of a value that is made once keep its rule. What a step has to show depends on the use of the content before and after it.
 use Rattle.std.proofs.Common.{◌≡◌, ℕ, ◌+◌, ◌≤◌, List, ◌++◌, ◌∷◌, Option, Some, refl, ap, arith}
+use Rattle.std.specs.Prelude.{sum_by}
 use Rattle.spin_core.specs.Cell.{Use, off, reads, writes, reading, writing, use_of, Way, Ways, no_fact, Meets, Limits, Owes, Stands, after, AllowsAt, Rests}
-use Rattle.spin_core.specs.declared.cell.stable.MaybeStable.{MaybeStable}
 use Rattle.spin_core.proofs.CellCounts.{moves, without}
 use Rattle.spin_step.specs.declared.place.Seat.TheVariants.{Idle}
-use Rattle.spin_once.specs.Once.{View, use_of_view, readers, runs, IsPhase, Word, IsMadeFrom, once_ways}
+use Rattle.spin_once.specs.OnceValues.{Content}
+use Rattle.spin_once.specs.Once.{View, use_of_view, readers, running, IsPhase, Word, IsMadeFrom, once_ways}
 use Rattle.spin_once.specs.declared.once_core.rule.Key.{Key}
-use Rattle.spin_once.specs.declared.once_core.rule.Stage.{Stage}
 
 -- which word a party with this use may find
 abbrev pub May : Use → ℕ → Type 0
@@ -29,13 +29,10 @@ abbrev pub ComesTo : (ℕ → View) → (ℕ → Type 0) → ℕ → View → Ty
 ComesTo to Q n v = (v ≡ to n) × Q n
 
 module _ (id : ℕ) (view : Option View) (vs : List View) (w : View) (at : Stands id view vs) where
-  -- how many parties read the value, after a party has got another view
-  see_after : readers (after id view vs w) + reading (use_of use_of_view view) ≡ readers vs + reading (use_of_view w)
-  see_after = grind (arith, moves (λ v. reading (use_of_view v)) id view vs w at)
-
-  -- how many parties run a closure, after a party has got another view
-  run_after : runs (after id view vs w) + writing (use_of use_of_view view) ≡ runs vs + writing (use_of_view w)
-  run_after = grind (arith, moves (λ v. writing (use_of_view v)) id view vs w at)
+  -- how many parties have a use, after a party has got another view
+  use_after : (g : Use → ℕ) → g off ≡ 0
+      → sum_by (λ v. g (use_of_view v)) (after id view vs w) + g (use_of use_of_view view) ≡ sum_by (λ v. g (use_of_view v)) vs + g (use_of_view w)
+  use_after g none = grind (arith, none, moves (λ v. g (use_of_view v)) id view vs w at)
 
 module _ (n r w : ℕ) (is : IsPhase n r w) where
   may : (u : Use) → reading u ≤ r → writing u ≤ w → May u n
@@ -53,31 +50,28 @@ reads_on : (u v : Use) (n k : ℕ) → Fits u v n k → u ≡ reads → v ≡ re
 reads_on u v n k fit is = grind (arith, fit, is)
 
 module _ {T S : Type 0} (makes : S → T → Type 0) (key : Key T S) where
-  abbrev Content : Type 0
-  Content = MaybeStable (Stage T S)
-
-  abbrev pub way : Way Content
+  abbrev pub way : Way (Content T S)
   way = (once_ways makes key).0
 
-  abbrev plain_ways : Ways Content View (Unit {0})
+  abbrev plain_ways : Ways (Content T S) View (Unit {0})
   plain_ways = (way, use_of_view, no_fact)
 
-  abbrev pub Allowed : Option View → Option Content → (ℕ → ℕ) → (ℕ → View → Type 0) → Type 0
+  abbrev pub Allowed : Option View → Option (Content T S) → (ℕ → ℕ) → (ℕ → View → Type 0) → Type 0
   Allowed = AllowsAt Word plain_ways
 
   pub meets : (n : ℕ) (m : Unit {0}) (vs : List View) → Word n m vs → Meets Word plain_ways n m vs
-  meets n m vs has = (has, limits n (readers vs) (runs vs) has)
+  meets n m vs has = (has, limits n (readers vs) (running vs) has)
     where
       limits : (n r w : ℕ) → IsPhase n r w → Limits way r w
       limits n r w has = grind (arith, has)
 
-  pub steps : (view : Option View) (shown : Option Content) (to : ℕ → View) (f : ℕ → ℕ) → let u = use_of use_of_view view in ((n : ℕ) → May u n → Fits u (use_of_view (to n)) n (f n))
+  pub steps : (view : Option View) (shown : Option (Content T S)) (to : ℕ → View) (f : ℕ → ℕ) → let u = use_of use_of_view view in ((n : ℕ) → May u n → Fits u (use_of_view (to n)) n (f n))
       → ((n r : ℕ) → u ≡ writes → Owes (λ read x. IsMadeFrom makes key.seed read x.value) u (use_of_view (to n)) shown r) → Allowed view shown f (ComesTo to (May u))
   steps view shown to f fits ends id n m vs has at small =
-      let u = use_of use_of_view view in let v = use_of_view (to n) in let r = readers vs in let w = runs vs in
-      let see = see_after id view vs Idle at in let run = run_after id view vs Idle at in
+      let u = use_of use_of_view view in let v = use_of_view (to n) in let r = readers vs in let w = running vs in
+      let see = use_after id view vs Idle at reading refl in let run = use_after id view vs Idle at writing refl in
       let found = may n r w has.0 u (omega (arith, see)) (omega (arith, run)) in let fit = fits n found in
-      let kept = phase_after n r w has.0 u v (f n) _ _ found fit (see_after id view vs (to n) at) (run_after id view vs (to n) at) in
+      let kept = phase_after n r w has.0 u v (f n) _ _ found fit (use_after id view vs (to n) at reading refl) (use_after id view vs (to n) at writing refl) in
       (to n, (reads_on u v n (f n) fit, owes n r w has.0 (λ read x. IsMadeFrom makes key.seed read x.value) u v (f n) shown fit (ends n r), meets (f n) m (after id view vs (to n)) kept), (refl, found))
 
 -- which parties may leave
@@ -86,5 +80,5 @@ leaves v none = (
   none,
   λ n m before behind has.
       let see : readers (before ++ behind) ≡ readers (before ++ v ∷ behind) = omega (arith, without (λ v. reading (use_of_view v)) before behind v, ap reading none) in
-      let run : runs (before ++ behind) ≡ runs (before ++ v ∷ behind) = omega (arith, without (λ v. writing (use_of_view v)) before behind v, ap writing none) in rw (see, run) has,
+      let run : running (before ++ behind) ≡ running (before ++ v ∷ behind) = omega (arith, without (λ v. writing (use_of_view v)) before behind v, ap writing none) in rw (see, run) has,
 )

@@ -1,6 +1,9 @@
 -- What a pass of a `LazyLock` knows, and what its calls do.
-use Rattle.std.specs.Prelude.{ℕ}
-pub use Rattle.spin_once.specs.Passes.{◌⨾◌, After, AreOfOne, Calls, Gets, Gives, Has, Never, OpensWith, TellsValue, WroteNone, given, history, lock_of, new_in, opening_of, party, schedule}
+use Rattle.std.specs.Prelude.{ℕ, Option}
+use Rattle.spin_core.specs.declared.trace.Trace.{Trace}
+use Rattle.spin_once.specs.OnceValues.{Valued}
+use Rattle.spin_once.specs.Passes as passes
+pub use Rattle.spin_once.specs.Passes.{◌⨾◌, After, AreOfOne, Calls, Gets, Gives, Has, Includes, Never, OpensWith, Recalls, TellsValue, WroteNone, given, history, lock_of, new_in, opening_of, party, schedule}
 use Rattle.spin_step.specs.declared.once_calls.OnceCall.TheVariants.{CallOnce}
 use Rattle.spin_once.specs.Accounts.{Place}
 use Rattle.spin_once.specs.declared.lazylock.LazyLock.{LazyLock}
@@ -32,3 +35,7 @@ module _ {T F M : Type 0} where
   -- by one `CallOnce` a party at `before` has got this value, as in `Forces`
   abbrev pub Forced : (M → T → Type 0) → Place T (Initialiser F M) → T → Type 0
   Forced keeps before value = Gives (CallOnce tt) (keeps (promise_of before)) before value
+
+  -- what the owner of a `LazyLock` gets at its end: the value, which keeps the promise, or none, and the whole history
+  abbrev pub Ends : (M → T → Type 0) → Key T (Initialiser F M) → Option T × Trace (Valued T) (Unit {0}) → Type 0
+  Ends keeps = passes.Ends (λ seed value. keeps seed.promise value)

@@ -58,8 +58,8 @@ abbrev pub readers : List View → ℕ
 readers = readers_of use_of_view
 
 -- how many parties run a closure
-abbrev pub runs : List View → ℕ
-runs = writers_of use_of_view
+abbrev pub running : List View → ℕ
+running = writers_of use_of_view
 
 -- What the word says if r parties read the value and w parties run a closure. With 0 no party does either. With 1 one party runs its
 -- closure, and none reads. With 2 some party reads, and none runs a closure.
@@ -70,7 +70,7 @@ IsPhase (suc (suc zero)) r w = (0 < r) × (w ≡ 0)
 IsPhase _ r w = ⊥
 
 abbrev pub Word : ℕ → Unit {0} → List View → Type 0
-Word n m vs = IsPhase n (readers vs) (runs vs)
+Word n m vs = IsPhase n (readers vs) (running vs)
 
 -- whether this content is a value that was made
 abbrev pub is_done : {T S : Type 0} → Stage T S → Bool
@@ -105,9 +105,9 @@ abbrev pub Says : Type 1
 Says = passes.Says (Unit {0}) Call (Answer (Unit {0})) View
 
 -- the party runs a closure, which may give a value
-abbrev pub is_running : Option View → Bool
-is_running (Some (Calling c Run None)) = is_some (brings_of c)
-is_running _ = false
+abbrev pub runs_closure : Option View → Bool
+runs_closure (Some (Calling c Run None)) = is_some (brings_of c)
+runs_closure _ = false
 
 module _ {T S : Type 0} where
   -- what holds of the first word, the trace and the parties of a cell with this opening
@@ -117,7 +117,7 @@ module _ {T S : Type 0} where
   -- What a step tells of its moves. It also tells that the history still has at most one value, and that only a party that runs its closure
   -- writes one.
   unfoldable pub Told : Opening (Stage T S) → Says → Option (Numbered View) → List (Valued T) → List (Valued T) → ℕ → Numbered View → Type 0
-  Told opening says view log es n v = Tells (model (given_of opening.value)) seat_of words_of says view (bare log) (bare es) n v × (length (made opening.value (log ++ es)) ≤ 1) × (is_running (what view) ≡ false → values es ≡ [])
+  Told opening says view log es n v = Tells (model (given_of opening.value)) seat_of words_of says view (bare log) (bare es) n v × (length (made opening.value (log ++ es)) ≤ 1) × (runs_closure (what view) ≡ false → values es ≡ [])
 
 -- The steps of a call. The model's table says which step comes next.
 
@@ -141,12 +141,6 @@ view_of c (Answers a h) = answered a
 -- what the step of the call at this point tells; it is the call's first if `goes_on` is false
 abbrev pub turn : Bool → Call → OncePoint → Says
 turn goes_on c l = step_by goes_on c (λ n. outcome_of (next_at c l n)) (λ n. view_of c (next_at c l n))
-
--- the next step of the party's call; a party in no call begins the call that is named
-abbrev pub turn_by : Option Call → Option View → Says
-turn_by None view own outs n v = ⊥
-turn_by (Some c) (Some (Calling d l h)) own outs n v = turn true d l own outs n v
-turn_by (Some c) view own outs n v = turn false c Look own outs n v
 
 -- the party is at this point of the call, or is in no call, and may begin this one here
 abbrev pub IsAt : Call → OncePoint → Option View → Type 0

@@ -1,6 +1,9 @@
 -- What a pass of a `Once` knows, and what its calls do.
-use Rattle.std.specs.Prelude.{ℕ}
-pub use Rattle.spin_once.specs.Passes.{◌⨾◌, After, AreOfOne, Calls, Gets, Gives, Has, Never, OkGets, OkGives, OpensWith, TellsValue, Tried, WroteNone, found_or_none, given, history, lock_of, new_in, opening_of, party, schedule}
+use Rattle.std.specs.Prelude.{ℕ, Option}
+use Rattle.spin_core.specs.declared.trace.Trace.{Trace}
+use Rattle.spin_once.specs.OnceValues.{Valued}
+use Rattle.spin_once.specs.Passes as passes
+pub use Rattle.spin_once.specs.Passes.{◌⨾◌, After, AreOfOne, Calls, Gets, Gives, Has, Includes, Never, OkGets, OkGives, OpensWith, Recalls, TellsValue, Tried, WroteNone, found_or_none, given, history, lock_of, new_in, opening_of, party, schedule}
 use Rattle.spin_once.specs.declared.once.Once.{Once}
 use Rattle.spin_once.specs.declared.once_core.rule.Key.{Key}
 
@@ -12,3 +15,7 @@ module _ {T R : Type 0} where
   -- the name of a `Once`'s history
   abbrev pub name_of : Once T R → ℕ
   name_of once = (opening once).opening.name
+
+-- what the owner of a `Once` gets at its end: the value or none, and the whole history
+abbrev pub Ends : {T : Type 0} → Key T (Unit {0}) → Option T × Trace (Valued T) (Unit {0}) → Type 0
+Ends = passes.Ends (λ seed value. Unit {0})

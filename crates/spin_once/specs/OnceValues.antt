@@ -70,11 +70,20 @@ abbrev pub uses : Use → Bool
 uses off = false
 uses _ = true
 
+-- the content of the cell
+abbrev pub Content : Type 0 → Type 0 → Type 0
+Content T S = MaybeStable (Stage T S)
+
 module _ {T S : Type 0} where
   -- the value, if any, that lies in the cell
   abbrev pub lies_in : Stage T S → List T
   lies_in (Done v) = v ∷ []
   lies_in _ = []
+
+  -- the value, if any, that is this content
+  abbrev pub value_in : Stage T S → Option T
+  value_in (Done v) = Some v
+  value_in _ = None
 
   -- whether this content, with which the cell opened, is a value
   abbrev pub given_of : Stage T S → Option (Unit {0})

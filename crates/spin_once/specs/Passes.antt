@@ -1,11 +1,16 @@
 -- What a pass of a `Once` or a `LazyLock` knows, and what its calls do. A pass in a contract is its place: what was fixed when its lock was
 -- made, its party, and all moves in the lock, at least up to the party's last step.
-use Rattle.std.specs.Prelude.{◌≡◌, ◌⊎◌, ℕ, true, Option, List, Result, Ok, Err}
+use Rattle.std.specs.Prelude.{◌≡◌, ◌⊎◌, ℕ, true, [], Option, List, Result, Ok, Err}
 use Rattle.std.specs.Borrow.{Bor}
+use Rattle.std.specs.Option.{MatchOption}
 use Rattle.std.specs.Result.{IfOk}
+use mathlib.Core.List.{IsPrefix}
+use Rattle.spin_core.specs.Cell.{writers_of}
 use Rattle.spin_core.specs.Logs.{KnowsBoth}
 use Rattle.spin_core.specs.Own.{Numbered}
 use Rattle.spin_core.specs.Passes.{IsCall}
+use Rattle.spin_core.specs.declared.trace.Trace.{Trace}
+use Rattle.spin_core.specs.declared.trace.Watch.{Watch}
 use Rattle.spin_step.specs.declared.answer.Answer.{Answer}
 use Rattle.spin_step.specs.declared.answer.Answer.TheVariants.{Value}
 use Rattle.spin_step.specs.declared.once_calls.OnceCall.TheVariants.{TryCallOnceOk}
@@ -13,8 +18,8 @@ pub use Rattle.spin_session.specs.Passes.{◌⨾◌}
 use Rattle.spin_once.specs.Accounts.{Place, Since}
 pub use Rattle.spin_once.specs.Accounts.{Has, WroteNone, found_or_none, new_in}
 pub use Rattle.spin_once.specs.OnceValues.{OpensWith}
-use Rattle.spin_once.specs.OnceValues.{Valued, Made, bare, given_of}
-use Rattle.spin_once.specs.Once.{Call, View, IsFailedCall}
+use Rattle.spin_once.specs.OnceValues.{Valued, Made, IsValue, bare, given_of, made}
+use Rattle.spin_once.specs.Once.{Call, View, IsFailedCall, IsOnce, use_of_party}
 use Rattle.spin_once.specs.declared.once_core.rule.Key.{Key}
 
 -- no value is given by a call without a closure
@@ -74,6 +79,22 @@ module _ {T S : Type 0} where
   -- a party at `before` has made this call, and has got this value
   abbrev pub Gives : Call → (T → Type 0) → Place T S → T → Type 0
   Gives call Q before value = (now : Place T S) × Gets call Q before value now
+
+  -- the watch knows of the history what the pass knows
+  abbrev pub Recalls : Place T S → Watch (Valued T) → Type 0
+  Recalls pass seen = (seen.name ≡ lock_of pass) × (seen.entries ≡ history pass)
+
+  -- the whole history contains all that some pass knew which had done this
+  abbrev pub Includes : (Place T S → Type 0) → Trace (Valued T) (Unit {0}) → Type 0
+  Includes did whole = (pass : Place T S) × did pass × IsPrefix (history pass) whole.entries
+
+  -- What the owner gets at the end: a value or none, and the whole history. The history is a schedule of the model that leads to the word
+  -- and to these parties. Unless one of them still runs a closure, a value may be made from the seed and is the only one in the history, and
+  -- with none the history has no value.
+  abbrev pub Ends : (S → T → Type 0) → Key T S → Option T × Trace (Valued T) (Unit {0}) → Type 0
+  Ends makes key end =
+      (word : ℕ) × (parties : List (Numbered View)) × IsOnce key.opening word end.1 parties
+      × (writers_of use_of_party parties ≡ 0 → MatchOption end.0 (made key.opening.value end.1.entries ≡ []) (λ v. makes key.seed.value v × IsValue key.opening end.1.entries v))
 
   -- With `Ok` the pass has made this call of a closure that may fail, as in `Gets`. A value from its own closure is one that `post` allows.
   abbrev pub OkGets : {E : Type 0} → (Result T E → Type 0) → Place T S → Result (Bor T) E → Place T S → Type 0

@@ -5,12 +5,13 @@ ghost use Rattle.spin_core.specs.Own.{what};
 ghost use Rattle.spin_step.specs.declared.once_calls.OnceCall.TheVariants.{CallOnce};
 ghost use Rattle.spin_once.specs.Accounts.{Place, here, seed_of, Entered, Finds};
 ghost use Rattle.spin_once.specs.Lazy.{initialiser, promise};
-ghost use Rattle.spin_once.specs.LazyPasses.{Forced, OpensWith, new_in, opening};
+ghost use Rattle.spin_once.specs.LazyPasses.{Ends, Forced, OpensWith, new_in, opening};
 ghost use Rattle.spin_step.specs.declared.once_calls.OncePoint.TheVariants.{TryBegin};
 ghost use Rattle.spin_once.specs.Once.{in_call};
 ghost use Rattle.spin_once.specs.declared.lazylock.Initialiser.{Initialiser as AnInitialiser};
 
 use crate::exclusive::Exclusive;
+pub use crate::once_core::{Entry, History};
 use crate::once_core::{Account, Found, OnceCore, Seed};
 use spin_core::relax::{RelaxStrategy, Spin};
 use spin_step::OnceCall;
@@ -162,6 +163,30 @@ impl<T, F, R, M: Promise<T>> LazyLock<T, F, R, M> {
             }),
             strategy: PhantomData,
         }
+    }
+}
+
+impl<T, F: Drop, R, M: Promise<T> + Drop> LazyLock<T, F, R, M> {
+    /// Consumes the `LazyLock`, and returns its value, or `None` if there is none, with its whole history.
+    ///
+    /// # Contract
+    /// The history is a schedule of the model. Unless the initialiser still runs at its end, a value keeps the promise
+    /// and is the only one in the history, and with `None` the history has no value (`Ends`). The history begins with
+    /// what a pass knew ([`covers`](spin_core::trace::Trace::covers)). The call returns.
+    ///
+    /// # Examples
+    /// ```
+    /// use spin::LazyLock;
+    ///
+    /// let square: LazyLock<u64, _> = LazyLock::new(|| 7 * 7);
+    /// LazyLock::force(&square, &rt);
+    /// assert_eq!(rt; LazyLock::into_history(square).0, Some(49));
+    /// ```
+    pub fn into_history(this: Self) -> (Option<T>, History<T>)
+        ensures { Ends M.keeps (opening this) result }
+    {
+        let Self { core, strategy: _ } = this;
+        core.into_history()
     }
 }
 

@@ -1,9 +1,10 @@
 //! A value that one closure makes. Begin with [`Once::new`] and [`Once::call_once`].
 ghost use Rattle.std.specs.Prelude.{◌≡◌, [], ◌∷◌, IfSome, IfErr, Err};
 ghost use Rattle.spin_step.specs.declared.once_calls.OnceCall.TheVariants.{CallOnce, Get, Poll as PollCall, Wait as WaitCall};
-ghost use Rattle.spin_once.specs.OncePasses.{Gives, Never, OkGives, OpensWith, new_in, opening};
+ghost use Rattle.spin_once.specs.OncePasses.{Ends, Gives, Never, OkGives, OpensWith, new_in, opening};
 
 use self::make::make;
+pub use crate::once_core::{Entry, History};
 use crate::once_core::{OnceCore, Seed};
 use spin_core::relax::{RelaxStrategy, Spin};
 use spin_step::OnceCall;
@@ -113,8 +114,20 @@ impl<T, R> Once<T, R> {
     /// assert_eq!(rt; port.try_into_inner(), Some(81));
     /// ```
     pub fn try_into_inner(self) -> Option<T> {
+        self.into_history().0
+    }
+
+    /// Consumes the `Once`, and returns its value, or `None` if there is none, with its whole history.
+    ///
+    /// # Contract
+    /// The history is a schedule of the model. Unless a closure still runs at its end, the value is the only one in it,
+    /// and with `None` it has no value (`Ends`). The history begins with what a pass knew
+    /// ([`covers`](spin_core::trace::Trace::covers)). The call returns.
+    pub fn into_history(self) -> (Option<T>, History<T>)
+        ensures { Ends (opening self) result }
+    {
         let Self { core, strategy: _ } = self;
-        core.into_inner()
+        core.into_history()
     }
 }
 

@@ -2,6 +2,7 @@
 ghost use Rattle.std.specs.Prelude.{◌≡◌, [], ◌∷◌};
 ghost use Rattle.spin_once.specs.Accounts.{here, new_in};
 ghost use Rattle.spin_once.specs.OnceValues.{OpensWith};
+ghost use Rattle.spin_once.specs.Passes.{Ends};
 
 use self::rule::{COMPLETE, Key, NOTHING, SeedCell, Stage};
 use spin_core::cell::Cell;
@@ -19,6 +20,7 @@ mod rule;
 pub(crate) use self::account::{Account, Found};
 pub use self::pass::Pass;
 pub(crate) use self::rule::Seed;
+pub use self::rule::{Entry, History};
 
 /// A cell that holds a seed, and later the value made from it.
 ///
@@ -74,16 +76,15 @@ impl<T, S: Seed<T>> OnceCore<T, S> {
         }
     }
 
-    /// Returns the value if there is one. It loads no word, since the cell is no longer shared.
-    pub(crate) fn into_inner(self) -> Option<T>
+    /// Returns the value if there is one, with the whole history. It loads no word, since the cell is no longer shared.
+    pub(crate) fn into_history(self) -> (Option<T>, History<T>)
     where
         S: Drop,
+        ensures { Ends S.makes self.cell result }
     {
         let Self { cell } = self;
-        match cell.into_inner().value {
-            Stage::Done(value) => Some(value),
-            _ => None,
-        }
+        let (_, slot, history) = cell.into_parts();
+        (slot.value.into_value(), history)
     }
 
     /// Returns a mutable reference to the value if there is one. The borrow shows that no other thread has the cell.

@@ -1,12 +1,12 @@
 -- What the rule of a read-write lock says of its parties.
-use Rattle.std.proofs.Common.{◌≡◌, ℕ, ◌+◌, ◌-◌, ◌*◌, ◌%◌, ◌^◌, ◌≤◌, Bool, true, cond, List, [], refl, ap, ◌∙◌, arith}
+use Rattle.std.proofs.Common.{◌≡◌, ℕ, ◌+◌, ◌-◌, ◌*◌, ◌%◌, ◌^◌, ◌≤◌, Bool, true, cond, List, refl, ap, ◌∙◌, arith}
 use Rattle.std.proofs.lemmas.List.Sums.{sum_by-cons}
-use Rattle.spin_step.specs.Plain.{Kind, Holder, holder, reading, upgradable, asking, writing, weight, may_turn, is_holder, same_kind, count_kind, with_kind}
+use Rattle.spin_step.specs.Plain.{Kind, Holder, reading, upgradable, asking, writing, weight, may_turn, is_holder, same_kind, count_kind, with_kind}
 use Rattle.spin_step_more.specs.Readers.{tells, released, turned}
 use Rattle.spin_step.proofs.Holders.{is_holder-from_entries}
 use Rattle.spin_step_more.proofs.Readers.{tells-holder}
 use Rattle.spin_step.proofs.Sums.{upgrader, one_of, by_kinds, all_kinds, sum-less, sum-turned, length-with_kind}
-use Rattle.spin_core.specs.Views.{Part, holds, holds_starving, entries_of}
+use Rattle.spin_core.specs.Views.{Part, entries_of}
 use Rattle.spin_core.proofs.Owners.{exactly}
 use Rattle.spin_rwlock.specs.Rw.{part, Word, View}
 use Rattle.spin_rwlock.specs.Standing.{is_of_kind, has_kind, held, readers, upgradables, askers, writers, holders, ReadersOrWriter, HoldsAt}
@@ -17,9 +17,7 @@ one_if b = cond b 1 0
 
 -- a party whose part is of the kind `k` is one holder of this kind in the plain lock, and any other party is none
 one_holder : (k : Kind) (p : ℕ) (x : Part) → one_if (is_of_kind k x) ≡ count_kind k (entries_of p x).holders
-one_holder k p (holds j) = omega (arith, sum_by-cons (λ (h : Holder). one_of k h.kind) (holder p j) [])
-one_holder k p holds_starving = omega (arith, sum_by-cons (λ (h : Holder). one_of k h.kind) (holder p writing) [])
-one_holder k p _ = refl
+one_holder k p x = grind (arith, sum_by-cons (λ (h : Holder). one_of k h.kind))
 
 -- as many parties are of the kind `k` as the plain lock has holders of this kind
 as_many : (k : Kind) (word : ℕ) (vs : List View) (rule : Word word tt vs) → held k vs ≡ count_kind k rule.0.holders
@@ -49,8 +47,7 @@ stands vs p k word rule at = is_holder-from_entries p k rule.0.holders (ap (λ e
 
 told : (vs : List View) (p : ℕ) (k : Kind) (word : ℕ) (rule : Word word tt vs) → HoldsAt vs p k → tells k word ≡ true
 told vs p k word rule at =
-    let s = rule.0 in
-    ap (tells k) rule.4 ∙ tells-holder s p k rule.2.exclusive (few s rule.1 rule.2) (stands vs p k word rule at)
+    ap (tells k) rule.4 ∙ tells-holder rule.0 p k rule.2.exclusive (few rule.0 rule.1 rule.2) (stands vs p k word rule at)
 
 pub goes_as_step : (word : ℕ) (vs : List View) (p : ℕ) (k : Kind) → Word word tt vs → HoldsAt vs p k → (tells k word ≡ true) × ((word + (2 ^ 64 - weight k)) % 2 ^ 64 ≡ released k word)
 goes_as_step word vs p k rule at =
@@ -58,11 +55,7 @@ goes_as_step word vs p k rule at =
     (told vs p k word rule at, omega (arith, rule.4, bounded s.holders (few s rule.1 rule.2), sum-less weight p k s.holders (stands vs p k word rule at)))
 
 heavier : (j k : Kind) → may_turn j k ≡ true → weight j ≤ weight k
-heavier writing reading may = omega arith
-heavier writing upgradable may = omega arith
-heavier upgradable reading may = omega arith
-heavier upgradable asking may = omega arith
-heavier _ _ may = absurd cc
+heavier j k may = grind (arith, may)
 
 pub turns_as_step : (word : ℕ) (vs : List View) (p : ℕ) (j k : Kind) → Word word tt vs → HoldsAt vs p j → may_turn j k ≡ true → (tells j word ≡ true) × ((word + (weight k - weight j)) % 2 ^ 64 ≡ turned j k word)
 turns_as_step word vs p j k rule at may =

@@ -2,7 +2,7 @@
 use Rattle.std.specs.Prelude.{◌≡◌, ◌≤◌, Option, Some, length}
 use Rattle.spin_core.specs.Own.{mark_of}
 use Rattle.spin_core.specs.Writer.{with_value}
-use Rattle.spin_session.specs.Turns.{Spot, spot}
+use Rattle.spin_session.specs.Turns.{SeatSpot, spot_of}
 use Rattle.spin_step_more.specs.declared.rw_calls.RwCall.{RwCall}
 use Rattle.spin_step_more.specs.declared.rw_calls.RwPoint.{RwPoint}
 use Rattle.spin_rwlock.specs.declared.rwlock.reader.SharedGuard.{SharedGuard}
@@ -12,7 +12,7 @@ use Rattle.spin_rwlock.specs.declared.rwlock.writer.RwLockWriteGuard.{RwLockWrit
 use Rattle.spin_rwlock.specs.declared.rwlock.writer.WriteHeld.{WriteHeld}
 
 abbrev pub RwSpot : Type 0 → Type 0
-RwSpot T = Spot T RwCall RwPoint
+RwSpot T = SeatSpot T RwCall RwPoint
 
 module _ {T R : Type 0} where
   module _ {K : Type 0} {kind : Ghosts K} where
@@ -22,7 +22,7 @@ module _ {T R : Type 0} where
 
     -- the spot of a guard's party
     abbrev pub shared_spot : SharedGuard T K R kind → RwSpot T
-    shared_spot it = spot it.session
+    shared_spot it = spot_of it.session
 
   abbrev pub write_value : RwLockWriteGuard T R → T
   write_value it = it.writer.value
@@ -47,7 +47,7 @@ module _ {T R : Type 0} where
 
   -- the spot of a hold's party
   abbrev pub read_held_spot : ReadHeld T R → RwSpot T
-  read_held_spot it = spot it.session
+  read_held_spot it = spot_of it.session
 
   abbrev pub write_held_spot : WriteHeld T R → RwSpot T
   write_held_spot it = (it.permit.key, it.permit.view, it.seen)

@@ -14,7 +14,7 @@ use Rattle.spin_step_more.specs.declared.rw_calls.RwCall.{RwCall}
 use Rattle.spin_step_more.specs.declared.rw_calls.RwCall.TheVariants.{TryRead, Read, TryUpgradeableRead, UpgradeableRead, Write, Upgrade, Downgrade, DowngradeToUpgradeable}
 use Rattle.spin_step_more.specs.declared.rw_calls.RwPoint.{RwPoint}
 use Rattle.spin_step_more.specs.declared.rw_calls.RwPoint.TheVariants.{First, Exchange, Asking}
-use Rattle.spin_core.specs.Cell.{Use, writes}
+use Rattle.spin_core.specs.Cell.{writes}
 use Rattle.spin_core.specs.Views.{Part, idle, holds, Encodes, no_word}
 use Rattle.spin_core.specs.Own.{Numbered}
 use Rattle.spin_core.specs.declared.tie.Opening.{Opening}
@@ -66,13 +66,6 @@ Word = Encodes part reader_limit rw_word no_word
 -- the views of the parties
 abbrev pub views : List (Numbered View) → List View
 views vs = map (λ v. v.0) vs
-
-abbrev pub use_of_view : View → Use
-use_of_view = session.use_at rw_meaning
-
--- how a party uses the value
-abbrev pub use_of_party : Numbered View → Use
-use_of_party = session.use_of_party rw_meaning
 
 -- The kinds of readers
 

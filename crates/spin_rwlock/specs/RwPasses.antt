@@ -51,9 +51,13 @@ module _ {T : Type 0} where
   WroteSome = session.WroteSome rw_tables
 
   module _ {R K : Type 0} {kind : Ghosts K} where
+    -- the guard's value is the one written last, of all that the party at `now` knows
+    abbrev pub ShowsLast : SharedGuard T K R kind → RwSpot T → Type 0
+    ShowsLast guard now = IfSome (shared_value guard) (IsLast (opening_of now) (history now))
+
     -- By this call, so answered, the party at `before` is a reader with this guard, whose value is the one written last.
     abbrev pub Lends : RwCall → Answer (Unit {0}) → RwSpot T → SharedGuard T K R kind → Type 0
-    Lends call answer before guard = let now = shared_spot guard in IfSome (shared_value guard) (IsLast (opening_of now) (history now)) × Calls call answer before now
+    Lends call answer before guard = let now = shared_spot guard in ShowsLast guard now × Calls call answer before now
 
   module _ {R : Type 0} where
     -- By this call the party at `before` is the writer with this guard, whose value is the one written last.

@@ -133,7 +133,7 @@ impl<T, R> RwLock<T, R> {
     /// drop(writer);
     /// ```
     #[must_use = "dropping the guard at once releases the lock: bind the answer, or write `drop(..)`"]
-    #[tactic(auto, using(crate::proofs::RwCalls::peeks, crate::proofs::RwCalls::peek_wins, crate::proofs::RwCalls::may_count, crate::proofs::RwCalls::count_at_once))]
+    #[tactic(auto, using(crate::proofs::RwCalls::peeks, crate::proofs::RwCalls::peek_wins))]
     pub fn try_read_weak(&self) -> Option<RwLockReadGuard<'_, T, R>>
         ensures { IfSome result (Lends TryRead Granted (new_in (opening self.now))) }
     {
@@ -325,6 +325,7 @@ impl<T, R: RelaxStrategy> RwLock<T, R> {
     /// # Contract
     /// The guard is granted by one `Read`, and its value is the one written last in the lock's history (`Lends`).
     /// Whether and when the call returns is not promised.
+    #[inline(always)]
     pub fn read<W: Wait>(&self, rt: &W) -> RwLockReadGuard<'_, T, R>
         ensures { Lends Read Granted (new_in (opening self.now)) result }
     {
@@ -350,6 +351,7 @@ impl<T, R: RelaxStrategy> RwLock<T, R> {
     /// assert!(rt; limit.try_upgradeable_read(&rt).is_none());
     /// assert_eq!(rt; *guard, 3);
     /// ```
+    #[inline(always)]
     pub fn upgradeable_read<W: Wait>(&self, rt: &W) -> RwLockUpgradableGuard<'_, T, R>
         ensures { Lends UpgradeableRead Granted (new_in (opening self.now)) result }
     {
@@ -376,6 +378,7 @@ impl<T, R: RelaxStrategy> RwLock<T, R> {
     /// drop(writer);
     /// assert_eq!(rt; *limit.read(&rt), 4);
     /// ```
+    #[inline(always)]
     pub fn write<W: Wait>(&self, rt: &W) -> RwLockWriteGuard<'_, T, R>
         ensures { Grants Write (new_in (opening self.now)) result }
     {

@@ -4,7 +4,7 @@ use Rattle.std.proofs.lemmas.Bool.{false≢true}
 use Rattle.std.proofs.lemmas.List.{append_cancel_right}
 use Rattle.spin_seated.specs.declared.history.Entry.{Entry}
 use Rattle.spin_seated.specs.declared.history.Known.{Known}
-use Rattle.spin_seated.specs.Histories.{Machine, BeginsWith, entry, calls_by, after, state, IsLegalFrom, IsLegal, holds, IsTracked, Made, Met, Turned, held_then}
+use Rattle.spin_seated.specs.Histories.{PlainObject, BeginsWith, entry, calls_by, after, state, IsLegalFrom, IsLegal, holds, IsTracked, Made, Met, Turned, held_then}
 use Rattle.std.proofs.lemmas.List.{append_cancel_left, nil_from_length}
 use Rattle.std.proofs.lemmas.List.Elements.{filter-append}
 
@@ -37,7 +37,7 @@ module _ {C A : Type 0} where
       (omega (arith, ap length one, ap length two, ap length same, length-append (calls_by p first) (calls_by p some.rest), length-append (calls_by p mid) (calls_by p more.rest))) in
       one ∙ (ap (λ (l : List (Entry C A)). calls_by p first ++ l) none_left ∙ append-nil (calls_by p first))
 
-module _ {K S C A H : Type 0} (m : Machine K S C A H) where
+module _ {K S C A H : Type 0} (m : PlainObject K S C A H) where
   pub after-append : (s : S) (xs ys : List (Entry C A)) → after m s (xs ++ ys) ≡ after m (after m s xs) ys
   after-append s [] ys = refl
   after-append s (e ∷ es) ys = after-append (m.next e.pass e.call s) es ys
@@ -67,12 +67,9 @@ module _ {K S C A H : Type 0} (m : Machine K S C A H) where
         → (calls_by p es ≡ [] → m.holds p (after m (m.next e.pass e.call s) es) ≡ m.holds p (m.next e.pass e.call s)) → m.holds p (after m (m.next e.pass e.call s) es) ≡ m.holds p s
     passed_by s e es b own alone rest = grind (arith, false≢true, eq-eqb)
 
-    pub stands : (s : S) (log : List (Entry C A)) → calls_by p log ≡ [] → m.holds p (after m s log) ≡ m.holds p s
+    stands : (s : S) (log : List (Entry C A)) → calls_by p log ≡ [] → m.holds p (after m s log) ≡ m.holds p s
     stands s [] alone = refl
     stands s (e ∷ es) alone = passed_by s e es (e.pass == p) refl alone (stands (m.next e.pass e.call s) es)
-
-    pub stands_on : (k : K) (log seen : List (Entry C A)) → BeginsWith log seen → calls_by p log ≡ calls_by p seen → m.holds p (state m k log) ≡ m.holds p (state m k seen)
-    stands_on k log seen begins own = grind (arith, nothing_more, calls_by-append, after-append, stands)
 
   -- the place of a call in the history: the calls before it, and what it found and left
   pub record MadeAt (x : Known K C A) (c : C) (a : A) (y : Known K C A) : Type 0 where
@@ -90,25 +87,23 @@ module _ {K S C A H : Type 0} (m : Machine K S C A H) where
   made_at x c a y made =
       let before : List (Entry C A) = x.seen ++ made.between in
       let last : List (Entry C A) = entry x.pass c a ∷ [] in
-      let own : calls_by x.pass before ++ last ≡ calls_by x.pass x.seen ++ last =
-      ap (λ (l : List (Entry C A)). calls_by x.pass before ++ l) (sym (calls_by-own x.pass c a)) ∙ (sym (calls_by-append x.pass before last) ∙ (ap (calls_by x.pass) (sym made.history) ∙ made.own)) in
       let two = legal-split (m.passes x.opening) (m.start x.opening) before last (subst (IsLegal m x.opening) made.history made.legal) in
       record {
         before = before;
         history = made.history;
         begins = record { rest = made.between; is = refl };
-        own = append_cancel_right (calls_by x.pass before) (calls_by x.pass x.seen) last own;
+        own = append_cancel_right (calls_by x.pass before) (calls_by x.pass x.seen) last (grind (arith, calls_by-append, calls_by-own));
         legal = two.0;
         given = two.1.0;
         may = two.1.1;
         answer = two.1.2;
-        left = ap (λ (k : K). state m k y.seen) made.opening ∙ (ap (state m x.opening) made.history ∙ after-append (m.start x.opening) before last);
+        left = grind (arith, after-append);
       }
 
   -- What a pass knows of its hold is true in the history of all calls, and changes only by its own calls.
   module _ (tracked : IsTracked m) (x : Known K C A) where
     pub still : (log : List (Entry C A)) → BeginsWith log x.seen → calls_by x.pass log ≡ calls_by x.pass x.seen → m.holds x.pass (state m x.opening log) ≡ holds m x
-    still log begins own = stands_on x.pass (λ q c s apart. tracked.steady x.pass q c s apart) x.opening log x.seen begins own
+    still log begins own = grind (arith, nothing_more, calls_by-append, after-append, stands x.pass (λ q c s apart. tracked.steady x.pass q c s apart))
 
     pub after_meet : (log : List (Entry C A)) (y : Known K C A) → Met m x log y → holds m y ≡ holds m x
     after_meet log y met = grind (arith, still)

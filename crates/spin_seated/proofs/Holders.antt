@@ -1,5 +1,6 @@
 -- Who holds the mutex: nobody, or one of its passes.
 use Rattle.std.proofs.Common.{arith, ◌≡◌, ℕ, ◌<◌, ◌≢◌, ◌==◌, ◌&&◌, ◌||◌, Bool, true, false, if◌then◌else◌, List, [], ◌∷◌, refl, ap, ◌∙◌, eq-eqb, ne_eqb, eqb-true}
+use Rattle.std.proofs.Math.Bool.{or-false}
 use Rattle.spin_step.specs.Plain.{Holder, holder, writing, same_kind, is_holder, is_empty, without_holder, apply, gets, to_write}
 use Rattle.spin_seated.specs.declared.history.Entry.{Entry}
 use Rattle.spin_seated.specs.declared.lock.Opening.{Opening}
@@ -65,11 +66,8 @@ value_tried p s b = grind arith
 pub truth_is : (b t : Bool) → Truth b ≡ Truth t → b ≡ t
 truth_is b t same = cc same
 
-or_false : (b : Bool) → (b || false) ≡ b
-or_false b = grind arith
-
 pub tried : (p : ℕ) (s : Locked) (hs : List Holder) (b : Bool) → Truth b ≡ Truth (is_empty hs) → is_held_by p (after_call p TryLock (held_by s hs)) ≡ (is_holder p writing hs || b)
-tried p s hs b is = grind (arith, eq-eqb, truth_is, or_false)
+tried p s hs b is = grind (arith, eq-eqb, truth_is, or-false)
 
 own_after : (n p : ℕ) (c : Call) (s : Locked) → Alone n s.lock.holders → may_call p c s ≡ true → is_held_by p (after_call p c s) ≡ held_after c (plain_answer p c s) (is_held_by p s)
 own_after n p c s alone may = grind (arith, tried, freed)

@@ -1,16 +1,17 @@
 -- What a pass holds, as its own calls tell.
 use Rattle.std.proofs.Common.{arith, ◌≡◌, ℕ, ◌==◌, ◌&&◌, ◌||◌, cond, Bool, true, false, if◌then◌else◌, filter, map, List, [], ◌∷◌, ◌++◌, Option, sym, ap, subst, ◌∙◌, append_assoc, append-nil, eqb-true}
+use Rattle.std.proofs.Math.Bool.{or-true, or-false}
 use Rattle.spin_step.specs.Plain.{Holder, writing, same_kind, is_holder}
 use Rattle.spin_seated.specs.declared.history.Entry.{Entry}
 use Rattle.spin_seated.specs.declared.lock.Opening.{Opening}
 use Rattle.spin_seated.specs.declared.lock.Answer.{Answer}
 use Rattle.spin_seated.specs.declared.rwlock.SeatedHold.{SeatedHold}
-use Rattle.spin_seated.specs.Histories.{Machine, entry, calls_by, state, IsLegal, IsTracked}
+use Rattle.spin_seated.specs.Histories.{PlainObject, entry, calls_by, state, IsLegal, IsTracked}
 use Rattle.spin_seated.specs.Locked.{Locked, hold_after}
 use Rattle.spin_seated.specs.Mutex as plain
 use Rattle.spin_seated.specs.Mutex.{mutex}
 use Rattle.spin_seated.specs.declared.mutex.Call.{Call}
-use Rattle.spin_seated.specs.Lawful.{History, holders, holds_then, holds_by, MayCall}
+use Rattle.spin_seated.specs.Lawful.{History, holders_after, holds_then, holds_by, MayCall}
 use Rattle.spin_seated.specs.Rw as rwlock
 use Rattle.spin_seated.specs.Rw.{rw, may_with}
 use Rattle.spin_seated.specs.RwLawful as rw_lawful
@@ -20,7 +21,7 @@ use Rattle.spin_seated.proofs.Holders.{Alone, alone_state}
 use Rattle.spin_seated.proofs.RwSteps as readers
 use Rattle.spin_seated.proofs.RwSteps.{places, standing}
 
-module _ {C H : Type 0} (m : Machine Opening Locked C Answer H) (tracked : IsTracked m) (turn : C → Answer → H → H) (same : (c : C) (a : Answer) (h : H) → m.held_after c a h ≡ turn c a h) where
+module _ {C H : Type 0} (m : PlainObject Opening Locked C Answer H) (tracked : IsTracked m) (turn : C → Answer → H → H) (same : (c : C) (a : Answer) (h : H) → m.held_after c a h ≡ turn c a h) where
   one_more : (b : Bool) (e : Entry C Answer) (es : List (Entry C Answer)) (p : ℕ) (old new : H) → (e.pass == p) ≡ b → (b ≡ true → new ≡ turn e.call e.answer old) → (b ≡ false → new ≡ old)
       → hold_after turn new (calls_by p es) ≡ hold_after turn old (if b then e ∷ calls_by p es else calls_by p es)
   one_more b e es p old new is own other = grind arith
@@ -39,14 +40,8 @@ module _ {C H : Type 0} (m : Machine Opening Locked C Answer H) (tracked : IsTra
 
 -- For the mutex:
 
-or_true : (b : Bool) → (b || true) ≡ true
-or_true b = grind arith
-
-or_none : (b : Bool) → (b || false) ≡ b
-or_none b = grind arith
-
 then_is : (c : Call) (a : Answer) (held : Bool) → plain.held_after c a held ≡ holds_then c a held
-then_is c a held = grind (arith, or_true, or_none)
+then_is c a held = grind (arith, or-true, or-false)
 
 pub holds_own : (k : Opening) (log : History) (p : ℕ) → IsLegal mutex k log → is_holder p writing (state mutex k log).lock.holders ≡ holds_by (calls_by p log)
 holds_own k log p legal = held_by_own mutex mutexes.tracked holds_then then_is k log p legal
@@ -57,7 +52,7 @@ its_place b h p is kind = grind (arith, eqb-true)
 in_place : (n p : ℕ) (hs : List Holder) → Alone n hs → filter (λ q. q == p) (map (λ h. h.party) hs) ≡ (if is_holder p writing hs then p ∷ [] else [])
 in_place n p hs alone = grind (arith, its_place)
 
-pub stands_own : (k : Opening) (log : History) (p : ℕ) → IsLegal mutex k log → filter (λ q. q == p) (holders k log) ≡ (if holds_by (calls_by p log) then p ∷ [] else [])
+pub stands_own : (k : Opening) (log : History) (p : ℕ) → IsLegal mutex k log → filter (λ q. q == p) (holders_after k log) ≡ (if holds_by (calls_by p log) then p ∷ [] else [])
 stands_own k log p legal = in_place k.passes p (state mutex k log).lock.holders (alone_state k log legal) ∙ ap (λ b. if b then p ∷ [] else []) (holds_own k log p legal)
 
 may_hold : (p : ℕ) (c : Call) (s : Locked) → plain.may_call p c s ≡ true → MayCall c (is_holder p writing s.lock.holders)
@@ -77,7 +72,7 @@ rw_holds_own k log p legal = held_by_own rw readers.tracked rw_lawful.holds_then
 same_place : (p : ℕ) (h : Option SeatedHold) → places p h ≡ rw_lawful.place_of p h
 same_place p h = grind arith
 
-pub rw_stands_own : (k : Opening) (log : rw_lawful.History) (p : ℕ) → IsLegal rw k log → filter (λ h. h.party == p) (rw_lawful.holders k log) ≡ rw_lawful.place_of p (rw_lawful.holds_by (calls_by p log))
+pub rw_stands_own : (k : Opening) (log : rw_lawful.History) (p : ℕ) → IsLegal rw k log → filter (λ h. h.party == p) (rw_lawful.holders_after k log) ≡ rw_lawful.place_of p (rw_lawful.holds_by (calls_by p log))
 rw_stands_own k log p legal = grind (arith, standing, places, rw_holds_own, same_place)
 
 rw_may_hold : (c : rwlock.Call) (h : Option SeatedHold) → may_with c h ≡ true → rw_lawful.MayCall c h

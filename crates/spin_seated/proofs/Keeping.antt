@@ -5,11 +5,11 @@ use Rattle.std.proofs.lemmas.List.{set-get_or}
 use mathlib.Core.Option.{some}
 use lib.ListN.{get_elem?}
 use Rattle.atomic_table.specs.Table.{State, Step, Me, Act, keeps, Valid, Allows, Splits, Joins, opening, stepped, carried_after}
-use Rattle.atomic_table.proofs.Lists.{at_set, at_snoc, set_again, set_else}
+use Rattle.atomic_table.proofs.Lists.{at_set, at_snoc, set_else}
 use Rattle.spin_seated.specs.declared.history.Entry.{Entry}
 use Rattle.spin_seated.specs.declared.history.Known.{Known}
-use Rattle.spin_seated.specs.Histories.{Machine, entry, calls_by, newcomer, names, total, One, state, IsLegal, Made, Met, Fits, AllFit, OneHistory, all_passes, IsTracked, Turned, Tells, Shows, Owed, Owes}
-use Rattle.spin_seated.proofs.Totals.{total-append, total-set, two_at_most}
+use Rattle.spin_seated.specs.Histories.{PlainObject, entry, newcomer, names, total, One, state, IsLegal, Made, Met, Fits, AllFit, OneHistory, all_passes, IsTracked, Turned, Tells, Shows, Owed, Owes}
+use Rattle.spin_seated.proofs.Totals.{total-append, total-set, at_most}
 use Rattle.spin_seated.proofs.Histories.{begins_here, begins_longer, calls_by-append, calls_by-own, calls_by-other, after-append, legal-append, still}
 
 module _ {K C A : Type 0} where
@@ -26,7 +26,7 @@ module _ {K C A : Type 0} where
   names-cut : (p : ℕ) (v : List (Known K C A)) → names p (drop 1 v) + names p (take 1 v) ≡ names p v
   names-cut p v = grind arith
 
-module _ {K S C A H : Type 0} (m : Machine K S C A H) where
+module _ {K S C A H : Type 0} (m : PlainObject K S C A H) where
   -- The history of all calls, and what each seat knows, when one call is added.
   module _ (k : K) (log : List (Entry C A)) where
     stays : (x : Known K C A) (p : ℕ) (c : C) (a : A) → p ≢ x.pass → Fits m k log x → Fits m k (log ++ entry p c a ∷ []) x
@@ -49,9 +49,22 @@ module _ {K S C A H : Type 0} (m : Machine K S C A H) where
     fit-cut : (v : List (Known K C A)) → AllFit m k log v → AllFit m k log (drop 1 v) × AllFit m k log (take 1 v)
     fit-cut v fits = grind arith
 
+  -- The rule after a step that leaves other words, and another view in one seat.
+  module _ {X : Type 0} (k : K) (s : State X (List (Known K C A))) (kept : OneHistory m k s) (log : List (Entry C A)) (words : List ℕ) (id : ℕ) (v w : List (Known K C A)) (at : get_elem? s.views id ≡ some v) where
+    sets : words ≡ m.words (state m k log) → IsLegal m k log → ((j : ℕ) (u : List (Known K C A)) → j ≢ id → get_elem? s.views j ≡ some u → AllFit m k log u) → AllFit m k log w → ((p : ℕ) → names p w ≡ names p v)
+        → OneHistory m k (record { words = words; homes = s.homes; views = slice_set s.views id w })
+    sets now legal others own same =
+        record {
+          log = log;
+          words = now;
+          legal = legal;
+          fit = λ j u there. ⊎_elim (λ h. subst (AllFit m k log) h.1 own) (λ h. others j u h.0 h.1) (at_set s.views id j w u there);
+          once = λ p. omega (arith, total-set (names p) s.views id v w at, same p, kept.once p);
+        }
+
   -- A step of a seat with one pass, while the rule holds.
   module _ {X : Type 0} (x : Known K C A) (id i : ℕ) (f : ℕ → ℕ) (s : State X (List (Known K C A))) (kept : OneHistory m x.opening s) (at : get_elem? s.views id ≡ some (x ∷ [])) where
-    abbrev own_fits : Fits m x.opening kept.log x
+    own_fits : Fits m x.opening kept.log x
     own_fits = (kept.fit id (x ∷ []) at).0
 
     abbrev now : S
@@ -64,14 +77,7 @@ module _ {K S C A H : Type 0} (m : Machine K S C A H) where
     moved w = record { words = written; homes = s.homes; views = slice_set s.views id w }
 
     idles : written ≡ m.words now → OneHistory m x.opening (moved (x ∷ []))
-    idles same =
-        record {
-          log = kept.log;
-          words = same;
-          legal = kept.legal;
-          fit = subst (λ (vs : List (List (Known K C A))). (j : ℕ) (v : List (Known K C A)) → get_elem? vs j ≡ some v → AllFit m x.opening kept.log v) (sym (set_again s.views id (x ∷ []) at)) kept.fit;
-          once = subst (λ (vs : List (List (Known K C A))). (p : ℕ) → total (names p) vs ≤ 1) (sym (set_again s.views id (x ∷ []) at)) kept.once;
-        }
+    idles same = sets x.opening s kept kept.log written id (x ∷ []) (x ∷ []) at same kept.legal (λ j u apart. kept.fit j u) (kept.fit id (x ∷ []) at) (λ p. refl)
 
     module _ (c : C) (a : A) (may : m.may x.pass c now ≡ true) (words : written ≡ m.words (m.next x.pass c now)) (answer : a ≡ m.answer x.pass c now) where
       abbrev longer : List (Entry C A)
@@ -82,32 +88,15 @@ module _ {K S C A H : Type 0} (m : Machine K S C A H) where
 
       others : (j : ℕ) (v : List (Known K C A)) → j ≢ id → get_elem? s.views j ≡ some v → AllFit m x.opening longer v
       others j v apart there =
-          let two : names x.pass (x ∷ []) + names x.pass v ≤ total (names x.pass) s.views = two_at_most (names x.pass) s.views id j (x ∷ []) v at there apart in
-          let one : names x.pass (x ∷ []) ≡ 1 = names-self x in
-          let most : total (names x.pass) s.views ≤ 1 = kept.once x.pass in
-          all_stay x.opening kept.log x.pass c a v (omega arith) (kept.fit j v there)
+          let none = at_most (names x.pass) (set s.views id []) j v (set_else s.views id j [] apart ∙ there) in
+          all_stay x.opening kept.log x.pass c a v (omega (arith, none, total-set (names x.pass) s.views id (x ∷ []) [] at, names-self x, kept.once x.pass)) (kept.fit j v there)
 
       makes : OneHistory m x.opening (moved (knowing x longer ∷ []))
-      makes =
-          record {
-            log = longer;
-            words = words ∙ ap m.words (sym (after-append m (m.start x.opening) kept.log (entry x.pass c a ∷ [])));
-            legal = grown;
-            fit = λ j v there. ⊎_elim (λ h. subst (AllFit m x.opening longer) h.1 (record { opening = refl; given = own_fits.given; begins = begins_here longer; own = refl }, tt)) (λ h. others j v h.0 h.1)
-                (at_set s.views id j (knowing x longer ∷ []) v there);
-            once = λ p. let changed = total-set (names p) s.views id (x ∷ []) (knowing x longer ∷ []) at in let most : total (names p) s.views ≤ 1 = kept.once p in omega arith;
-          }
+      makes = sets x.opening s kept longer written id (x ∷ []) (knowing x longer ∷ []) at (words ∙ ap m.words (sym (after-append m (m.start x.opening) kept.log (entry x.pass c a ∷ [])))) grown others
+          (record { opening = refl; given = own_fits.given; begins = begins_here longer; own = refl }, tt) (λ p. refl)
 
       made : Made m x c a (knowing x longer)
-      made =
-          record {
-            opening = refl;
-            pass = refl;
-            between = own_fits.begins.rest;
-            history = ap (λ (l : List (Entry C A)). l ++ entry x.pass c a ∷ []) own_fits.begins.is;
-            own = calls_by-append x.pass kept.log (entry x.pass c a ∷ []) ∙ (ap (λ (l : List (Entry C A)). l ++ calls_by x.pass (entry x.pass c a ∷ [])) own_fits.own ∙ ap (λ (l : List (Entry C A)). calls_by x.pass x.seen ++ l) (calls_by-own x.pass c a));
-            legal = grown;
-          }
+      made = grind (arith, own_fits, calls_by-append, calls_by-own, grown)
 
     -- the result of the step on these words
     abbrev Steps : List ℕ → Option (C × A) → Type 0
@@ -144,43 +133,30 @@ module _ {K S C A H : Type 0} (m : Machine K S C A H) where
         w,
         keeps,
         tt,
-        record {
-          log = kept.log;
-          words = set-get_or s.words i 0 ∙ kept.words;
-          legal = kept.legal;
-          fit = λ j v there. ⊎_elim (λ h. subst (AllFit m k kept.log) h.1 (knows k kept.log x fits.0, (knows k kept.log y fits.1.0, tt))) (λ h. kept.fit j v h.1) (at_set s.views id j w v there);
-          once = λ p. let changed = total-set (names p) s.views id (x ∷ y ∷ []) w at in let most : total (names p) s.views ≤ 1 = kept.once p in omega arith;
-        },
+        sets k s kept kept.log _ id (x ∷ y ∷ []) w at (set-get_or s.words i 0 ∙ kept.words) kept.legal (λ j u apart. kept.fit j u) (knows k kept.log x fits.0, (knows k kept.log y fits.1.0, tt)) (λ p. refl),
         ((kept.log, meets k kept.log x of_x kept.legal fits.0, meets k kept.log y of_y kept.legal fits.1.0), refl),
       ))
 
   -- the rule holds when the first pass of a seat moves to a seat of its own
   pub splits : {X : Type 0} (k : K) (id : ℕ) (v : List (Known K C A)) → Splits {S = X} (OneHistory m k) id v (drop 1 v) (take 1 v)
   splits k id v s kept at =
-      let cut = fit-cut k kept.log v (kept.fit id v at) in
       record {
         log = kept.log;
         words = kept.words;
         legal = kept.legal;
-        fit = λ j w there. ⊎_elim (λ old. ⊎_elim (λ h. subst (AllFit m k kept.log) h.1 cut.0) (λ h. kept.fit j w h.1) (at_set s.views id j (drop 1 v) w old)) (λ new. subst (AllFit m k kept.log) new cut.1)
-            (at_snoc (set s.views id (drop 1 v)) (take 1 v) w j there);
-        once = λ p. let changed = total-set (names p) s.views id v (drop 1 v) at in let more = total-append (names p) (set s.views id (drop 1 v)) (take 1 v ∷ []) in
-            let parts = names-cut p v in let most : total (names p) s.views ≤ 1 = kept.once p in omega arith;
+        fit = grind (arith, fit-cut k kept.log v (kept.fit id v at), kept.fit, at_set, at_snoc);
+        once = λ p. omega (arith, total-set (names p) s.views id v (drop 1 v) at, total-append (names p) (set s.views id (drop 1 v)) (take 1 v ∷ []), names-cut p v, kept.once p);
       }
 
   -- the rule holds when one seat gets the passes of another
   pub joins : {X : Type 0} (k : K) (id : ℕ) (v : List (Known K C A)) (other : ℕ) (w : List (Known K C A)) → Joins {S = X} (OneHistory m k) id v other w (w ++ v) []
   joins k id v other w s kept at apart there =
-      let w_there : get_elem? s.views other ≡ some w = sym (set_else s.views id other (w ++ v) apart) ∙ there in
       record {
         log = kept.log;
         words = kept.words;
         legal = kept.legal;
-        fit = λ j u here. ⊎_elim (λ h. subst (AllFit m k kept.log) h.1 tt)
-            (λ h. ⊎_elim (λ g. subst (AllFit m k kept.log) g.1 (fit-append k kept.log w v (kept.fit other w w_there) (kept.fit id v at))) (λ g. kept.fit j u g.1) (at_set s.views id j (w ++ v) u h.1))
-            (at_set (set s.views id (w ++ v)) other j [] u here);
-        once = λ p. let first = total-set (names p) s.views id v (w ++ v) at in let second = total-set (names p) (set s.views id (w ++ v)) other w [] there in
-            let both = total-append (λ (x : Known K C A). cond {A = ℕ} (x.pass == p) 1 0) w v in let most : total (names p) s.views ≤ 1 = kept.once p in omega arith;
+        fit = grind (arith, fit-append k kept.log w v (kept.fit other w (sym (set_else s.views id other (w ++ v) apart) ∙ there)) (kept.fit id v at), kept.fit, at_set);
+        once = λ p. omega (arith, total-set (names p) s.views id v (w ++ v) at, total-set (names p) (set s.views id (w ++ v)) other w [] there, total-append (λ (x : Known K C A). cond {A = ℕ} (x.pass == p) 1 0) w v, kept.once p);
       }
 
   fit-newcomers : (k : K) (a n : ℕ) → a + n ≤ m.passes k → AllFit m k [] (map (newcomer k) (range_with_len a n))

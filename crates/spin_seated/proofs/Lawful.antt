@@ -9,15 +9,15 @@ use Rattle.spin_seated.specs.declared.mutex.Call.{Call}
 use Rattle.spin_seated.specs.declared.mutex.Call.TheVariants.{TryLock, IsLocked, Read}
 use Rattle.spin_seated.specs.declared.lock.Answer.{Answer}
 use Rattle.spin_seated.specs.declared.lock.Answer.TheVariants.{Truth, Value}
-use Rattle.spin_seated.specs.Histories.{Machine, BeginsWith, entry, calls_by, after, state, IsLegalFrom, IsLegal, Met}
+use Rattle.spin_seated.specs.Histories.{PlainObject, BeginsWith, entry, calls_by, after, state, IsLegalFrom, IsLegal, Met}
 use Rattle.spin_seated.specs.Locked.{Locked, value_after, all_written, all_read, InOrderOf, done, looks, goes_on}
 use Rattle.spin_seated.specs.Mutex.{plain_answer, after_call, mutex}
-use Rattle.spin_seated.specs.Lawful.{History, holders, written, read_by, last_written}
+use Rattle.spin_seated.specs.Lawful.{History, holders_after, written, read_by}
 use Rattle.spin_seated.proofs.Histories.{after-append, answered, calls_by-append}
 use Rattle.spin_seated.proofs.Holders.{Alone, alone_state, held_by, truth_is, value_tried}
 
 -- For any lock:
-module _ {K S C A H : Type 0} (m : Machine K S C A H) where
+module _ {K S C A H : Type 0} (m : PlainObject K S C A H) where
   pub in_order : (log seen : List (Entry C A)) (p : ℕ) → BeginsWith log seen → BeginsWith (calls_by p log) (calls_by p seen)
   in_order log seen p begins = record { rest = calls_by p begins.rest; is = ap (calls_by p) begins.is ∙ calls_by-append p seen begins.rest }
 
@@ -43,7 +43,7 @@ ReadsValue (Some x) (Some w) v = ⊥
 next : (r w : Option ℕ) (v : ℕ) (more seen : List ℕ) → ReadsValue r w v → InOrderOf (unwrap_or w v ∷ more) seen → InOrderOf (v ∷ (option_to_list w ++ more)) (option_to_list r ++ seen)
 next r w v more seen is rest = grind (arith, goes_on, looks)
 
-module _ {C H : Type 0} (m : Machine Opening Locked C Answer H) (written : C → Option ℕ) (writes : (p : ℕ) (c : C) (s : Locked) → (m.next p c s).value ≡ unwrap_or (written c) s.value) where
+module _ {C H : Type 0} (m : PlainObject Opening Locked C Answer H) (written : C → Option ℕ) (writes : (p : ℕ) (c : C) (s : Locked) → (m.next p c s).value ≡ unwrap_or (written c) s.value) where
   value_is : (s : Locked) (log : List (Entry C Answer)) → (after m s log).value ≡ value_after written s.value log
   value_is s [] = refl
   value_is s (e ∷ es) = value_is (m.next e.pass e.call s) es ∙ ap (λ (v : ℕ). value_after written v es) (writes e.pass e.call s)
@@ -68,7 +68,7 @@ module _ {C H : Type 0} (m : Machine Opening Locked C Answer H) (written : C →
 one_at_most : (n : ℕ) (hs : List Holder) → Alone n hs → length (map (λ h. h.party) hs) ≤ 1
 one_at_most n hs alone = grind arith
 
-pub one_holder : (k : Opening) (log : History) → IsLegal mutex k log → length (holders k log) ≤ 1
+pub one_holder : (k : Opening) (log : History) → IsLegal mutex k log → length (holders_after k log) ≤ 1
 one_holder k log legal = one_at_most k.passes (state mutex k log).lock.holders (alone_state k log legal)
 
 -- before a try that succeeds nobody holds, and after it the try's pass holds
@@ -82,20 +82,20 @@ lost n (h ∷ []) alone is = (h.party, refl)
 lost n (h ∷ g ∷ hs) alone is = absurd alone
 
 pub granted : (k : Opening) (before rest : History) (p : ℕ) → IsLegal mutex k (before ++ entry p TryLock (Truth true) ∷ rest)
-    → (holders k before ≡ []) × (holders k (before ++ entry p TryLock (Truth true) ∷ []) ≡ p ∷ [])
+    → (holders_after k before ≡ []) × (holders_after k (before ++ entry p TryLock (Truth true) ∷ []) ≡ p ∷ [])
 granted k before rest p legal =
     let s : Locked = state mutex k before in
     let both = won p s s.lock.holders (answered mutex k before rest p TryLock (Truth true) legal).1 in
     (both.0, ap (λ (s : Locked). map (λ h. h.party) s.lock.holders) (after-append mutex (mutex.start k) before (entry p TryLock (Truth true) ∷ [])) ∙ both.1)
 
-pub refused : (k : Opening) (before rest : History) (p : ℕ) → IsLegal mutex k (before ++ entry p TryLock (Truth false) ∷ rest) → (q : ℕ) × (holders k before ≡ q ∷ [])
+pub refused : (k : Opening) (before rest : History) (p : ℕ) → IsLegal mutex k (before ++ entry p TryLock (Truth false) ∷ rest) → (q : ℕ) × (holders_after k before ≡ q ∷ [])
 refused k before rest p legal =
     let two = answered mutex k before rest p TryLock (Truth false) legal in lost k.passes (state mutex k before).lock.holders (alone_state k before two.0) two.1
 
 pub written_by : (p : ℕ) (c : Call) (s : Locked) → (after_call p c s).value ≡ unwrap_or (written c) s.value
 written_by p c s = grind (arith, value_tried)
 
-pub read : (k : Opening) (before rest : History) (p v : ℕ) → IsLegal mutex k (before ++ entry p Read (Value v) ∷ rest) → v ≡ last_written k.value before
+pub read : (k : Opening) (before rest : History) (p v : ℕ) → IsLegal mutex k (before ++ entry p Read (Value v) ∷ rest) → v ≡ value_after written k.value before
 read k before rest p v = read_is mutex written written_by k before rest p v Read (λ s. refl)
 
 pub read_then : (p : ℕ) (c : Call) (s : Locked) → ReadsValue (read_by c (plain_answer p c s)) (written c) s.value
@@ -104,5 +104,5 @@ read_then p c s = grind arith
 same_emptiness : (hs : List Holder) → is_empty hs ≡ is_empty (map (λ h. h.party) hs)
 same_emptiness hs = grind arith
 
-pub looked : (k : Opening) (before rest : History) (p : ℕ) (held : Bool) → IsLegal mutex k (before ++ entry p IsLocked (Truth held) ∷ rest) → held ≡ not (is_empty (holders k before))
+pub looked : (k : Opening) (before rest : History) (p : ℕ) (held : Bool) → IsLegal mutex k (before ++ entry p IsLocked (Truth held) ∷ rest) → held ≡ not (is_empty (holders_after k before))
 looked k before rest p held legal = grind (arith, truth_is held (not (is_empty (state mutex k before).lock.holders)) (answered mutex k before rest p IsLocked (Truth held) legal).1, same_emptiness (state mutex k before).lock.holders)

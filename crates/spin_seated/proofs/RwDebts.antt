@@ -3,14 +3,14 @@ use Rattle.std.proofs.Common.{◌≡◌, ℕ, ◌+◌, ◌-◌, ◌%◌, ◌^◌
 use prog.Atomic.{either}
 use Rattle.spin_step.specs.Plain.{Plain, reading, writing, Change, gets, releases, turns, to_read, is_open, apply, is_holder, weight, rw_word}
 use Rattle.spin_step.specs.Parties.{apply_some}
-use Rattle.spin_step_more.specs.Readers.{reader_limit, OneOfEach, has_room}
+use Rattle.spin_step_more.specs.Readers.{reader_limit, OneOfEach, readers_in, writers_in, has_room}
 use Rattle.spin_step_more.proofs.Readers.{one_of_each, read-word, reader-word, writer-word, readers-word, writers-word}
 use Rattle.spin_step_more.proofs.ReaderSteps.{rw_release-gives, rw_turn-gives}
 use Rattle.spin_seated.specs.declared.history.Entry.{Entry}
 use Rattle.spin_seated.specs.declared.rwlock.SeatedHold.TheVariants as hold
-use Rattle.spin_seated.specs.Histories.{state, Turned, Owed, Owes}
-use Rattle.spin_seated.specs.Passes.{Seated}
-use Rattle.spin_seated.specs.Rw.{Locked, Answer, Truth, Value, Call, TryRead, Read, Write, UnlockRead, UnlockWrite, Downgrade, SeatedHold, kind_of, hold_in, may_with, rw, Knows, holds, refused_by, loads, acquires_read, counts_readers, counts_writers, reads, writes, is_call}
+use Rattle.spin_seated.specs.Histories.{state, holds, Turned, Owed, Owes}
+use Rattle.spin_seated.specs.Passes.{KnownOf, Seated}
+use Rattle.spin_seated.specs.Rw.{Locked, Answer, Truth, Value, Done, Call, TryRead, ReaderCount, WriterCount, UnlockRead, UnlockWrite, Downgrade, SeatedHold, kind_of, hold_in, may_with, rw, refused_by}
 use Rattle.spin_seated.proofs.Histories.{after_own}
 use Rattle.spin_seated.proofs.RwSteps.{places, there, Standing, standing, tracked}
 
@@ -49,45 +49,39 @@ module _ (p : ℕ) (s : Locked) (st : Standing s) where
   stands k has = there p s k (st.one_place p ∙ ap (places p) has)
 
 -- the state that a step of this pass finds
-abbrev found : Knows → List (Entry Call Answer) → Locked
+abbrev found : KnownOf Call → List (Entry Call Answer) → Locked
 found x log = state rw x.opening log
 
-pub loads_owed : (x : Knows) → holds x ≡ None → Owes rw x 0 (λ n. n) (loads 0)
+pub loads_owed : (x : KnownOf Call) → holds rw x ≡ None → Owes rw x 0 (λ n. n) refused_by
 loads_owed x free log legal has small = looks_at x.pass (found x log) (standing x.opening log legal) (has ∙ free)
 
-pub acquires_read_owed : (x : Knows) (old new : ℕ) → LetsRead old new → holds x ≡ None → Owes rw x 0 (λ n. either (n == old) new n) (acquires_read old)
+pub acquires_read_owed : (x : KnownOf Call) (old new : ℕ) → LetsRead old new → holds rw x ≡ None → Owes rw x 0 (λ n. either (n == old) new n) (λ found. if found == old then Some (TryRead, Truth true) else refused_by found)
 acquires_read_owed x old new lets free log legal has small = comes_at x.pass (found x log) (standing x.opening log legal) old new (rw_word (found x log).lock == old) (has ∙ free) refl lets
 
 -- The pass of a call under way has the same value now as when the call began.
 module _ {v w : Seated Call} (same : v ≡ w) where
-  held_now : holds v.known ≡ holds w.known
-  held_now = ap (λ (u : Seated Call). holds u.known) same
+  held_now : holds rw v.known ≡ holds rw w.known
+  held_now = ap (λ (u : Seated Call). holds rw u.known) same
 
-  pub counts_readers_owed : Owes rw v.known 0 (λ n. n) (counts_readers 0)
+  pub counts_readers_owed : Owes rw v.known 0 (λ n. n) (λ found. Some (ReaderCount, Value (readers_in found)))
   counts_readers_owed log legal has small = (refl, refl, ap Value (sym (readers-word (found v.known log).lock _ (one v.known.pass (found v.known log) (standing v.known.opening log legal)) refl)))
 
-  pub counts_writers_owed : Owes rw v.known 0 (λ n. n) (counts_writers 0)
+  pub counts_writers_owed : Owes rw v.known 0 (λ n. n) (λ found. Some (WriterCount, Value (writers_in found)))
   counts_writers_owed log legal has small = (refl, refl, ap Value (sym (writers-word (found v.known log).lock _ (one v.known.pass (found v.known log) (standing v.known.opening log legal)) refl)))
 
-  pub reads_owed : may_with Read (holds w.known) ≡ true → Owes rw v.known 1 (λ n. n) (reads 0)
-  reads_owed held log legal has small = (ap (may_with Read) (has ∙ held_now) ∙ held, refl, refl)
-
-  pub writes_owed : (new : ℕ) → holds w.known ≡ Some hold.Write → Owes rw v.known 1 (λ _. new) (λ _. writes new new)
-  writes_owed new held log legal has small = (ap (may_with (Write new)) (has ∙ (held_now ∙ held)), refl, refl)
-
-  pub reader_goes_owed : holds w.known ≡ Some hold.Read → Owes rw v.known 0 (λ n. (n + (2 ^ 64 - weight reading)) % 2 ^ 64) (is_call UnlockRead (weight reading))
+  pub reader_goes_owed : holds rw w.known ≡ Some hold.Read → Owes rw v.known 0 (λ n. (n + (2 ^ 64 - weight reading)) % 2 ^ 64) (λ _. Some (UnlockRead, Done))
   reader_goes_owed held log legal has small =
       let s : Locked = found v.known log in let st = standing v.known.opening log legal in let mine = stands v.known.pass s st hold.Read (has ∙ (held_now ∙ held)) in
       let to = rw_release-gives s.lock v.known.pass reading (rw_word s.lock) refl mine in let some = reader-word s.lock v.known.pass mine in
       (ap (may_with UnlockRead) (has ∙ (held_now ∙ held)), ends v.known.pass s st (releases v.known.pass reading) true _ mine (omega (arith, to, some, small)), refl)
 
-  pub writer_goes_owed : holds w.known ≡ Some hold.Write → Owes rw v.known 0 (λ n. (n + (2 ^ 64 - weight writing)) % 2 ^ 64) (is_call UnlockWrite (weight writing))
+  pub writer_goes_owed : holds rw w.known ≡ Some hold.Write → Owes rw v.known 0 (λ n. (n + (2 ^ 64 - weight writing)) % 2 ^ 64) (λ _. Some (UnlockWrite, Done))
   writer_goes_owed held log legal has small =
       let s : Locked = found v.known log in let st = standing v.known.opening log legal in let mine = stands v.known.pass s st hold.Write (has ∙ (held_now ∙ held)) in
       let to = rw_release-gives s.lock v.known.pass writing (rw_word s.lock) refl mine in let alone = writer-word s.lock v.known.pass st.exclusive mine in
       (ap (may_with UnlockWrite) (has ∙ (held_now ∙ held)), ends v.known.pass s st (releases v.known.pass writing) true _ mine (omega (arith, to, alone)), refl)
 
-  pub reads_on_owed : holds w.known ≡ Some hold.Write → Owes rw v.known 0 (λ n. (n + (weight reading - weight writing)) % 2 ^ 64) (is_call Downgrade (weight reading - weight writing))
+  pub reads_on_owed : holds rw w.known ≡ Some hold.Write → Owes rw v.known 0 (λ n. (n + (weight reading - weight writing)) % 2 ^ 64) (λ _. Some (Downgrade, Done))
   reads_on_owed held log legal has small =
       let s : Locked = found v.known log in let st = standing v.known.opening log legal in let mine = stands v.known.pass s st hold.Write (has ∙ (held_now ∙ held)) in
       let may : is_open s.lock (turns v.known.pass writing reading) ≡ true = ap (λ (b : Bool). b && true) mine in
@@ -95,5 +89,5 @@ module _ {v w : Seated Call} (same : v ≡ w) where
       (ap (may_with Downgrade) (has ∙ (held_now ∙ held)), ends v.known.pass s st (turns v.known.pass writing reading) true _ may (omega (arith, to, alone)), refl)
 
 -- a try that fails does not change what the pass holds, nor does a step that is no call
-pub held_still : (b : Bool) (x y : Knows) → Turned rw (if b then None else Some (TryRead, Truth false)) x y → holds y ≡ holds x
+pub held_still : (b : Bool) (x y : KnownOf Call) → Turned rw (if b then None else Some (TryRead, Truth false)) x y → holds rw y ≡ holds rw x
 held_still b x y told = grind (arith, after_own, tracked)

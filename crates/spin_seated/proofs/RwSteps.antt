@@ -13,14 +13,14 @@ use Rattle.spin_step.proofs.Entries.{entries-other, entries-own}
 use Rattle.spin_seated.specs.declared.history.Entry.{Entry}
 use Rattle.spin_seated.specs.Histories.{state, IsLegal, IsTracked}
 use Rattle.spin_seated.specs.RwLawful.{written}
-use Rattle.spin_seated.specs.Rw.{Opening, Locked, Answer, Call, SeatedHold, kind_of, held, hold_in, may_with, change, where_open, after_call, plain_answer, held_after, rw}
+use Rattle.spin_seated.specs.Rw.{Opening, Locked, Answer, Call, SeatedHold, kind_of, first_hold, hold_in, may_with, asked_change, where_open, after_call, plain_answer, held_after, rw}
 use Rattle.spin_seated.proofs.Histories.{always}
 
 -- a step that is made only if it is open is an open step of its party
 opens : (c : Change) (s : Plain) (b : Bool) → is_open s c ≡ b → IsOpenStep s (party_of c) (if b then Some c else None)
 opens c s b is = grind arith
 
-step_opens : (p : ℕ) (c : Call) (s : Plain) → IsOpenStep s p (where_open s (change p c))
+step_opens : (p : ℕ) (c : Call) (s : Plain) → IsOpenStep s p (where_open s (asked_change p c))
 step_opens p c s = grind (arith, opens, releases, turns)
 
 abbrev pub own : ℕ → Locked → List Holder
@@ -28,17 +28,17 @@ own p s = filter (λ h. h.party == p) s.lock.holders
 
 -- calls of others do not change what a pass holds
 others : (p q : ℕ) (c : Call) (s : Locked) → q ≢ p → own p (after_call q c s) ≡ own p s
-others p q c s apart = ap (λ (e : Entries). e.holders) (entries-other s.lock q p (where_open s.lock (change q c)) apart (step_opens q c s.lock))
+others p q c s apart = ap (λ (e : Entries). e.holders) (entries-other s.lock q p (where_open s.lock (asked_change q c)) apart (step_opens q c s.lock))
 
 pub steady : (p q : ℕ) (c : Call) (s : Locked) → q ≢ p → hold_in p (after_call q c s) ≡ hold_in p s
-steady p q c s apart = ap held (others p q c s apart)
+steady p q c s apart = ap first_hold (others p q c s apart)
 
 -- the pass's entries among the holders, if it holds this
 abbrev pub places : ℕ → Option SeatedHold → List Holder
 places p None = []
 places p (Some k) = holder p (kind_of k) ∷ []
 
-held-places : (p : ℕ) (h : Option SeatedHold) → held (places p h) ≡ h
+held-places : (p : ℕ) (h : Option SeatedHold) → first_hold (places p h) ≡ h
 held-places p h = grind arith
 
 -- after each legal history a writer holds alone, each pass is at most one holder, and the cap is `reader_limit`
@@ -52,8 +52,8 @@ module _ (p : ℕ) (s : Locked) where
   abbrev places_after : Option Change → List Holder
   places_after step = (entries_after s.lock step (entries p s.lock)).holders
 
-  moved : (c : Call) → own p (after_call p c s) ≡ places_after (where_open s.lock (change p c))
-  moved c = ap (λ (e : Entries). e.holders) (entries-own s.lock p (where_open s.lock (change p c)) (step_opens p c s.lock))
+  moved : (c : Call) → own p (after_call p c s) ≡ places_after (where_open s.lock (asked_change p c))
+  moved c = ap (λ (e : Entries). e.holders) (entries-own s.lock p (where_open s.lock (asked_change p c)) (step_opens p c s.lock))
 
   tried : (c : Change) (k : SeatedHold) (b : Bool) → own p s ≡ [] → places_after (Some c) ≡ places p (Some k) → places_after (if b then Some c else None) ≡ places p (if b then Some k else None)
   tried c k b none is = grind arith
@@ -68,14 +68,14 @@ module _ (p : ℕ) (s : Locked) where
   own_after c h is may = grind (arith, moved, tried, gone, turns, there, eq-eqb)
 
   placed : (q : ℕ) (t : Locked) (h : Option SeatedHold) → own q t ≡ places q h → own q t ≡ places q (hold_in q t)
-  placed q t h is = is ∙ ap (places q) (sym (held-places q h) ∙ ap held (sym is))
+  placed q t h is = is ∙ ap (places q) (sym (held-places q h) ∙ ap first_hold (sym is))
 
   pub standing_after : (c : Call) → may_with c (hold_in p s) ≡ true → Standing s → Standing (after_call p c s)
   standing_after c may st =
       let t : Locked = after_call p c s in
       record {
-        exclusive = exclusive-kept s.lock p (where_open s.lock (change p c)) st.exclusive (step_opens p c s.lock);
-        cap = cap-kept s.lock (where_open s.lock (change p c)) ∙ st.cap;
+        exclusive = exclusive-kept s.lock p (where_open s.lock (asked_change p c)) st.exclusive (step_opens p c s.lock);
+        cap = cap-kept s.lock (where_open s.lock (asked_change p c)) ∙ st.cap;
         one_place = λ q. dite (ℕ_discrete p q)
             (λ same. subst (λ (r : ℕ). own r t ≡ places r (hold_in r t)) same (placed p t (held_after c (plain_answer p c s) (hold_in p s)) (own_after c (hold_in p s) (st.one_place p) may)))
             (λ apart. placed q t (hold_in q s) (others q p c s apart ∙ st.one_place q));
@@ -88,7 +88,7 @@ standing k log =
 
 pub tracked : IsTracked rw
 tracked = record {
-  own = λ k log p c legal may. let s : Locked = state rw k log in ap held (own_after p s c (hold_in p s) ((standing k log legal).one_place p) may) ∙ held-places p (held_after c (plain_answer p c s) (hold_in p s));
+  own = λ k log p c legal may. let s : Locked = state rw k log in ap first_hold (own_after p s c (hold_in p s) ((standing k log legal).one_place p) may) ∙ held-places p (held_after c (plain_answer p c s) (hold_in p s));
   steady = steady;
 }
 

@@ -1,5 +1,5 @@
 -- Sums over a list, when one element changes.
-use Rattle.std.proofs.Common.{◌≡◌, ℕ, zero, suc, ◌+◌, ◌≤◌, ◌≢◌, List, [], ◌∷◌, ◌++◌, set, refl, sym, ap, arith}
+use Rattle.std.proofs.Common.{◌≡◌, ℕ, zero, suc, ◌+◌, ◌≤◌, List, [], ◌∷◌, ◌++◌, set, sym, ap, arith}
 use mathlib.Core.Option.{some, some-injective, some-ne-none}
 use lib.ListN.{get_elem?}
 use Rattle.spin_seated.specs.Histories.{total}
@@ -19,11 +19,3 @@ module _ {X : Type 0} where
   at_most f [] i x at = absurd (some-ne-none x (sym at))
   at_most f (z ∷ zs) zero x at = let e : f z ≡ f x = ap f (some-injective z x at) in omega arith
   at_most f (z ∷ zs) (suc i) x at = omega (arith, at_most f zs i x at)
-
-  -- f of two elements is together at most the sum
-  pub two_at_most : (f : X → ℕ) (xs : List X) (i j : ℕ) (x y : X) → get_elem? xs i ≡ some x → get_elem? xs j ≡ some y → j ≢ i → f x + f y ≤ total f xs
-  two_at_most f [] i j x y at there apart = absurd (some-ne-none x (sym at))
-  two_at_most f (z ∷ zs) zero zero x y at there apart = absurd (apart refl)
-  two_at_most f (z ∷ zs) zero (suc j) x y at there apart = let e : f z ≡ f x = ap f (some-injective z x at) in omega (arith, at_most f zs j y there)
-  two_at_most f (z ∷ zs) (suc i) zero x y at there apart = let e : f z ≡ f y = ap f (some-injective z y there) in omega (arith, at_most f zs i x at)
-  two_at_most f (z ∷ zs) (suc i) (suc j) x y at there apart = omega (arith, two_at_most f zs i j x y at there (λ e. apart (ap suc e)))

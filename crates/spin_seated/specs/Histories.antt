@@ -11,7 +11,7 @@ use Rattle.spin_seated.specs.declared.history.Known.{Known}
 -- The plain object. The arguments of `new` fix its first state and the number of passes. For a pass, a call and a state
 -- it says whether the pass may make the call, the answer, and the next state. `holds` is what a pass holds in a state.
 -- `held_after` is what it holds after a call of its own, by the call's answer and what it held before.
-pub record Machine (K S C A H : Type 0) : Type 0 where
+pub record PlainObject (K S C A H : Type 0) : Type 0 where
   pub start : K → S
   pub passes : K → ℕ
   pub words : S → List ℕ
@@ -65,7 +65,7 @@ module _ {K C A : Type 0} where
   abbrev pub names : ℕ → List (Known K C A) → ℕ
   names p v = total (λ x. cond (x.pass == p) 1 0) v
 
-module _ {K S C A H : Type 0} (m : Machine K S C A H) where
+module _ {K S C A H : Type 0} (m : PlainObject K S C A H) where
   -- the state after these calls
   abbrev pub after : S → List (Entry C A) → S
   after s [] = s

@@ -7,15 +7,15 @@ use Rattle.spin_seated.specs.declared.mutex.Call.TheVariants.{TryLock, IsLocked,
 use Rattle.spin_seated.specs.declared.lock.Answer.{Answer}
 use Rattle.spin_seated.specs.declared.lock.Answer.TheVariants.{Truth, Value}
 use Rattle.spin_seated.specs.Histories.{state}
-use Rattle.spin_seated.specs.Locked.{hold_after, value_after, all_written, all_read}
+use Rattle.spin_seated.specs.Locked.{hold_after}
 use Rattle.spin_seated.specs.Mutex.{mutex}
 
 abbrev pub History : Type 0
 History = List (Entry Call Answer)
 
 -- the passes that hold the lock after these calls
-abbrev pub holders : Opening → History → List ℕ
-holders k log = map (λ h. h.party) (state mutex k log).lock.holders
+abbrev pub holders_after : Opening → History → List ℕ
+holders_after k log = map (λ h. h.party) (state mutex k log).lock.holders
 
 -- a pass holds the lock from a `try_lock` that succeeds until it unlocks
 abbrev pub holds_then : Call → Answer → Bool → Bool
@@ -42,14 +42,3 @@ written _ = None
 abbrev pub read_by : Call → Answer → Option ℕ
 read_by Read (Value v) = Some v
 read_by _ _ = None
-
--- the value of the last write, or v if there is none
-abbrev pub last_written : ℕ → History → ℕ
-last_written v log = value_after written v log
-
--- all values written, and all values read, in the order of the history
-abbrev pub values_written : History → List ℕ
-values_written log = all_written written log
-
-abbrev pub values_read : History → List ℕ
-values_read log = all_read read_by log

@@ -6,7 +6,7 @@ use Rattle.spin_step.specs.Plain.{Plain}
 use Rattle.spin_seated.specs.declared.history.Entry.{Entry}
 use Rattle.spin_seated.specs.declared.lock.Opening.{Opening}
 use Rattle.spin_seated.specs.declared.lock.Answer.{Answer}
-use Rattle.spin_seated.specs.Histories.{Machine, IsTracked}
+use Rattle.spin_seated.specs.Histories.{PlainObject, IsTracked}
 
 pub record Locked : Type 0 where
   pub lock : Plain
@@ -38,7 +38,7 @@ pub data InOrderOf : List ℕ → List ℕ → Type 0 where
   goes_on : {value : ℕ} {values seen : List ℕ} → InOrderOf values seen → InOrderOf (value ∷ values) seen
 
 -- what a lock shows of its machine: its number of passes, its first words, and that a pass's own calls decide what it holds
-pub record IsLock {C H : Type 0} (m : Machine Opening Locked C Answer H) : Type 0 where
+pub record IsLock {C H : Type 0} (m : PlainObject Opening Locked C Answer H) : Type 0 where
   pub passes : (k : Opening) → m.passes k ≡ k.passes
   pub words : (k : Opening) → m.words (m.start k) ≡ 0 ∷ k.value ∷ []
   pub tracked : IsTracked m

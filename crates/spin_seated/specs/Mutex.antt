@@ -1,18 +1,13 @@
 -- The plain mutex.
-use Rattle.std.specs.Prelude.{ℕ, Bool, true, false, ◌||◌, if◌then◌else◌, [], ◌∷◌, Option, Some, not, ◌==◌}
+use Rattle.std.specs.Prelude.{ℕ, Bool, true, false, ◌||◌, if◌then◌else◌, [], ◌∷◌, not}
 use Rattle.spin_step.specs.Plain.{fresh, writing, is_open, apply, gets, releases, to_write, flag_word, is_holder, is_empty}
 use Rattle.spin_seated.specs.declared.lock.Opening.{Opening}
 use Rattle.spin_seated.specs.declared.lock.Answer.{Answer}
 use Rattle.spin_seated.specs.declared.lock.Answer.TheVariants.{Truth, Value, Done}
 use Rattle.spin_seated.specs.declared.mutex.Call.{Call}
 use Rattle.spin_seated.specs.declared.mutex.Call.TheVariants.{TryLock, IsLocked, Read, Write, Unlock}
-use Rattle.spin_seated.specs.declared.history.Known.{Known}
-use Rattle.spin_seated.specs.Histories as histories
-use Rattle.spin_seated.specs.Histories.{Machine}
+use Rattle.spin_seated.specs.Histories.{PlainObject}
 use Rattle.spin_seated.specs.Locked.{Locked}
-
-abbrev pub opened : Opening → Locked
-opened k = record { lock = fresh 1 1 0; value = k.value }
 
 -- a pass may always call `try_lock` and `is_locked`; only the holder may make the other calls
 abbrev pub may_call : ℕ → Call → Locked → Bool
@@ -41,10 +36,10 @@ held_after TryLock (Truth granted) held = held || granted
 held_after Unlock a held = false
 held_after c a held = held
 
-abbrev pub mutex : Machine Opening Locked Call Answer Bool
+abbrev pub mutex : PlainObject Opening Locked Call Answer Bool
 mutex =
     record {
-      start = opened;
+      start = λ k. record { lock = fresh 1 1 0; value = k.value };
       passes = λ k. k.passes;
       words = λ s. flag_word s.lock ∷ s.value ∷ [];
       may = may_call;
@@ -53,27 +48,3 @@ mutex =
       holds = λ p s. is_holder p writing s.lock.holders;
       held_after = held_after;
     }
-
--- what a pass of the mutex knows
-abbrev pub Knows : Type 0
-Knows = Known Opening Call Answer
-
--- the pass holds the lock at the end of its history
-abbrev pub holds : Knows → Bool
-holds x = histories.holds mutex x
-
--- for each kind of step: the call and answer that it tells, by its operand and the word found
-abbrev pub tries : ℕ → ℕ → Option (Call × Answer)
-tries old found = Some (TryLock, Truth (found == 0))
-
-abbrev pub loads : ℕ → ℕ → Option (Call × Answer)
-loads none found = Some (IsLocked, Truth (not (found == 0)))
-
-abbrev pub reads : ℕ → ℕ → Option (Call × Answer)
-reads none found = Some (Read, Value found)
-
-abbrev pub writes : ℕ → ℕ → Option (Call × Answer)
-writes new found = Some (Write new, Done)
-
-abbrev pub frees : ℕ → ℕ → Option (Call × Answer)
-frees new found = Some (Unlock, Done)

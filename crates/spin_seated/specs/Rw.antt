@@ -3,7 +3,7 @@ use Rattle.std.specs.Prelude.{ℕ, ◌==◌, Bool, true, false, if◌then◌else
 use Rattle.std.specs.Option.{unwrap_or}
 use Rattle.spin_step.specs.Plain.{Plain, Kind, reading, writing, Holder, fresh, Change, gets, releases, turns, to_read, to_write, is_open, count_kind, reader_count, rw_word}
 use Rattle.spin_step.specs.Parties.{apply_some}
-use Rattle.spin_step_more.specs.Readers.{reader_limit, readers_in, writers_in, has_room}
+use Rattle.spin_step_more.specs.Readers.{reader_limit, has_room}
 pub use Rattle.spin_seated.specs.declared.lock.Opening.{Opening}
 pub use Rattle.spin_seated.specs.declared.lock.Answer.{Answer}
 pub use Rattle.spin_seated.specs.declared.lock.Answer.TheVariants.{Truth, Value, Done}
@@ -11,13 +11,8 @@ pub use Rattle.spin_seated.specs.declared.rwlock.Call.{Call}
 pub use Rattle.spin_seated.specs.declared.rwlock.Call.TheVariants.{TryRead, TryWrite, ReaderCount, WriterCount, Read, Write, UnlockRead, UnlockWrite, Downgrade}
 pub use Rattle.spin_seated.specs.declared.rwlock.SeatedHold.{SeatedHold}
 use Rattle.spin_seated.specs.declared.rwlock.SeatedHold.TheVariants as hold
-use Rattle.spin_seated.specs.declared.history.Known.{Known}
-use Rattle.spin_seated.specs.Histories as histories
-use Rattle.spin_seated.specs.Histories.{Machine}
+use Rattle.spin_seated.specs.Histories.{PlainObject}
 pub use Rattle.spin_seated.specs.Locked.{Locked}
-
-abbrev pub opened : Opening → Locked
-opened k = record { lock = fresh reader_limit 1 0; value = k.value }
 
 -- what a holder of this kind is to its pass; this lock has no upgradable holders
 abbrev pub hold_of : Kind → SeatedHold
@@ -29,12 +24,12 @@ kind_of hold.Read = reading
 kind_of hold.Write = writing
 
 -- the hold of the first of these holders, if there is one
-abbrev pub held : List Holder → Option SeatedHold
-held [] = None
-held (h ∷ hs) = Some (hold_of h.kind)
+abbrev pub first_hold : List Holder → Option SeatedHold
+first_hold [] = None
+first_hold (h ∷ hs) = Some (hold_of h.kind)
 
 abbrev pub hold_in : ℕ → Locked → Option SeatedHold
-hold_in p s = held (filter (λ h. h.party == p) s.lock.holders)
+hold_in p s = first_hold (filter (λ h. h.party == p) s.lock.holders)
 
 -- which calls a pass may make while it holds this
 abbrev pub may_with : Call → Option SeatedHold → Bool
@@ -50,13 +45,13 @@ may_with Downgrade (Some hold.Write) = true
 may_with _ _ = false
 
 -- the step of the plain lock that a call asks for
-abbrev pub change : ℕ → Call → Option Change
-change p TryRead = Some (gets p to_read)
-change p TryWrite = Some (gets p to_write)
-change p UnlockRead = Some (releases p reading)
-change p UnlockWrite = Some (releases p writing)
-change p Downgrade = Some (turns p writing reading)
-change p _ = None
+abbrev pub asked_change : ℕ → Call → Option Change
+asked_change p TryRead = Some (gets p to_read)
+asked_change p TryWrite = Some (gets p to_write)
+asked_change p UnlockRead = Some (releases p reading)
+asked_change p UnlockWrite = Some (releases p writing)
+asked_change p Downgrade = Some (turns p writing reading)
+asked_change p _ = None
 
 -- the step, or none if it is not open
 abbrev pub where_open : Plain → Option Change → Option Change
@@ -69,7 +64,7 @@ written (Write w) = Some w
 written _ = None
 
 abbrev pub after_call : ℕ → Call → Locked → Locked
-after_call p c s = record { lock = apply_some s.lock (where_open s.lock (change p c)); value = unwrap_or (written c) s.value }
+after_call p c s = record { lock = apply_some s.lock (where_open s.lock (asked_change p c)); value = unwrap_or (written c) s.value }
 
 abbrev pub plain_answer : ℕ → Call → Locked → Answer
 plain_answer p TryRead s = Truth (is_open s.lock (gets p to_read))
@@ -87,10 +82,10 @@ held_after UnlockWrite a h = None
 held_after Downgrade a h = Some hold.Read
 held_after c a h = h
 
-abbrev pub rw : Machine Opening Locked Call Answer (Option SeatedHold)
+abbrev pub rw : PlainObject Opening Locked Call Answer (Option SeatedHold)
 rw =
     record {
-      start = opened;
+      start = λ k. record { lock = fresh reader_limit 1 0; value = k.value };
       passes = λ k. k.passes;
       words = λ s. rw_word s.lock ∷ s.value ∷ [];
       may = λ p c s. may_with c (hold_in p s);
@@ -100,41 +95,6 @@ rw =
       held_after = held_after;
     }
 
--- what a pass of the lock knows
-abbrev pub Knows : Type 0
-Knows = Known Opening Call Answer
-
--- what the pass holds at the end of its history
-abbrev pub holds : Knows → Option SeatedHold
-holds x = histories.holds rw x
-
--- For each kind of step: the call and answer that it tells, by its operand and the word found.
-
 -- A `try_read` fails at a word without room. It succeeds by an exchange that finds the word it expects.
 abbrev pub refused_by : ℕ → Option (Call × Answer)
 refused_by found = if has_room reading found reader_limit then None else Some (TryRead, Truth false)
-
-abbrev pub loads : ℕ → ℕ → Option (Call × Answer)
-loads none found = refused_by found
-
-abbrev pub acquires_read : ℕ → ℕ → Option (Call × Answer)
-acquires_read old found = if found == old then Some (TryRead, Truth true) else refused_by found
-
-abbrev pub acquires_write : ℕ → ℕ → Option (Call × Answer)
-acquires_write old found = Some (TryWrite, Truth (found == 0))
-
-abbrev pub counts_readers : ℕ → ℕ → Option (Call × Answer)
-counts_readers none found = Some (ReaderCount, Value (readers_in found))
-
-abbrev pub counts_writers : ℕ → ℕ → Option (Call × Answer)
-counts_writers none found = Some (WriterCount, Value (writers_in found))
-
-abbrev pub reads : ℕ → ℕ → Option (Call × Answer)
-reads none found = Some (Read, Value found)
-
-abbrev pub writes : ℕ → ℕ → Option (Call × Answer)
-writes new found = Some (Write new, Done)
-
--- a step that is this call, whatever word it finds
-abbrev pub is_call : Call → ℕ → ℕ → Option (Call × Answer)
-is_call c by found = Some (c, Done)

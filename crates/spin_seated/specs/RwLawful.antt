@@ -10,15 +10,15 @@ use Rattle.spin_seated.specs.declared.rwlock.Call.TheVariants.{TryRead, TryWrite
 use Rattle.spin_seated.specs.declared.rwlock.SeatedHold.{SeatedHold}
 use Rattle.spin_seated.specs.declared.rwlock.SeatedHold.TheVariants as hold
 use Rattle.spin_seated.specs.Histories.{state}
-use Rattle.spin_seated.specs.Locked.{hold_after, value_after, all_written, all_read}
+use Rattle.spin_seated.specs.Locked.{hold_after, all_written, all_read}
 use Rattle.spin_seated.specs.Rw.{rw}
 
 abbrev pub History : Type 0
 History = List (Entry Call Answer)
 
 -- the holders of the lock after these calls
-abbrev pub holders : Opening → History → List Holder
-holders k log = (state rw k log).lock.holders
+abbrev pub holders_after : Opening → History → List Holder
+holders_after k log = (state rw k log).lock.holders
 
 -- A pass holds the lock from a try that succeeds until it unlocks. After a downgrade it holds as a reader.
 abbrev pub holds_then : Call → Answer → Option SeatedHold → Option SeatedHold
@@ -54,10 +54,6 @@ MayCall c held = Unit {0}
 abbrev pub written : Call → Option ℕ
 written (Write w) = Some w
 written _ = None
-
--- the value of the last write, or v if there is none
-abbrev pub last_written : ℕ → History → ℕ
-last_written v log = value_after written v log
 
 -- the value that a call reads
 abbrev pub read_by : Call → Answer → Option ℕ

@@ -1,7 +1,7 @@
 //! A lock on a table of two words, whose calls form one history. Begin with [`SeatedLock`]. For each lock a
 //! machine says which calls a pass may make and what they answer ([`Calls`]).
 ghost use Rattle.std.specs.Prelude.{◌≡◌, ℕ};
-ghost use Rattle.spin_seated.specs.Histories.{Machine};
+ghost use Rattle.spin_seated.specs.Histories.{PlainObject};
 ghost use Rattle.spin_seated.specs.Locked.{Locked, IsLock};
 
 use crate::history::View;
@@ -34,19 +34,19 @@ pub enum Answer {
 /// The calls of a lock. The type of its calls says which lock it is.
 pub trait Calls {
     /// What a pass may hold.
-    type Hold: Copy;
+    type PassHold: Copy;
 
     ghost use Rattle.spin_seated.specs.declared.lock.Opening.{Opening};
     ghost use Rattle.spin_seated.specs.declared.lock.Answer.{Answer};
 
     // The plain lock: which calls a pass may make, what they answer, and what the pass holds afterwards.
-    ghost machine: { Machine Opening Locked Self Answer Self.Hold };
+    ghost machine: { PlainObject Opening Locked Self Answer Self.PassHold };
 
     /// Returns what a pass holds before its first call.
     ///
     /// # Contract
     /// The result is what each pass holds in the machine's first state.
-    fn nothing() -> Self::Hold
+    fn holds_at_first() -> Self::PassHold
         ensures { (k : Opening) (p : ℕ) → machine.holds p (machine.start k) ≡ result };
 
     /// Does nothing. A caller calls it to learn its contract.

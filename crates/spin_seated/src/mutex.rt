@@ -20,14 +20,15 @@ pub enum Call {
 }
 
 impl Calls for Call {
-    type Hold = bool;
+    type PassHold = bool;
 
     ghost machine = { mutex };
 
-    fn nothing() -> bool {
+    fn holds_at_first() -> bool {
         false
     }
 
+    #[tactic(auto, using(crate::proofs::Holders::tracked))]
     fn laws() {}
 }
 

@@ -33,14 +33,15 @@ pub enum Call {
 }
 
 impl Calls for Call {
-    type Hold = Option<SeatedHold>;
+    type PassHold = Option<SeatedHold>;
 
     ghost machine = { rw };
 
-    fn nothing() -> Option<SeatedHold> {
+    fn holds_at_first() -> Option<SeatedHold> {
         None
     }
 
+    #[tactic(auto, using(crate::proofs::RwSteps::tracked))]
     fn laws() {}
 }
 

@@ -1,8 +1,7 @@
 -- The table of a lock of seats refines the plain lock, all of whose holders read.
-use Rattle.std.proofs.Common.{◌≡◌, ℕ, ◌+◌, ◌-◌, ◌≤◌, ◌%◌, ◌^◌, true, Option, Some, None, List, [], ◌∷◌, refl, ap, ◌∙◌, arith}
+use Rattle.std.proofs.Common.{◌≡◌, ℕ, ◌+◌, ◌-◌, ◌≤◌, ◌%◌, ◌^◌, Option, Some, None, List, [], ◌∷◌, refl, ap, ◌∙◌, arith}
 use Rattle.std.proofs.lemmas.List.Sums.{sum_by-cons}
-use Rattle.spin_step.specs.Plain.{Plain, reading, gets, to_read, is_holder}
-use Rattle.spin_step.specs.Steps.{Decides}
+use Rattle.spin_step.specs.Plain.{Plain, reading}
 use Rattle.spin_step.specs.Orders.{IsInOrder}
 use Rattle.spin_step.specs.declared.place.Hold.{Hold}
 use Rattle.spin_step.specs.declared.place.Hold.TheVariants as hold
@@ -18,45 +17,27 @@ use Rattle.spin_session.specs.Meaning.{Sound, ComesFrom, Refines, use_at}
 use Rattle.spin_session.specs.Turns.{IsAnswered, IsAnsweredBy, IsTry}
 use Rattle.spin_session.proofs.Readers.{OnlyReads, all_read, as_many_hold, readers_fit}
 use Rattle.spin_seats.specs.Meaning.{seats_meaning}
-use Rattle.spin_seats.specs.Rule.{IsWord, View, part, seated, seats_tables}
-use Rattle.spin_seats.specs.Seats.{seats, seats_word, entered}
+use Rattle.spin_seats.specs.Rule.{IsWord, View, part, seats_taken, seats_tables}
+use Rattle.spin_seats.specs.Seats.{seats, seats_word}
 use Rattle.spin_seats.specs.Table.{seats_table}
 use Rattle.spin_seats.specs.declared.calls.SeatsCall.{SeatsCall}
 use Rattle.spin_seats.specs.declared.calls.SeatsCall.TheVariants.{TryEnter, TryEnterWeak, Enter, Leave}
 use Rattle.spin_seats.specs.declared.calls.SeatsPoint.{SeatsPoint}
-use Rattle.spin_seats.proofs.Taken.{enter-grants, leave-gives}
+use Rattle.spin_seats.proofs.Taken.{enter-grants}
 
 module _ (n : ℕ) where
   kind : (v : View) → OnlyReads (part n v)
   kind (Holding hold.Read) = λ p. (refl, refl, refl)
   kind v = λ p. grind arith
 
-  module _ (p : ℕ) (s : Plain) (vs : List View) (room : s.cap ≡ seats n) (is : IsLockOf (part n) vs s)
-      (few : seats_word s ≤ seats n) where
-    -- the step function of `enter` decides as the plain lock
-    grants : Decides s (gets p to_read) seats_word (entered n (seats_word s))
-    grants = enter-grants s p n (seats_word s) (all_read (part n) kind vs s is) room refl
-
-    -- the subtraction of a party with a seat does not wrap
-    down : is_holder p reading s.holders ≡ true → (seats_word s + (2 ^ 64 - 1)) % 2 ^ 64 ≡ seats_word s - 1
-    down found = omega (arith, length-without_holder p reading s.holders found, few)
-
   sound : (c : SeatsCall) (l : SeatsPoint) (h : Option Hold) (p : ℕ) (s : Plain) (vs : List View) (from : Part)
       → ComesFrom (seats_table n) (seats_meaning n) c l h from → s.cap ≡ seats n → IsInOrder s → IsLockOf (part n) vs s
       → seats_word s ≤ seats n → HasPart s p from → Sound (seats_table n) (seats_meaning n) c l h p s from
   sound Leave l (Some hold.Read) p s vs from comes room order is few has =
-      let e : from ≡ holds reading = grind (arith, comes) in
-      let found = is_holder-from_entries p reading s.holders (ap (λ e. e.holders) (rw e at has).0) in
-      let less = down p s vs room is few found in
-      rw e (record {
-        opens = (refl, found);
-        entries = release-own s p reading;
-        knows = tt;
-        counts = less ∙ leave-gives s p (seats_word s) refl found;
-        same = less;
-        bounded = omega (arith, less, few);
-      })
-  sound c l h p s vs from comes room order is few has = grind (arith, comes, grants p s vs room is few, few)
+      let stands = is_holder-from_entries p reading s.holders in let less = length-without_holder p reading s.holders in
+      grind (arith, comes, has.0, stands, release-own s p reading, less, few)
+  sound c l h p s vs from comes room order is few has =
+      grind (arith, comes, enter-grants s p n (seats_word s) (all_read (part n) kind vs s is) room refl, few)
 
   pub seats_refine : Refines (seats_table n) (seats_meaning n)
   seats_refine = record {
@@ -82,16 +63,15 @@ module _ (n : ℕ) where
   weak_answers key = (grind arith, grind arith)
 
   -- the word is the number of parties that have a seat
-  one_sits : (v : View) → reads_of (use_at (seats_meaning n) v) ≡ seated (v ∷ [])
-  one_sits (Holding hold.Read) = refl
+  one_sits : (v : View) → reads_of (use_at (seats_meaning n) v) ≡ seats_taken (v ∷ [])
   one_sits v = grind arith
 
-  readers_sit : (vs : List View) → readers_of (use_at (seats_meaning n)) vs ≡ seated vs
+  readers_sit : (vs : List View) → readers_of (use_at (seats_meaning n)) vs ≡ seats_taken vs
   readers_sit [] = refl
   readers_sit (v ∷ vs) =
       grind (arith, one_sits v, readers_sit vs, sum_by-cons (λ v. reads_of (use_at (seats_meaning n) v)) v vs)
 
-  pub as_many_sit : (word : ℕ) (vs : List View) → IsWord n word tt vs → (word ≡ seated vs) × (word ≤ n)
+  pub as_many_sit : (word : ℕ) (vs : List View) → IsWord n word tt vs → (word ≡ seats_taken vs) × (word ≤ n)
   as_many_sit word vs (is, few) =
       let counted = as_many_hold (part n) kind vs is.0 is.3 in (omega (arith, is.4, counted, readers_sit vs), omega (arith, few))
 

@@ -43,5 +43,5 @@ abbrev pub IsSeats : ℕ → Opening (Unit {0}) → ℕ → Trace Done (Unit {0}
 IsSeats n = session.RunsTable (seats_tables n) (seats_meaning n)
 
 -- how many of the parties have a seat
-abbrev pub seated : List View → ℕ
-seated views = count_by (λ v. elim v [ Holding h ↦ is_read h | _ ↦ false ]) views
+abbrev pub seats_taken : List View → ℕ
+seats_taken views = count_by (λ v. elim v [ Holding h ↦ is_read h | _ ↦ false ]) views

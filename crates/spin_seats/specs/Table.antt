@@ -31,15 +31,15 @@ abbrev pub goes_for : ℕ → Answered
 goes_for w = Continue (Exchange w)
 
 -- A call that takes a seat loads first. Then it repeats its exchange as long as the word found has a free seat.
-abbrev pub comes_by : ℕ → Answered → SeatsPoint → Act ℕ SeatsPoint (Answer (Unit {0}))
-comes_by n missed First = load_for (entered n) (λ p. gets p to_read) goes_for missed
-comes_by n missed (Exchange k) = retry k (entered n) (λ p. gets p to_read) granted goes_for missed
+abbrev pub enters_by : ℕ → Answered → SeatsPoint → Act ℕ SeatsPoint (Answer (Unit {0}))
+enters_by n missed First = load_for (entered n) (λ p. gets p to_read) goes_for missed
+enters_by n missed (Exchange k) = retry k (entered n) (λ p. gets p to_read) granted goes_for missed
 
 abbrev pub act_of : ℕ → SeatsCall → SeatsPoint → Option Hold → Act ℕ SeatsPoint (Answer (Unit {0}))
-act_of n call.TryEnter l h = comes_by n (Answers Refused h) l
+act_of n call.TryEnter l h = enters_by n (Answers Refused h) l
 act_of n call.TryEnterWeak First h = load_for (entered n) (λ p. gets p to_read) goes_for (Answers Refused h)
 act_of n call.TryEnterWeak (Exchange k) h = attempt k (entered n) (λ p. gets p to_read) granted (Answers Refused h)
-act_of n call.Enter l h = comes_by n (Continue First) l
+act_of n call.Enter l h = enters_by n (Continue First) l
 act_of n call.Count l h = load (λ w. Answers (Count w) h)
 act_of n call.Leave l h = store (λ w. nat_lt 0 w) (op.Subtract 1) (λ p. releases p reading) (Answers Done None)
 

@@ -6,12 +6,12 @@ ghost use Rattle.spin_core.specs.Views.{holds, part_at};
 ghost use Rattle.spin_core.specs.declared.tie.Opening.{Opening};
 ghost use Rattle.spin_core.specs.declared.trace.Trace.{Trace};
 ghost use Rattle.spin_seats.specs.Seats.{left};
-ghost use Rattle.spin_seats.specs.Rule.{Done, IsSeats, IsWord, View, model, part, seated, words_of};
+ghost use Rattle.spin_seats.specs.Rule.{Done, IsSeats, IsWord, View, model, part, seats_taken, words_of};
 
 /// States what the rule of a lock of `n` seats says of its word: the word is the number of parties that sit,
 /// at most `n`.
 pub fn no_more_sit_than_there_are_seats()
-    ensures { (n word : ℕ) (views : List View) → IsWord n word tt views → (word ≡ seated views) × (word ≤ n) }
+    ensures { (n word : ℕ) (views : List View) → IsWord n word tt views → (word ≡ seats_taken views) × (word ≤ n) }
 {}
 
 /// States that the subtraction of a party that sits frees a seat as the step function says, on each word that the

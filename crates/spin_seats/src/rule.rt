@@ -16,6 +16,9 @@ pub type Party = table::Party<SeatsCall, SeatsPoint>;
 /// An entry of the lock's trace.
 pub type Entry = table::Entry<SeatsCall, ()>;
 
+/// The whole history of a lock, at its end.
+pub type History = Trace<Entry>;
+
 /// The rule of a lock of `N` seats: the word is the number of parties that sit, at most `N`. The trace is a schedule of
 /// the lock's model that leads to this word and to each party's seat in the model.
 pub struct SeatsRule<const N: usize>;
@@ -23,7 +26,7 @@ pub struct SeatsRule<const N: usize>;
 impl<const N: usize> Rule<(), Party> for SeatsRule<N> {
     type Key = Opening<()>;
 
-    type Second = Trace<Entry>;
+    type Second = History;
 
     ghost holds = { IsSeats N };
 

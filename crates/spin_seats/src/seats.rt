@@ -3,18 +3,18 @@ ghost use Rattle.std.specs.Prelude.{◌≡◌, ◌≤◌, Some, None, IfSome, If
 ghost use Rattle.spin_core.specs.Logs.{OneIsPrefix};
 ghost use Rattle.spin_step.specs.declared.answer.Answer.TheVariants.{Granted, Refused, Count as Counted, Done as Left};
 ghost use Rattle.spin_step.specs.declared.place.Hold.TheVariants.{Read};
-ghost use Rattle.spin_session.specs.Turns.{Stands, history, lock_of, spot};
-ghost use Rattle.spin_seats.specs.Passes.{After, Calls, SeatsSpot, new_in, opening};
+ghost use Rattle.spin_session.specs.Turns.{Stands, history, lock_of, spot_of};
+ghost use Rattle.spin_seats.specs.Passes.{After, Calls, Ends, Recalls, SeatsSpot, new_in, opening};
 ghost use Rattle.spin_seats.specs.Seats.{seats};
 ghost use Rattle.spin_seats.specs.declared.calls.SeatsCall.TheVariants.{TryEnter, TryEnterWeak, Enter, Count, Leave};
 
 use crate::calls::SeatsCall;
-pub use crate::rule::Entry;
+pub use crate::rule::{Entry, History};
 use crate::rule::{Party, SeatsRule};
 use spin_core::cell::Cell;
 use spin_core::relax::{Spin, Strategy};
 use spin_core::tie::Opening;
-use spin_core::trace::Trace;
+use spin_core::trace::{Trace, Watch};
 use spin_session::calls::{SessionOf, after, ask, enter, finish};
 use spin_session_more::calls::{attempt, make, try_for, wait_for};
 use spin_step::{Answer, Hold};
@@ -52,7 +52,7 @@ pub struct SeatGuard<'a, const N: usize> {
 impl<'a, const N: usize> Model for SeatGuard<'a, N> {
     ghost Value = { SeatsSpot };
 
-    ghost view = { λ guard. spot guard.session };
+    ghost view = { λ guard. spot_of guard.session };
 
     ghost invariant = { λ guard. Stands (Some Read) guard.session };
 }
@@ -88,7 +88,7 @@ pub struct Pass<'a, const N: usize> {
 impl<'a, const N: usize> Model for Pass<'a, N> {
     ghost Value = { SeatsSpot };
 
-    ghost view = { λ pass. spot pass.session };
+    ghost view = { λ pass. spot_of pass.session };
 
     ghost invariant = { λ pass. Stands None pass.session };
 }
@@ -113,6 +113,29 @@ impl<const N: usize> Seats<N> {
         Pass {
             session: enter(&self.cell),
         }
+    }
+
+    /// Consumes the lock, and returns its whole history.
+    ///
+    /// # Contract
+    /// The history is a schedule of the lock's model (`Ends`). It begins with what a pass knew
+    /// ([`covers`](spin_core::trace::Trace::covers)). The call returns.
+    ///
+    /// # Examples
+    /// ```
+    /// use spin_seats::seats::Seats;
+    ///
+    /// let seats: Seats<1> = Seats::new();
+    /// let (taken, pass) = seats.pass().count();
+    /// assert_eq!(rt; taken, 0);
+    /// let known = pass.seen();
+    /// drop(pass);
+    /// seats.into_history().covers(&known);
+    /// ```
+    pub fn into_history(self) -> History
+        ensures { Ends N (opening self.entry) result }
+    {
+        self.cell.into_parts().2
     }
 
     /// Returns how many seats were taken at some moment during this call. By the time the caller reads the answer it
@@ -285,6 +308,16 @@ impl<'a, const N: usize> Pass<'a, N> {
         Pass {
             session: after(session, &earlier.session),
         }
+    }
+
+    /// Returns what this pass knows of the lock's history. It outlives the lock's borrow.
+    ///
+    /// # Contract
+    /// It is what the pass knows (`Recalls`).
+    pub fn seen(&self) -> Watch<Entry>
+        ensures { Recalls self.now result }
+    {
+        self.session.seen.copy()
     }
 
     /// Compares what two passes of one lock know. It does nothing at run time.

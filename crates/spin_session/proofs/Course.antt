@@ -18,12 +18,16 @@ use Rattle.spin_step.specs.declared.stepped.Next.TheVariants.{Continue, Answers}
 use Rattle.spin_session.specs.Meaning.{Meaning, model_at, seat_after, seat_now, use_at, rests_at, table_at}
 use Rattle.spin_session.specs.declared.session.Session.{Session}
 use Rattle.spin_session.specs.Passes.{Writes}
-use Rattle.spin_session.specs.Turns.{MayFind, IsReached, IsLed, IsLedTo, Lands, SeesOn, course_of, next_after, outcome_of, has_begun, Spot, Comes, GoesBy, GoesOn, Under, Ended, Quiet, StaysQuiet, IsAtPoint, Knows, StandsAt, EachAnswer, Tries, IsAnsweredBy, IsAnswered, Acquires, TriesToAcquire, IsTry, IsLook, Tells, AnswersWith, is_granted}
+use Rattle.spin_session.specs.Turns.{MayFind, IsReached, IsLed, IsLedTo, Lands, SeesOn, course_of, next_after, outcome_of, has_begun, held_now, SeatSpot, Comes, GoesBy, GoesOn, Under, Ended, Quiet, StaysQuiet, IsAtPoint, Knows, StandsAt, EachAnswer, Tries, IsAnsweredBy, IsAnswered, Acquires, TriesToAcquire, IsTry, IsLook, Tells, AnswersWith, is_granted}
 
 -- the seat of a party does not depend on what its answer says
 pub same_seat : {C L : Type 0} (V : Type 0) (c : C) (h : Option Hold) (next : Next L (Answer (Unit {0}))) → seat_after c h (filled {V = V} None next) ≡ seat_after c h next
 same_seat V c h (Continue l) = refl
 same_seat V c h (Answers a after) = refl
+
+pub held_resting : (C L : Type 0) (h : Option Hold) → held_now (resting {C = C} {L = L} h) ≡ h
+held_resting C L None = refl
+held_resting C L (Some x) = refl
 
 -- a call that may begin begins at its point
 pub starts_at : {W V C L A : Type 0} (t : Table W V C L A) (c : C) (h : Option Hold) (l : L) → (t.asks c h).begins h ≡ true → Some l ≡ begin_of t c h → l ≡ t.start c h
@@ -38,27 +42,24 @@ module _ {W V C L : Type 0} (t : Table W V C L (Answer V)) (s : Meaning C L) (c 
   quiet_at (Some v) (inl is) quiet used = quiet.1 l (subst (λ o. use_of (use_at s) o ≡ writes) is used)
   quiet_at (Some v) (inr (point, is, may)) quiet used = quiet.0 (subst (λ x. use_at s x ≡ writes) is used)
 
-module _ {W V C L : Type 0} (t : ℕ → V → Table W V C L (Answer V)) (s : Meaning C L) (c : C) (l : L) (h : Option Hold) (p q r : Spot V C L) where
+module _ {W V C L : Type 0} (t : ℕ → V → Table W V C L (Answer V)) (s : Meaning C L) (c : C) (l : L) (h : Option Hold) (p q r : SeatSpot V C L) where
   -- from q to r the party made one step of the call, which found this number
   abbrev pub Made : Next L (Answer V) → Type 0
   Made next = (n : ℕ) × (next ≡ next_of (table_at t q.0) c l h n) × MayFind t s c l h n q.0 × Stepped (model_at t) (has_begun (what q.1)) c (outcome_of next) (seat_after c h next) q r
-
-  seat_of_rest : (after : Option Hold) → what r.1 ≡ Some (resting after) → seat_now (what r.1) ≡ resting after
-  seat_of_rest after is = ap seat_now is
 
   pub comes : Under t s c p q → (next : Next L (Answer (Unit {0}))) → Made (filled None next) → Comes t s c h next p r
   comes (inl (is_in, begun)) (Continue k) (n, which, fine, (since, sits)) =
       (stays_in (model_at t) c p q r is_in (rw begun at since), sits)
   comes (inl (is_in, begun)) (Answers a after) (n, which, fine, (since, sits)) = (
     is_answered (model_at t) c p q r is_in (with_value a None) (rw begun at since),
-    seat_of_rest after sits,
+    ap seat_now sits,
     (l, n, ap (λ k. next_of (table_at t k) c l h n) (sym is_in.2) ∙ sym which, subst (λ k. MayFind t s c l h n k) is_in.2 fine),
   )
   comes (inr (same, not)) (Continue k) (n, which, fine, (since, sits)) =
       (subst (λ x. IsIn (model_at t) c x r) same (comes_in (model_at t) c q r (rw not at since)), sits)
   comes (inr (same, not)) (Answers a after) (n, which, fine, (since, sits)) = (
     subst (λ x. HasCalled (model_at t) c (with_value a None) x r) same (in_one (model_at t) c q r (with_value a None) (rw not at since)),
-    seat_of_rest after sits,
+    ap seat_now sits,
     (l, n, ap (λ x. next_of (table_at t x.0) c l h n) (sym same) ∙ sym which, subst (λ x. MayFind t s c l h n x.0) same fine),
   )
 
@@ -68,7 +69,7 @@ uses_now s None = refl
 uses_now s (Some x) = refl
 
 module _ {W V C L : Type 0} (t : ℕ → V → Table W V C L (Answer V)) (s : Meaning C L) (c : C) (h : Option Hold) where
-  module _ (p q : Spot V C L) (next : Next L (Answer (Unit {0}))) (came : Comes t s c h next p q) where
+  module _ (p q : SeatSpot V C L) (next : Next L (Answer (Unit {0}))) (came : Comes t s c h next p q) where
     pub goes_on : (l : L) → next ≡ Continue l → IsIn (model_at t) c p q × (what q.1 ≡ Some (Calling c l h))
     goes_on l is = subst (λ x. Comes t s c h x p q) is came
 
@@ -92,7 +93,7 @@ module _ {W V C L : Type 0} (t : ℕ → V → Table W V C L (Answer V)) (s : Me
   granted_as a = grind arith
 
   -- What holds of each answer of the call holds of the one that the party has.
-  module _ (p q : Spot V C L) (knows : Knows s q) (a : Answer (Unit {0})) (k : Option Hold) (end : Ended t s c h a k p q) where
+  module _ (p q : SeatSpot V C L) (knows : Knows s q) (a : Answer (Unit {0})) (k : Option Hold) (end : Ended t s c h a k p q) where
     told : (Q : Answer V → Option Hold → Type 0) → EachAnswer t s c h Q p.0 → Q (with_value a None) k
     told Q each = let (l, n, is, fine) = end.2 in each l n (with_value a None) k fine is
 
@@ -154,7 +155,7 @@ sees_then s c l h v it now sits rests first next uses =
     )
 
 -- The first steps of a call by one operation, of which the last is `last`.
-module _ {W V C L : Type 0} (t : ℕ → V → Table W V C L (Answer V)) (s : Meaning C L) (c : C) (h : Option Hold) (p q : Spot V C L) (last : Option (L × ℕ)) (lands : Lands (table_at t p.0) s c h last (seat_now (what q.1)))
+module _ {W V C L : Type 0} (t : ℕ → V → Table W V C L (Answer V)) (s : Meaning C L) (c : C) (h : Option Hold) (p q : SeatSpot V C L) (last : Option (L × ℕ)) (lands : Lands (table_at t p.0) s c h last (seat_now (what q.1)))
     (sits : what q.1 ≡ Some (seat_after c h (next_after (table_at t p.0) c h last))) (since : Since (model_at t) (course_of c (next_after (table_at t p.0) c h last)) p q) where
   -- the call so goes on from the last of these steps
   pub record Leapt (l : L) (m : ℕ) (next : Next L (Answer (Unit {0}))) : Type 0 where

@@ -17,9 +17,9 @@ use Rattle.spin_step.specs.declared.place.Hold.{Hold}
 use Rattle.spin_step.specs.declared.place.Seat.{Seat}
 use Rattle.spin_step.specs.declared.place.Seat.TheVariants.{Holding}
 use Rattle.spin_session.specs.Meaning.{Meaning, model_at, words_of, table_at}
-use Rattle.spin_session.specs.Turns.{Says, Told, EndsWith, Spot, gives_up, turn_by}
+use Rattle.spin_session.specs.Turns.{Says, Told, EndsWith, SeatSpot, gives_up, turn_by}
 
-module _ {W V C L : Type 0} (t : ℕ → V → Table W V C L (Answer V)) (s : Meaning C L) (c : C) (h : Hold) (after : Option Hold) (p q : Spot V C L) (is : what p.1 ≡ Some (Holding h)) (ends : EndsWith t c h after p.0) (named : Type 0) (n : ℕ) where
+module _ {W V C L : Type 0} (t : ℕ → V → Table W V C L (Answer V)) (s : Meaning C L) (c : C) (h : Hold) (after : Option Hold) (p q : SeatSpot V C L) (is : what p.1 ≡ Some (Holding h)) (ends : EndsWith t c h after p.0) (named : Type 0) (n : ℕ) where
   abbrev Step : (V → Type 0) → Option (Numbered (Seat C L)) → Type 0
   Step Q w = Moved (Watches named p.2 q.2 (Told (table_at t p.0) s (gives_up (table_at t p.0) s Q c (Some (Holding h))) p.1) n) w
 

@@ -3,9 +3,10 @@ use Rattle.std.proofs.Common.{◌≡◌, ℕ, zero, suc, ◌++◌, ◌==◌, [],
 use lib.ListN.{get_elem?}
 use mathlib.Core.Option.{some}
 use Rattle.std.specs.List.{list_all}
+use Rattle.std.proofs.Math.Seq.{set-append_seam}
 use Rattle.spin_step.specs.Acts.{Table, operation_by, next_of, number_at, machine_of, begin_of}
 use Rattle.spin_step.specs.Operations.{performed}
-use Rattle.spin_step.specs.Schedules.{State, after, resting, placed, begun, goes_on, happens}
+use Rattle.spin_step.specs.Schedules.{State, after, resting, placed, begun, happens}
 use Rattle.spin_step.specs.declared.answer.Answer.{Answer}
 use Rattle.spin_step.specs.declared.place.Hold.{Hold}
 use Rattle.spin_step.specs.declared.place.Seat.{Seat}
@@ -28,7 +29,8 @@ use Rattle.spin_core.proofs.Views.{part_before, number as number_of, own_part, l
 use Rattle.spin_session.specs.Meaning.{Meaning, Beside, worked, number_in, put_in, on_place, way_of, part_of, seat_now, rests_at, seat_after, use_at, words_in, AreWords, FindsAt, ComesFrom, RefinesOn}
 use Rattle.spin_session.specs.Turns.{outcome_of, Says, Quiet, Told, GoesTo, IsLed, FusesBy, Lands, Reaches, leap, next_after, course_of, held_now}
 use Rattle.spin_session.specs.Operating.{Operates}
-use Rattle.spin_session.proofs.Refining.{going_of, leaves_quiet, with_seat, st, found, step_is, goes_to, lock, Rule, own_ways, Moving, Keeps, keeps, moves_now, part_now, some_part, allows_step}
+use Rattle.spin_session.proofs.Course.{held_resting}
+use Rattle.spin_session.proofs.Refining.{going_of, leaves_quiet, with_seat, is_played-next, st, found, steps_to, begun_is, lock, Rule, own_ways, Moving, Keeps, keeps, moves_now, part_now, some_part, allows_step}
 use Rattle.spin_step.specs.declared.table.Operation.TheVariants as op
 
 -- The moves.
@@ -75,10 +77,6 @@ module _ {V : Type 0} where
   there [] w = refl
   there (v ∷ vs) w = there vs w
 
-  set_last : (vs : List V) (w u : V) → slice_set (vs ++ w ∷ []) (length vs) u ≡ vs ++ u ∷ []
-  set_last [] w u = refl
-  set_last (v ∷ vs) w u = ap (λ xs. v ∷ xs) (set_last vs w u)
-
   set_there : (id : ℕ) (v w : V) (vs : List V) → get_elem? vs id ≡ some v → get_elem? (slice_set vs id w) id ≡ some w
   set_there id v w [] at = absurd (cc (at))
   set_there zero v w (x ∷ xs) at = refl
@@ -94,7 +92,7 @@ module _ {V : Type 0} where
   stands_then id (Some v) vs w at = set_there id v w vs at
 
   after_then : (id : ℕ) (view : Option V) (vs : List V) (w u : V) → cell.after (place id view vs) (Some w) (cell.after id view vs w) u ≡ cell.after id view vs u
-  after_then id None vs w u = set_last vs w u
+  after_then id None vs w u = set-append_seam vs w [] u
   after_then id (Some v) vs w u = set_again id w u vs
 
 met : (b : Bool) (u v : Use) (readers : ℕ) (A : Type 0) → Going {X = Unit {0}} (way_of b) u v None readers A → A
@@ -105,41 +103,42 @@ module _ {W V C L S : Type 0} (k : Beside S) (t : Table W V C L (Answer V)) (s :
   abbrev world : W → Option V → Seat C L → State W V C L
   world = with_seat t
 
-  -- From the point l the call has moves after which it goes on so, and the first word is this number.
+  -- From this seat the party has moves of such a course, after which the call goes on so, and the first word is this number.
+  abbrev Goes : Seat C L → Course V C (Answer V) → C → Option Hold → W → Option V → ℕ → Next L (Answer V) → Type 0
+  Goes from course c h w value n' next =
+      (own : List (Move C V)) × (outs : List (Ending V)) × course own outs × (list_all (is_of_call (machine_of t)) own ≡ true) × (list_all is_played outs ≡ true) × (w' : W) × (now : Option V)
+      × (after (machine_of t) (world w value from) (by_party 0 own) ≡ world w' now (seat_after c h next))
+      × (outcomes (machine_of t) (world w value from) (by_party 0 own) ≡ outs) × (words_in t k w' ≡ (n', (words_in t k w).1))
+
   abbrev Walk : C → Option Hold → L → W → Option V → ℕ → Next L (Answer V) → Type 0
-  Walk c h l w value n' next =
-      (own : List (Move C V)) × (outs : List (Ending V)) × course_on next own outs × (list_all (is_of_call (machine_of t)) own ≡ true) × (list_all is_played outs ≡ true) × (w' : W) × (now : Option V)
-      × (after (machine_of t) (world w value (Calling c l h)) (by_party 0 own) ≡ world w' now (seat_after c h next))
-      × (outcomes (machine_of t) (world w value (Calling c l h)) (by_party 0 own) ≡ outs) × (words_in t k w' ≡ (n', (words_in t k w).1))
+  Walk c h l w value n' next = Goes (Calling c l h) (course_on next) c h w value n' next
 
   abbrev number : W → ℕ
   number w = number_at t.memory 0 w
 
   -- the step of a party that is alone
-  steps_to : (c : C) (l : L) (h : Option Hold) (w : W) (value : Option V) → let z = st k t s d opening c l h w value in let next = next_of t c l h (number w) in
+  steps_here : (c : C) (l : L) (h : Option Hold) (w : W) (value : Option V) → let z = st k t s d opening c l h w value in let next = next_of t c l h (number w) in
       (happens (machine_of t) (world w value (Calling c l h)) 0 Step ≡ record { outcome = outcome_of next; next = world z.words (placed z.placed value) (seat_after c h next) })
-      × (list_all is_played (outcome_of next ∷ []) ≡ true) × (words_in t k z.words ≡ (performed (operation_by (t.act c l h)) (number w), (words_in t k w).1))
-  steps_to c l h w value =
-      let z = st k t s d opening c l h w value in let from = world z.words (placed z.placed value) (Calling c l h) in
-      let same : found k t s d opening c l h w ≡ number w = ap (λ i. number_in k i (words_in t k w)) (first l) in
-      let led = goes_to k t s d opening c l h w value in (
-        ap (goes_on from 0 c h) (step_is k t s d opening c l h w value) ∙ led.whole
+      × (words_in t k z.words ≡ (performed (operation_by (t.act c l h)) (number w), (words_in t k w).1))
+  steps_here c l h w value =
+      let z = st k t s d opening c l h w value in
+      let same : found k t s d opening c l h w ≡ number w = ap (λ i. number_in k i (words_in t k w)) (first l) in (
+        steps_to k t s d opening c l h w value
             ∙ ap (λ n. record { outcome = outcome_of (next_of t c l h n); next = world z.words (placed z.placed value) (seat_after c h (next_of t c l h n)) }) same,
-        subst (λ n. list_all is_played (outcome_of (next_of t c l h n) ∷ []) ≡ true) same led.played,
         d.writes_words c l h w ∙ ap (λ i. put_in k i (performed (operation_by (t.act c l h)) (number_in k i (words_in t k w))) (words_in t k w)) (first l),
       )
 
   walks : (c : C) (h : Option Hold) (j : ℕ) (l : L) (n : ℕ) (l' : L) (m : ℕ) → GoesTo t s c h j l n l' m → (w : W) (value : Option V) → number w ≡ n
       → Walk c h l w value (performed (operation_by (t.act c l' h)) m) (next_of t c l' h m)
   walks c h zero l n l' m goes w value at =
-      let one = steps_to c l h w value in let z = st k t s d opening c l h w value in let next = next_of t c l h (number w) in
+      let one = steps_here c l h w value in let z = st k t s d opening c l h w value in let next = next_of t c l h (number w) in
       let here : Walk c h l w value (performed (operation_by (t.act c l h)) (number w)) next
-      = (Step ∷ [], outcome_of next ∷ [], last_one C next, refl, one.1, z.words, placed z.placed value, ap (λ x. x.next) one.0, ap (λ x. x.outcome ∷ []) one.0, one.2) in
+      = (Step ∷ [], outcome_of next ∷ [], last_one C next, refl, is_played-next next, z.words, placed z.placed value, ap (λ x. x.next) one.0, ap (λ x. x.outcome ∷ []) one.0, one.1) in
       subst (λ (x : L × ℕ). Walk c h l w value (performed (operation_by (t.act c x.0 h)) x.1) (next_of t c x.0 h x.1)) (λ i. (sym goes.0 i, (at ∙ sym goes.1) i)) here
   walks c h (suc j) l n l' m (i, to, rest) w value at =
-      let one = steps_to c l h w value in let z = st k t s d opening c l h w value in let v = placed z.placed value in
+      let one = steps_here c l h w value in let z = st k t s d opening c l h w value in let v = placed z.placed value in
       let now : happens (machine_of t) (world w value (Calling c l h)) 0 Step ≡ record { outcome = GoingOn; next = world z.words v (Calling c i h) } = rw (at, to) at one.0 in
-      let (own, outs, so, all, fine, w', value', leads, came, words) = walks c h j i (performed (operation_by (t.act c l h)) n) l' m rest z.words v (ap (λ x. x.0) one.2 ∙ ap (performed (operation_by (t.act c l h))) at) in
+      let (own, outs, so, all, fine, w', value', leads, came, words) = walks c h j i (performed (operation_by (t.act c l h)) n) l' m rest z.words v (ap (λ x. x.0) one.1 ∙ ap (performed (operation_by (t.act c l h))) at) in
       let next = next_of t c l' h m in let n' = performed (operation_by (t.act c l' h)) m in (
         Step ∷ own,
         GoingOn ∷ outs,
@@ -150,43 +149,36 @@ module _ {W V C L S : Type 0} (k : Beside S) (t : Table W V C L (Answer V)) (s :
         value',
         ap (λ x. after (machine_of t) x.next (by_party 0 own)) now ∙ leads,
         ap (λ x. x.outcome ∷ outcomes (machine_of t) x.next (by_party 0 own)) now ∙ ap (λ o. GoingOn ∷ o) came,
-        words ∙ ap (λ x. (n', x.1)) one.2,
+        words ∙ ap (λ x. (n', x.1)) one.1,
       )
 
+  abbrev Leapt : C → Option Hold → Seat C L → W → Option V → ℕ → Next L (Answer V) → Type 0
+  Leapt c h from w value n' next = Goes from (course_of c next) c h w value n' next
+
   -- the moves of an operation that begins the call
-  module _ (c : C) (h : Option Hold) (may : (t.asks c h).begins h ≡ true) (from : Seat C L)
-      (alike : (w : W) (value : Option V) → happens (machine_of t) (world w value from) 0 (Begin c) ≡ begun {A = Answer V} (world w value from) 0 c h (begin_of t c h)) where
-    begun_is : (w : W) (value : Option V) → happens (machine_of t) (world w value from) 0 (Begin c) ≡ record { outcome = Begun; next = world w value (Calling c (t.start c h) h) }
-    begun_is w value = alike w value ∙ ap (begun {A = Answer V} (world w value from) 0 c h) (let at : begin_of t c h ≡ Some (t.start c h) = rw may refl in at)
-
-    abbrev Leapt : W → Option V → ℕ → Next L (Answer V) → Type 0
-    Leapt w value n' next =
-        (own : List (Move C V)) × (outs : List (Ending V)) × course_of c next own outs × (list_all (is_of_call (machine_of t)) own ≡ true) × (list_all is_played outs ≡ true) × (w' : W) × (now : Option V)
-        × (after (machine_of t) (world w value from) (by_party 0 own) ≡ world w' now (seat_after c h next))
-        × (outcomes (machine_of t) (world w value from) (by_party 0 own) ≡ outs) × (words_in t k w' ≡ (n', (words_in t k w).1))
-
-    leaps_from : (last : Option (L × ℕ)) (w : W) (value : Option V) (n' : ℕ) → IsLed t s c h last (number w) n' → Leapt w value n' (next_after t c h last)
-    leaps_from None w value n' (is, part) =
-        (Begin c ∷ [], Begun ∷ [], ([], [], refl, refl, (0, refl, refl)), refl, refl, w, value, ap (λ x. x.next) (begun_is w value), ap (λ x. x.outcome ∷ []) (begun_is w value), ap (λ x. (x, (words_in t k w).1)) (sym is))
-    leaps_from (Some x) w value n' (j, goes, is) =
-        let (own, outs, so, all, fine, w', value', leads, came, words) = walks c h j (t.start c h) (number w) x.0 x.1 goes w value refl in
-        let next = next_of t c x.0 h x.1 in (
-          Begin c ∷ own,
-          Begun ∷ outs,
-          course_begins c next own outs so,
-          all,
-          fine,
-          w',
-          value',
-          ap (λ y. after (machine_of t) y.next (by_party 0 own)) (begun_is w value) ∙ leads,
-          ap (λ y. y.outcome ∷ outcomes (machine_of t) y.next (by_party 0 own)) (begun_is w value) ∙ ap (λ o. Begun ∷ o) came,
-          words ∙ ap (λ y. (y, (words_in t k w).1)) (sym is),
-        )
+  leaps_from : (c : C) (h : Option Hold) (may : (t.asks c h).begins h ≡ true) (from : Seat C L)
+      → ((w : W) (value : Option V) → happens (machine_of t) (world w value from) 0 (Begin c) ≡ begun {A = Answer V} (world w value from) 0 c h (begin_of t c h))
+      → (last : Option (L × ℕ)) (w : W) (value : Option V) (n' : ℕ) → IsLed t s c h last (number w) n' → Leapt c h from w value n' (next_after t c h last)
+  leaps_from c h may from alike None w value n' (is, part) =
+      let now = begun_is k t s d opening c h may from alike w value in
+      (Begin c ∷ [], Begun ∷ [], ([], [], refl, refl, (0, refl, refl)), refl, refl, w, value, ap (λ x. x.next) now, ap (λ x. x.outcome ∷ []) now, ap (λ x. (x, (words_in t k w).1)) (sym is))
+  leaps_from c h may from alike (Some x) w value n' (j, goes, is) =
+      let (own, outs, so, all, fine, w', value', leads, came, words) = walks c h j (t.start c h) (number w) x.0 x.1 goes w value refl in
+      let next = next_of t c x.0 h x.1 in let now = begun_is k t s d opening c h may from alike w value in (
+        Begin c ∷ own,
+        Begun ∷ outs,
+        course_begins c next own outs so,
+        all,
+        fine,
+        w',
+        value',
+        ap (λ y. after (machine_of t) y.next (by_party 0 own)) now ∙ leads,
+        ap (λ y. y.outcome ∷ outcomes (machine_of t) y.next (by_party 0 own)) now ∙ ap (λ o. Begun ∷ o) came,
+        words ∙ ap (λ y. (y, (words_in t k w).1)) (sym is),
+      )
 
   leaps_resting : (c : C) (h : Option Hold) (may : (t.asks c h).begins h ≡ true) (last : Option (L × ℕ)) (w : W) (value : Option V) (n' : ℕ) → IsLed t s c h last (number w) n'
-      → let next = next_after t c h last in (own : List (Move C V)) × (outs : List (Ending V)) × course_of c next own outs × (list_all (is_of_call (machine_of t)) own ≡ true) × (list_all is_played outs ≡ true) × (w' : W) × (now : Option V)
-      × (after (machine_of t) (world w value (resting h)) (by_party 0 own) ≡ world w' now (seat_after c h next))
-      × (outcomes (machine_of t) (world w value (resting h)) (by_party 0 own) ≡ outs) × (words_in t k w' ≡ (n', (words_in t k w).1))
+      → Leapt c h (resting h) w value n' (next_after t c h last)
   leaps_resting c None may last w value n' led = leaps_from c None may Idle (λ w value. refl) last w value n' led
   leaps_resting c (Some x) may last w value n' led = leaps_from c (Some x) may (Holding x) (λ w value. refl) last w value n' led
 
@@ -266,14 +258,10 @@ module _ {W V C L S : Type 0} (k : Beside S) (t : Table W V C L (Answer V)) (s :
         by (Some x) n' (j, goes, same) = subst (λ y. Gets view id y m vs (Lands t s (c n) h (Some x))) (sym same)
             (walk_allowed (c n) h j (t.start (c n) h) n x.0 x.1 goes view (inr (may n, refl, part_now k t s d opening view ∙ ap (part_of s) is)) id m vs meets at)
 
-    held_resting : (h' : Option Hold) → held_now (resting {C = C} {L = L} h') ≡ h'
-    held_resting None = refl
-    held_resting (Some x) = refl
-
     pub leaps : (view : Option (Numbered (Seat C L))) (shown : Option V) → seat_now (what view) ≡ resting h → Quiet s (what view)
         → Operates k (Rule k t s d opening) (own_ways k t s d opening) view shown 0 (op.Exchange old new) (Told t s (leap t s (λ n. Some (c n)) last (held_now (seat_now (what view)))) view)
     leaps view shown is quiet =
-        subst (λ x. Keeps k t s d opening view shown (on_place k 0 f) (leap t s (λ n. Some (c n)) last x)) (sym (ap held_now is ∙ held_resting h))
+        subst (λ x. Keeps k t s d opening view shown (on_place k 0 f) (leap t s (λ n. Some (c n)) last x)) (sym (ap held_now is ∙ held_resting C L h))
         (keeps k t s d opening view shown (on_place k 0 f) comes says
         (λ own outs n u said. leaves_quiet (use_of (use_at s) (what view)) (use_at s u) shown own quiet (course_leaves (c n) (next_after t (c n) h (last n)) own outs said.1))
         (moves_now k t s d opening (what view) (on_place k 0 f) comes says (rw is moves)) (allows (what view) is))

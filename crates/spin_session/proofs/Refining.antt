@@ -16,7 +16,7 @@ use Rattle.spin_step.specs.declared.schedule.Outcome.TheVariants.{Begun, Written
 use Rattle.spin_step.specs.declared.stepped.Next.{Next}
 use Rattle.spin_step.specs.declared.stepped.Next.TheVariants.{Continue, Answers}
 use Rattle.spin_step.specs.declared.stepped.Stepped.{Stepped}
-use Rattle.spin_core.specs.Cell.{Use, off, reads, writes, no_fact, Ways, Going, use_of, readers_of, OnWord, AllowsTo, Meets, Stands, Rests, after as after_views}
+use Rattle.spin_core.specs.Cell.{Use, writes, no_fact, Ways, Going, use_of, readers_of, OnWord, AllowsTo, Meets, Stands, Rests, after as after_views}
 use Rattle.spin_core.specs.Own.{Numbered, Runs, what}
 use Rattle.spin_core.specs.Run.{AreMoves, is_played, outcomes}
 use Rattle.spin_core.specs.Own.{by_party}
@@ -27,7 +27,7 @@ use Rattle.spin_core.specs.declared.trace.Trace.{Trace}
 use Rattle.spin_core.specs.Traced.{TracesTo}
 use Rattle.spin_core.proofs.Leaving.{no_word-up}
 use Rattle.spin_core.proofs.Plays as plays
-use Rattle.spin_core.proofs.Plays.{Lock, Holds, ways, idle_rests}
+use Rattle.spin_core.proofs.Plays.{Lock, ways, idle_rests}
 use Rattle.spin_core.proofs.Ties.{traces, tells_less, rests, opens}
 use Rattle.spin_core.proofs.Values.{step_leaves, write_leaves, owed}
 use Rattle.spin_core.proofs.Views.{part_before, number, own_part, lock_after}
@@ -38,6 +38,7 @@ use Rattle.spin_step.specs.declared.schedule.Move.{Move}
 use Rattle.spin_session.specs.Meaning.{Meaning, Beside, just_one, HasSecond, number_in, put_in, on_place, IsAccess, way_of, part_of, seat_now, rests_at, seat_after, use_at, words_in, worked, AreWords, Peeks, FindsAt, ComesFrom, Refines, RefinesOn}
 use Rattle.spin_session.specs.Turns.{outcome_of, Says, turn, Quiet, Told, turn_by, gives_up, has_begun, IsAtPoint, peeks}
 use Rattle.spin_session.specs.Operating.{Operates}
+use Rattle.spin_session.proofs.Course.{uses_now}
 use Rattle.spin_step.specs.declared.table.Operation.{Operation}
 use Rattle.spin_step.specs.declared.table.Operation.TheVariants as op
 
@@ -58,15 +59,14 @@ module _ {W V C L : Type 0} (t : Table W V C L (Answer V)) where
   with_seat w value seat = record { words = w; value = value; seats = seat ∷ [] }
 
   -- where the step of a call leads the model
-  pub record Led (c : C) (h : Option Hold) (w : W) (value : Option V) (l : L) (next : Next L (Answer V)) : Type 0 where
-    pub is : (goes_on (with_seat w value (Calling c l h)) 0 c h next).next ≡ with_seat w value (seat_after c h next)
-    pub outcome : (goes_on (with_seat w value (Calling c l h)) 0 c h next).outcome ≡ outcome_of next
-    pub played : list_all is_played (outcome_of next ∷ []) ≡ true
-    pub whole : goes_on (with_seat w value (Calling c l h)) 0 c h next ≡ record { outcome = outcome_of next; next = with_seat w value (seat_after c h next) }
+  leads : (c : C) (h : Option Hold) (w : W) (value : Option V) (l : L) (next : Next L (Answer V))
+      → goes_on (with_seat w value (Calling c l h)) 0 c h next ≡ record { outcome = outcome_of next; next = with_seat w value (seat_after c h next) }
+  leads c h w value l (Continue k) = refl
+  leads c h w value l (Answers a after) = refl
 
-  leads : (c : C) (h : Option Hold) (w : W) (value : Option V) (l : L) (next : Next L (Answer V)) → Led c h w value l next
-  leads c h w value l (Continue k) = record { is = refl; outcome = refl; played = refl; whole = refl }
-  leads c h w value l (Answers a after) = record { is = refl; outcome = refl; played = refl; whole = refl }
+pub is_played-next : {L V : Type 0} (next : Next L (Answer V)) → list_all is_played (outcome_of next ∷ []) ≡ true
+is_played-next (Continue k) = refl
+is_played-next (Answers a after) = refl
 
 -- The play of a step, as the step of its point.
 
@@ -103,15 +103,13 @@ as_meets Y true f holds n m meets = meets
 as_meets Y false f holds n m meets = meets
 
 pub leaves_quiet : {C V : Type 0} (u v : Use) (shown : Option V) (own : List (Move C V)) → (u ≡ writes → ⊥) → ((x : V) → left own x ≡ x) → Leaves u v shown own
-leaves_quiet off v shown own quiet none = none
-leaves_quiet reads v shown own quiet none = none
 leaves_quiet writes v shown own quiet none = absurd (quiet refl)
+leaves_quiet u v shown own quiet none = none
 
 -- a party that goes on as it was may make no move
 leaves_none : (C : Type 0) {V : Type 0} (u : Use) (shown : Option V) → Leaves {C = C} u u shown []
-leaves_none C off shown = λ v. refl
-leaves_none C reads shown = λ v. refl
 leaves_none C writes shown = tt
+leaves_none C u shown = λ v. refl
 
 -- The numbers in a cell's words.
 
@@ -134,29 +132,19 @@ module _ {S : Type 0} (k : Beside S) where
 
     operated : (i : ℕ) (o : Operation) → IsPlace i → IsAccess i o → Keeping (on_place k i (worked o)) told → ((to : ℕ) → o ≡ op.Store to → Keeping (on_place k i (worked o)) (λ log es n. told log es 0))
         → Operates k holds ways view shown i (wrapped o) told
-    operated zero op.Load there may so stored = so
-    operated zero (op.Exchange a b) there may so stored = so
     operated zero (op.Store to) there may so stored = stored to refl
-    operated zero (op.Add by) there may so stored = so
-    operated zero (op.Subtract by) there may so stored = so
-    operated zero op.SetLowestBit there may so stored = so
+    operated zero o there may so stored = so
     operated (suc j) o (inl first) may so stored = absurd (cc (first))
     operated (suc j) op.Load (inr (e, keeps)) may so stored = (keeps, so)
     operated (suc j) (op.Store to) (inr (e, keeps)) may so stored = (keeps, stored to refl)
-    operated (suc j) (op.Exchange a b) there may so stored = absurd may
-    operated (suc j) (op.Add by) there may so stored = absurd may
-    operated (suc j) (op.Subtract by) there may so stored = absurd may
-    operated (suc j) op.SetLowestBit there may so stored = absurd may
+    operated (suc j) o there may so stored = absurd may
 
 -- a cell of one word makes no operation at place 1
 pub no_second : {X V E : Type 0} (holds : ℕ → Trace E (Unit {0}) → List V → Type 0) (all_ways : Ways X V (Trace E (Unit {0}))) (view : Option V) (shown : Option X) (told : List E → List E → ℕ → V → Type 0) (o : Operation)
     → Operates just_one holds all_ways view shown 1 o told → ⊥
 no_second holds all_ways view shown told op.Load so = absurd (let at : 0 ≡ 1 = so.0 0 1 in cc)
 no_second holds all_ways view shown told (op.Store to) so = absurd (let at : 0 ≡ 1 = so.0 0 1 in cc)
-no_second holds all_ways view shown told (op.Exchange a b) so = so
-no_second holds all_ways view shown told (op.Add by) so = so
-no_second holds all_ways view shown told (op.Subtract by) so = so
-no_second holds all_ways view shown told op.SetLowestBit so = so
+no_second holds all_ways view shown told o so = so
 
 -- The moves of a step.
 
@@ -219,23 +207,25 @@ module _ {W V C L S : Type 0} (k : Beside S) (t : Table W V C L (Answer V)) (s :
         next-is t (t.word l) (t.act c l h) (d.operates c l h) w
         ∙ ap (next_of t c l h) (ap (λ i. number_at t.memory i w) (d.places c l h) ∙ number_is k t (t.word l) (d.within l) w)
 
-    pub goes_to : (w : W) (value : Option V) → let z = st w value in
-        Led t c h z.words (placed z.placed value) l (next_of t c l h (found w))
-    goes_to w value = let z = st w value in leads t c h z.words (placed z.placed value) l (next_of t c l h (found w))
+    -- the step of a party that is alone
+    pub steps_to : (w : W) (value : Option V) → let z = st w value in let next = next_of t c l h (found w) in
+        happens (machine_of t) (with_seat t w value (Calling c l h)) 0 Step ≡ record { outcome = outcome_of next; next = with_seat t z.words (placed z.placed value) (seat_after c h next) }
+    steps_to w value = let z = st w value in let now = placed z.placed value in
+        ap (goes_on (with_seat t z.words now (Calling c l h)) 0 c h) (step_is w value) ∙ leads t c h z.words now l (next_of t c l h (found w))
 
     -- the next step of a call
     pub next_moves : Moving (Some (Calling c l h)) (on_step c l h) (Comes c l h) (turn t s true c l h)
     next_moves w value u is =
-        let z = st w value in let n = found w in let led = goes_to w value in (
+        let z = st w value in let n = found w in let now = placed z.placed value in (
           Step ∷ [],
           ends c l h n ∷ [],
           ((is.0, (refl, refl)), is.2),
           refl,
-          led.played,
+          is_played-next (next_of t c l h n),
           z.words,
-          placed z.placed value,
-          ap (λ x. (goes_on (with_seat t z.words (placed z.placed value) (Calling c l h)) 0 c h x).next) (step_is w value) ∙ led.is ∙ ap (with_seat t z.words (placed z.placed value)) (sym is.0),
-          ap (λ x. (goes_on (with_seat t z.words (placed z.placed value) (Calling c l h)) 0 c h x).outcome ∷ []) (step_is w value) ∙ ap (λ o. o ∷ []) led.outcome,
+          now,
+          ap (λ x. x.next) (steps_to w value) ∙ ap (with_seat t z.words now) (sym is.0),
+          ap (λ x. x.outcome ∷ []) (steps_to w value),
           d.writes_words c l h w ∙ ap (λ x. put_in k (t.word l) x (words_in t k w)) (sym is.1),
         )
 
@@ -244,28 +234,23 @@ module _ {W V C L S : Type 0} (k : Beside S) (t : Table W V C L (Answer V)) (s :
     abbrev l : L
     l = t.start c h
 
-    begins_at : begin_of t c h ≡ Some l
-    begins_at = rw may refl
-
     -- from a seat in which the call begins, the party makes its first step
     module _ (from : Seat C L) (alike : (w : W) (value : Option V) → happens (machine_of t) (with_seat t w value from) 0 (Begin c) ≡ begun {A = Answer V} (with_seat t w value from) 0 c h (begin_of t c h)) where
-      begun_is : (w : W) (value : Option V) → happens (machine_of t) (with_seat t w value from) 0 (Begin c) ≡ record { outcome = Begun; next = with_seat t w value (Calling c l h) }
-      begun_is w value = alike w value ∙ ap (begun {A = Answer V} (with_seat t w value from) 0 c h) begins_at
+      pub begun_is : (w : W) (value : Option V) → happens (machine_of t) (with_seat t w value from) 0 (Begin c) ≡ record { outcome = Begun; next = with_seat t w value (Calling c l h) }
+      begun_is w value = alike w value ∙ ap (begun {A = Answer V} (with_seat t w value from) 0 c h) (let at : begin_of t c h ≡ Some l = rw may refl in at)
 
       pub first_from : Moving (Some from) (on_step c l h) (Comes c l h) (turn t s false c l h)
       first_from w value u is =
-          let z = st c l h w value in let n = found c l h w in let led = goes_to c l h w value in
-          let end : goes_on (with_seat t z.words (placed z.placed value) (Calling c l h)) 0 c h z.next ≡ goes_on (with_seat t z.words (placed z.placed value) (Calling c l h)) 0 c h (next_of t c l h n)
-          = ap (goes_on (with_seat t z.words (placed z.placed value) (Calling c l h)) 0 c h) (step_is c l h w value) in (
+          let z = st c l h w value in let n = found c l h w in let now = placed z.placed value in let so = steps_to c l h w value in (
             Begin c ∷ Step ∷ [],
             Begun ∷ ends c l h n ∷ [],
             ((is.0, (refl, refl)), is.2),
             refl,
-            led.played,
+            is_played-next (next_of t c l h n),
             z.words,
-            placed z.placed value,
-            ap (λ x. (happens (machine_of t) x.next 0 Step).next) (begun_is w value) ∙ ap (λ x. x.next) end ∙ led.is ∙ ap (with_seat t z.words (placed z.placed value)) (sym is.0),
-            ap (λ x. x.outcome ∷ (happens (machine_of t) x.next 0 Step).outcome ∷ []) (begun_is w value) ∙ ap (λ x. Begun ∷ x.outcome ∷ []) end ∙ ap (λ o. Begun ∷ o ∷ []) led.outcome,
+            now,
+            ap (λ x. (happens (machine_of t) x.next 0 Step).next) (begun_is w value) ∙ ap (λ x. x.next) so ∙ ap (with_seat t z.words now) (sym is.0),
+            ap (λ x. x.outcome ∷ (happens (machine_of t) x.next 0 Step).outcome ∷ []) (begun_is w value) ∙ ap (λ x. Begun ∷ x.outcome ∷ []) so,
             d.writes_words c l h w ∙ ap (λ x. put_in k (t.word l) x (words_in t k w)) (sym is.1),
           )
 
@@ -341,52 +326,32 @@ module _ {W V C L S : Type 0} (k : Beside S) (t : Table W V C L (Answer V)) (s :
   moves_now None g comes says moves = moves
   moves_now (Some x) g comes says moves = moves
 
-  module _ (view : Option (Numbered (Seat C L))) (shown : Option V) where
-    abbrev pub Unwriting : Type 0
-    Unwriting = Quiet s (what view)
+  module _ (view : Option (Numbered (Seat C L))) (shown : Option V) (c : C) (l : L) (h : Option Hold) where
+    abbrev says_it : Says t s
+    says_it = turn t s (has_begun (what view)) c l h
 
-    keeps_next : (c : C) (l : L) (h : Option Hold) → what view ≡ Some (Calling c l h) → rests_at s (Calling c l h) ≡ true → Unwriting
-        → Keeps view shown (on_step c l h) (turn t s true c l h)
-    keeps_next c l h is rests quiet =
-        let comes : ComesFrom t s c l h (part_before (part_of s) (what view)) = rw is (inl (some_part (s.part c l h) rests)) in
-        keeps view shown (on_step c l h) (Comes c l h) (turn t s true c l h)
-        (quietly (what view) shown quiet true c l h) (rw is (next_moves c l h)) (allowed (what view) c l h comes)
+    keeps_by : (goes_on : Bool) → has_begun (what view) ≡ goes_on → ComesFrom t s c l h (part_before (part_of s) (what view)) → Moving (what view) (on_step c l h) (Comes c l h) (turn t s goes_on c l h) → Quiet s (what view)
+        → Keeps view shown (on_step c l h) says_it
+    keeps_by goes_on is comes moves quiet = subst (λ b. Keeps view shown (on_step c l h) (turn t s b c l h)) (sym is)
+        (keeps view shown (on_step c l h) (Comes c l h) (turn t s goes_on c l h) (quietly (what view) shown quiet goes_on c l h) moves (allowed (what view) c l h comes))
 
-    keeps_first : (c : C) (h : Option Hold) → seat_now (what view) ≡ resting h → (t.asks c h).begins h ≡ true → Unwriting
-        → let l = t.start c h in Keeps view shown (on_step c l h) (turn t s false c l h)
-    keeps_first c h is may quiet =
-        let l = t.start c h in
-        let comes : ComesFrom t s c l h (part_before (part_of s) (what view)) = inr (may, refl, part_now (what view) ∙ ap (part_of s) is) in
-        let moves = moves_now (what view) (on_step c l h) (Comes c l h) (turn t s false c l h) (rw is (first_moves c h may)) in
-        keeps view shown (on_step c l h) (Comes c l h) (turn t s false c l h)
-        (quietly (what view) shown quiet false c l h) moves (allowed (what view) c l h comes)
+    keeps_at : IsAtPoint t c l h (what view) → rests_at s (seat_now (what view)) ≡ true → Quiet s (what view) → Keeps view shown (on_step c l h) says_it
+    keeps_at (inl is) rests quiet = keeps_by true (ap has_begun is) (rw is (inl (some_part (s.part c l h) (subst (λ o. rests_at s (seat_now o) ≡ true) is rests)))) (rw is (next_moves c l h)) quiet
+    keeps_at (inr (point, is, may)) rests quiet = keeps_by false (not_begun t (what view) h is) (inr (may, point, part_now (what view) ∙ ap (part_of s) is))
+        (rw point (moves_now (what view) (on_step c (t.start c h) h) (Comes c (t.start c h) h) (turn t s false c (t.start c h) h) (rw is (first_moves c h may)))) quiet
 
-    module _ (c : C) (l : L) (h : Option Hold) where
-      keeps_at : IsAtPoint t c l h (what view) → rests_at s (seat_now (what view)) ≡ true → Unwriting → Keeps view shown (on_step c l h) (turn t s (has_begun (what view)) c l h)
-      keeps_at (inl is) rests quiet = subst (λ b. Keeps view shown (on_step c l h) (turn t s b c l h)) (ap has_begun (sym is)) (keeps_next c l h is (subst (λ o. rests_at s (seat_now o) ≡ true) is rests) quiet)
-      keeps_at (inr (point, is, may)) rests quiet =
-          let begun : has_begun (what view) ≡ false = not_begun t (what view) h is in
-          subst (λ b. Keeps view shown (on_step c l h) (turn t s b c l h)) (sym begun) (rw point (keeps_first c h is may quiet))
+    -- a store goes on in the same way, whatever it finds
+    stores_alike : Keeps view shown (on_step c l h) says_it → Operates k Rule own_ways view shown (t.word l) (wrapped (operation_by (t.act c l h))) (Told t s says_it view)
+    stores_alike so =
+        operated k Rule own_ways view shown (Told t s says_it view) (t.word l) (operation_by (t.act c l h)) (d.within l) (d.accesses c l h) so (λ to is.
+        tells_less (machine_of t) (λ z. z) (words_in t k) view says_it (λ own outs n v. says_it own outs 0 v)
+        (λ own outs n v said. (rw (store-any t (t.act c l h) to is n) at said.0, d.empty l)) Rule own_ways shown (on_step c l h) so)
 
-      abbrev says_it : Says t s
-      says_it = turn t s (has_begun (what view)) c l h
-
-      -- a store goes on in the same way, whatever it finds
-      stores_alike : Keeps view shown (on_step c l h) says_it → Operates k Rule own_ways view shown (t.word l) (wrapped (operation_by (t.act c l h))) (Told t s says_it view)
-      stores_alike so =
-          operated k Rule own_ways view shown (Told t s says_it view) (t.word l) (operation_by (t.act c l h)) (d.within l) (d.accesses c l h) so (λ to is.
-          tells_less (machine_of t) (λ z. z) (words_in t k) view says_it (λ own outs n v. says_it own outs 0 v)
-          (λ own outs n v said. (rw (store-any t (t.act c l h) to is n) at said.0, d.empty l)) Rule own_ways shown (on_step c l h) so)
-
-      -- what the play of a step says
-      pub as_by : IsAtPoint t c l h (what view) → (P : Says t s → Type 0) → P (turn t s (has_begun (what view)) c l h) → P (turn_by t s false (Some c) (what view))
-      as_by at P so = by_turn t s (what view) c l h at P so
-
-      pub operates : (o : Operation) → o ≡ wrapped (operation_by (t.act c l h)) → IsAtPoint t c l h (what view) → rests_at s (seat_now (what view)) ≡ true → Unwriting
-          → Operates k Rule own_ways view shown (t.word l) o (Told t s (turn_by t s false (Some c) (what view)) view)
-      operates o is at rests quiet =
-          as_by at (λ x. Operates k Rule own_ways view shown (t.word l) o (Told t s x view))
-          (subst (λ x. Operates k Rule own_ways view shown (t.word l) x (Told t s says_it view)) (sym is) (stores_alike (keeps_at at rests quiet)))
+    pub operates : (o : Operation) → o ≡ wrapped (operation_by (t.act c l h)) → IsAtPoint t c l h (what view) → rests_at s (seat_now (what view)) ≡ true → Quiet s (what view)
+        → Operates k Rule own_ways view shown (t.word l) o (Told t s (turn_by t s false (Some c) (what view)) view)
+    operates o is at rests quiet =
+        by_turn t s (what view) c l h at (λ x. Operates k Rule own_ways view shown (t.word l) o (Told t s x view))
+        (subst (λ x. Operates k Rule own_ways view shown (t.word l) x (Told t s says_it view)) (sym is) (stores_alike (keeps_at at rests quiet)))
 
   -- A holder that writes begins a call. It first writes its value.
 
@@ -425,10 +390,6 @@ module _ {W V C L S : Type 0} (k : Beside S) (t : Table W V C L (Answer V)) (s :
 
   -- A load at place 1 by which the party makes no step.
 
-  same_use_now : (view : Option (Seat C L)) → use_of (use_at s) view ≡ use_at s (seat_now view)
-  same_use_now None = refl
-  same_use_now (Some x) = refl
-
   abbrev peeks_at : OnWord S
   peeks_at = on_place k 1 (λ n. n)
 
@@ -450,7 +411,7 @@ module _ {W V C L S : Type 0} (k : Beside S) (t : Table W V C L (Answer V)) (s :
   keeps_peek view shown =
       let v : Option (Seat C L) = what view in let seat = seat_now v in
       keeps view shown peeks_at (Peeked seat) (peeks t s k seat)
-      (λ own outs n u (stays, none, nobody). rw none (subst (λ z. Leaves {C = C} (use_of (use_at s) v) z shown []) (same_use_now v ∙ sym (ap (use_at s) stays.0)) (leaves_none C (use_of (use_at s) v) shown)))
+      (λ own outs n u (stays, none, nobody). rw none (subst (λ z. Leaves {C = C} (use_of (use_at s) v) z shown []) (uses_now s v ∙ sym (ap (use_at s) stays.0)) (leaves_none C (use_of (use_at s) v) shown)))
       (moves_now v peeks_at (Peeked seat) (peeks t s k seat) (peek_moves seat)) (allows_peek v)
 
   -- a party rests at each point to which its call goes on
@@ -459,12 +420,10 @@ module _ {W V C L S : Type 0} (k : Beside S) (t : Table W V C L (Answer V)) (s :
   rests_on view c l h n (inr (point, is, may)) rests = d.goes c l h (part_of s (resting h)) n (inr (may, point, refl))
 
   -- a party that is out may leave
-  also : (v : Seat C L) → Rests (Holds lock) (use_at s) (Some v) → Rests (AreWords k s) (use_at s) (Some v)
-  also v rest = (rest.0, λ n m before behind is. (rest.1 n m before behind is.0, is.1))
-
   pub leaves : (view : Option (Numbered (Seat C L))) → IsOut Idle (what view) → Rests Rule (λ v. use_at s v.0) view
   leaves None out = tt
-  leaves (Some v) out = rests (machine_of t) (λ x. x) (words_in t k) (AreWords k s) opening.name V (way_of s.shares) (use_at s) (last opening) v out (also v.0 (idle_rests lock v.0 out))
+  leaves (Some v) out = rests (machine_of t) (λ x. x) (words_in t k) (AreWords k s) opening.name V (way_of s.shares) (use_at s) (last opening) v out
+      (let rest = idle_rests lock v.0 out in (rest.0, λ n m before behind is. (rest.1 n m before behind is.0, is.1)))
 
   -- a new cell
   pub starts_on : d.first ≤ ticket_limit → (x : Trace (Entry C V) S) → x.name ≡ opening.name → x.entries ≡ [] → x.word ≡ k.of (s.second (fresh s.cap 0 d.first)) → Meets Rule own_ways (s.word (fresh s.cap 0 d.first)) x []
@@ -475,12 +434,9 @@ module _ {W V C L S : Type 0} (k : Beside S) (t : Table W V C L (Answer V)) (s :
 
 -- A table of one word.
 module _ {W V C L : Type 0} (t : Table W V C L (Answer V)) (s : Meaning C L) (d : Refines t s) where
-  place_is : {L A : Type 0} (act : Act W L A) → place_of 0 act ≡ 0
-  place_is act = grind arith
-
   pub refines_on : RefinesOn t just_one s
   refines_on = record {
-    places = λ c l h. rw (d.one_word l) (place_is (t.act c l h));
+    places = λ c l h. rw (d.one_word l) (grind arith);
     within = λ l. inl (d.one_word l);
     accesses = λ c l h. rw (d.one_word l) tt;
     operates = d.operates;

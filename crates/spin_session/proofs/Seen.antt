@@ -11,10 +11,8 @@ use Rattle.spin_step.specs.Schedules.{Entry}
 -- a party that uses the value after a step then sees a value; if it saw one before the step, it still sees that one
 pub sees_on : {X : Type 0} (u : Use) (before after : Option X) → u ≢ off → Shows u before after → (after ≢ None) × (before ≢ None → after ≡ before)
 sees_on off before after uses shows = absurd (uses refl)
-sees_on reads None after uses (x, is) = (λ e. absurd (let no : Some x ≡ None = sym is ∙ e in cc), λ some. absurd (some refl))
-sees_on writes None after uses (x, is) = (λ e. absurd (let no : Some x ≡ None = sym is ∙ e in cc), λ some. absurd (some refl))
-sees_on reads (Some x) after uses is = (λ e. absurd (let no : Some x ≡ None = sym is ∙ e in cc), λ some. is)
-sees_on writes (Some x) after uses is = (λ e. absurd (let no : Some x ≡ None = sym is ∙ e in cc), λ some. is)
+sees_on u None after uses (x, is) = (λ e. absurd (let no : Some x ≡ None = sym is ∙ e in cc), λ some. absurd (some refl))
+sees_on u (Some x) after uses is = (λ e. absurd (let no : Some x ≡ None = sym is ∙ e in cc), λ some. is)
 
 -- For a step of a party that did not write before the step, or does not write after it.
 module _ {C V : Type 0} (opening : Opening V) (es : List (Entry C V)) where
@@ -33,5 +31,4 @@ module _ {C V : Type 0} (opening : Opening V) (es : List (Entry C V)) where
   left_last off u' (Some x) after learnt not shows uses = absurd (uses refl)
   left_last reads off (Some x) after learnt not shows uses = read_last opening reads off (Some x) after es learnt refl refl
   left_last writes off (Some x) after learnt not shows uses = gave opening writes off (Some x) after es x learnt refl refl refl
-  left_last u reads (Some x) after learnt not shows uses = subst IsLastNow shows (seen_last u reads (Some x) after learnt not shows)
-  left_last u writes (Some x) after learnt not shows uses = subst IsLastNow shows (seen_last u writes (Some x) after learnt not shows)
+  left_last u u' (Some x) after learnt not shows uses = subst IsLastNow shows (seen_last u u' (Some x) after learnt not shows)

@@ -1,5 +1,5 @@
 -- What a step of a table tells its party.
-use Rattle.std.proofs.Common.{◌≡◌, ◌≤◌, ℕ, false, Option, Some, None, length, refl, sym, ap, ◌∙◌, subst, le_of_eq}
+use Rattle.std.proofs.Common.{◌≡◌, ◌≤◌, ℕ, false, Option, Some, None, length, sym, ap, ◌∙◌, subst, le_of_eq}
 use Rattle.spin_core.specs.Cell.{Moved}
 use Rattle.spin_core.specs.Own.{Numbered, what}
 use Rattle.spin_core.specs.Passes.{IsStep, Nothing, mark_of}
@@ -15,7 +15,8 @@ use Rattle.spin_step.specs.declared.answer.Answer.{Answer}
 use Rattle.spin_step.specs.declared.place.Hold.{Hold}
 use Rattle.spin_step.specs.declared.place.Seat.{Seat}
 use Rattle.spin_session.specs.Meaning.{Meaning, Beside, FindsAt, seat_now, seat_after, words_of, model_at, table_at}
-use Rattle.spin_session.specs.Turns.{Says, Told, Spot, turn, turn_by, leap, Lands, next_after, course_of, held_now, peeks, outcome_of, has_begun, IsAtPoint}
+use Rattle.spin_session.specs.Turns.{Says, Told, SeatSpot, turn, turn_by, leap, Lands, next_after, course_of, held_now, peeks, outcome_of, has_begun, IsAtPoint}
+use Rattle.spin_session.proofs.Course.{held_resting}
 use Rattle.spin_session.proofs.Refining.{by_turn}
 
 module _ {W V C L : Type 0} (t : Table W V C L (Answer V)) (s : Meaning C L) (view view' : Option (Numbered (Seat C L))) (before now : Watch (Entry C V)) (knew : mark_of view ≤ length before.entries)
@@ -41,7 +42,7 @@ module _ {W V C L : Type 0} (t : Table W V C L (Answer V)) (s : Meaning C L) (vi
       go (Some v) (same, (log, es, known, grew, (own, outs, mine, mark, none, alike, said))) = said.1
 
 -- The first steps of a call by one operation, which finds this number.
-module _ {W V C L : Type 0} (t : ℕ → V → Table W V C L (Answer V)) (s : Meaning C L) (c : ℕ → C) (h : Option Hold) (last : ℕ → Option (L × ℕ)) (p q : Spot V C L) (same : q.0 ≡ p.0) (knew : mark_of p.1 ≤ length p.2.entries)
+module _ {W V C L : Type 0} (t : ℕ → V → Table W V C L (Answer V)) (s : Meaning C L) (c : ℕ → C) (h : Option Hold) (last : ℕ → Option (L × ℕ)) (p q : SeatSpot V C L) (same : q.0 ≡ p.0) (knew : mark_of p.1 ≤ length p.2.entries)
     (is : seat_now (what p.1) ≡ resting h) (named : Type 0) (is_named : named) (found : ℕ) where
   abbrev says : Option Hold → Says (table_at t p.0) s
   says x = leap (table_at t p.0) s (λ n. Some (c n)) last x
@@ -49,12 +50,8 @@ module _ {W V C L : Type 0} (t : ℕ → V → Table W V C L (Answer V)) (s : Me
   abbrev Leapt : Option Hold → Option (Numbered (Seat C L)) → Type 0
   Leapt x to = Moved (Watches named p.2 q.2 (Told (table_at t p.0) s (says x) p.1) found) to
 
-  held_resting : (x : Option Hold) → held_now (resting {C = C} {L = L} x) ≡ x
-  held_resting None = refl
-  held_resting (Some x) = refl
-
   so : Leapt (held_now (seat_now (what p.1))) q.1 → Leapt h q.1
-  so moved = subst (λ x. Leapt x q.1) (ap held_now is ∙ held_resting h) moved
+  so moved = subst (λ x. Leapt x q.1) (ap held_now is ∙ held_resting C L h) moved
 
   abbrev next : ℕ → Next L (Answer V)
   next n = next_after (table_at t p.0) (c n) h (last n)
@@ -62,19 +59,12 @@ module _ {W V C L : Type 0} (t : ℕ → V → Table W V C L (Answer V)) (s : Me
   pub leapt : Leapt (held_now (seat_now (what p.1))) q.1 → Since (model_at t) (course_of (c found) (next found)) p q × (what q.1 ≡ Some (seat_after (c found) h (next found)))
   leapt moved = took (model_at t) (λ x. x) (words_of (table_at t p.0)) p q same knew is_named found (says h) (λ n. seat_after (c n) h (next n)) (λ n. course_of (c n) (next n)) (λ own outs n v said. (said.0.0.0, said.1)) (so moved)
 
-  pub knows_then : Leapt (held_now (seat_now (what p.1))) q.1 → mark_of q.1 ≤ length q.2.entries
-  knows_then moved = go q.1 (so moved)
+  pub landed : Leapt (held_now (seat_now (what p.1))) q.1 → (mark_of q.1 ≤ length q.2.entries) × Lands (table_at t p.0) s (c found) h (last found) (seat_now (what q.1))
+  landed moved = go q.1 (so moved)
     where
-      go : (to : Option (Numbered (Seat C L))) → Leapt h to → mark_of to ≤ length q.2.entries
+      go : (to : Option (Numbered (Seat C L))) → Leapt h to → (mark_of to ≤ length q.2.entries) × Lands (table_at t p.0) s (c found) h (last found) (seat_now (what to))
       go None made = absurd made
-      go (Some v) (kept, (log, es, known, grew, (own, outs, mine, mark, none, alike, said))) = le_of_eq (mark ∙ ap length (sym grew))
-
-  pub lands : Leapt (held_now (seat_now (what p.1))) q.1 → Lands (table_at t p.0) s (c found) h (last found) (seat_now (what q.1))
-  lands moved = go q.1 (so moved)
-    where
-      go : (to : Option (Numbered (Seat C L))) → Leapt h to → Lands (table_at t p.0) s (c found) h (last found) (seat_now (what to))
-      go None made = absurd made
-      go (Some v) (kept, (log, es, known, grew, (own, outs, mine, mark, none, alike, said))) = said.0
+      go (Some v) (kept, (log, es, known, grew, (own, outs, mine, mark, none, alike, said))) = (le_of_eq (mark ∙ ap length (sym grew)), said.0)
 
 -- a load that is no step
 module _ {W V C L S : Type 0} (k : Beside S) (t : Table W V C L (Answer V)) (s : Meaning C L) (view : Option (Numbered (Seat C L))) (before now : Watch (Entry C V)) (named : Type 0) (found : ℕ) where

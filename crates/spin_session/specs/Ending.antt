@@ -12,7 +12,7 @@ use Rattle.spin_step.specs.Schedules.{Entry}
 use Rattle.spin_step.specs.declared.answer.Answer.{Answer}
 use Rattle.spin_step.specs.declared.place.Seat.{Seat}
 use Rattle.spin_session.specs.Meaning.{Meaning, Beside, RunsOn, use_of_party}
-use Rattle.spin_session.specs.Turns.{Spot, history, lock_of}
+use Rattle.spin_session.specs.Turns.{SeatSpot, history, lock_of}
 
 -- The whole history of this lock is a schedule of its model that leads to the lock's words and to these parties. Unless
 -- one of them still writes the value, the value is the one written last.
@@ -24,9 +24,9 @@ Ends {C = C} {L = L} t s k opening end =
 
 module _ {V C L : Type 0} where
   -- the watch knows of the lock's history what the pass knows
-  abbrev pub Recalls : Spot V C L → Watch (Entry C V) → Type 0
+  abbrev pub Recalls : SeatSpot V C L → Watch (Entry C V) → Type 0
   Recalls pass seen = (seen.name ≡ lock_of pass) × (seen.entries ≡ history pass)
 
   -- the whole history of the lock contains all that some pass knew which had done this
-  abbrev pub Includes : {S : Type 0} → (Spot V C L → Type 0) → Trace (Entry C V) S → Type 0
-  Includes did whole = (pass : Spot V C L) × did pass × IsPrefix (history pass) whole.entries
+  abbrev pub Includes : {S : Type 0} → (SeatSpot V C L → Type 0) → Trace (Entry C V) S → Type 0
+  Includes did whole = (pass : SeatSpot V C L) × did pass × IsPrefix (history pass) whole.entries

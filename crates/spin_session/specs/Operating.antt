@@ -22,10 +22,6 @@ use Rattle.spin_session.specs.Turns.{TurnTold, LeapTold, PeekTold, FusesBy, IsAt
 use Rattle.spin_step.specs.declared.table.Operation.{Operation}
 use Rattle.spin_step.specs.declared.table.Operation.TheVariants as op
 
--- what an operation stores, if it is a store
-abbrev pub stored : Operation → ℕ
-stored operation = elim operation [ op.Store to ↦ to | _ ↦ 0 ]
-
 module _ {X V E S : Type 0} (k : Beside S) (holds : ℕ → Trace E S → List V → Type 0) (ways : Ways X V (Trace E S)) (view : Option V) (shown : Option X) where
   -- A store tells as if it had found 0. A cell of one word makes no operation at place 1.
   abbrev pub Operates : ℕ → Operation → (List E → List E → ℕ → V → Type 0) → Type 0

@@ -16,7 +16,7 @@ use Rattle.spin_step.specs.declared.answer.Answer.{Answer}
 use Rattle.spin_step.specs.declared.answer.Answer.TheVariants.{Granted, Done}
 use Rattle.spin_step.specs.declared.place.Seat.{Seat}
 use Rattle.spin_session.specs.Meaning.{Meaning, model_at, use_at, use_of_party}
-use Rattle.spin_session.specs.Turns.{Spot, Calls}
+use Rattle.spin_session.specs.Turns.{SeatSpot, Calls}
 pub use Rattle.spin_session.specs.Turns.{history, lock_of, new_in}
 
 -- the lock's history begins with this value, and tells each value that the lock has
@@ -30,20 +30,20 @@ abbrev pub ◌⨾◌ : {S : Type 0} → (S → S → Type 0) → (S → S → Ty
 
 module _ {V C L : Type 0} where
   -- what was fixed when the pass's lock was made: the name of its history, its first value, the number with which its words open
-  abbrev pub opening_of : Spot V C L → Opening V
+  abbrev pub opening_of : SeatSpot V C L → Opening V
   opening_of pass = pass.0
 
   -- the party of the pass; there is none before its first call
-  abbrev pub party : Spot V C L → Option (Numbered (Seat C L))
+  abbrev pub party : SeatSpot V C L → Option (Numbered (Seat C L))
   party pass = pass.1
 
   -- The pass at `now` is the one at `before`. It also knows what the pass at `earlier` knows: the longer of the two histories.
-  abbrev pub After : Spot V C L → Spot V C L → Spot V C L → Type 0
+  abbrev pub After : SeatSpot V C L → SeatSpot V C L → SeatSpot V C L → Type 0
   After earlier before now = (now.0 ≡ before.0) × (now.1 ≡ before.1) × (lock_of now ≡ lock_of before) × KnowsBoth (history before) (history earlier) (history now)
 
   module _ {P R S : Type 0} where
     -- the spot of a guard's party
-    abbrev pub guard_spot : Guard V (Numbered (Seat C L)) (Entry C V) P R (Opening V) S → Spot V C L
+    abbrev pub guard_spot : Guard V (Numbered (Seat C L)) (Entry C V) P R (Opening V) S → SeatSpot V C L
     guard_spot guard = (guard_key guard, Some (guard_view guard), guard_seen guard)
 
     -- the guard knows the history of its lock, at least up to the last step of its party
@@ -51,25 +51,25 @@ module _ {V C L : Type 0} where
     Holds guard = ((guard_key guard).name ≡ (guard_seen guard).name) × ((guard_view guard).2 ≤ length (guard_seen guard).entries)
 
 -- the party writes the value, and knows its lock's trace, at least up to its last step
-abbrev pub Writes : {V C L : Type 0} → Meaning C L → Spot V C L → Type 0
+abbrev pub Writes : {V C L : Type 0} → Meaning C L → SeatSpot V C L → Type 0
 Writes s p = (p.0.name ≡ p.2.name) × (mark_of p.1 ≤ length p.2.entries) × (use_of (use_at s) (what p.1) ≡ writes)
 
 -- For the calls of a lock with these tables:
 module _ {W V C L : Type 0} (t : ℕ → V → Table W V C L (Answer V)) where
   -- From `before` to `now` the pass has written a value, and has then made this call. If the lock tells its values, the value is x.
-  abbrev pub Wrote : C → V → Spot V C L → Spot V C L → Type 0
+  abbrev pub Wrote : C → V → SeatSpot V C L → SeatSpot V C L → Type 0
   Wrote call x before = Since (model_at t) (WritesSome (λ y. before.0.told ≡ true → y ≡ x) (IsCall call Done)) before
 
   -- from `before` to `now` the pass has written some value, and has then made this call
-  abbrev pub WroteSome : C → Spot V C L → Spot V C L → Type 0
+  abbrev pub WroteSome : C → SeatSpot V C L → SeatSpot V C L → Type 0
   WroteSome call = Since (model_at t) (WritesSome (λ y. Unit {0}) (IsCall call Done))
 
   module _ {P R S : Type 0} where
     -- By this call the party at `before` has acquired the guard, whose value is the one written last.
-    abbrev pub Grants : Meaning C L → C → Spot V C L → Guard V (Numbered (Seat C L)) (Entry C V) P R (Opening V) S → Type 0
+    abbrev pub Grants : Meaning C L → C → SeatSpot V C L → Guard V (Numbered (Seat C L)) (Entry C V) P R (Opening V) S → Type 0
     Grants s call before guard = IsHolder (use_of_party s) guard × Holds guard × IsLast (guard_key guard) (guard_seen guard).entries (guard_value guard)
         × Calls t call Granted before (guard_spot guard)
 
     -- The party has written the guard's value, so this is the one written last, and has then made this call.
-    abbrev pub Unlocks : C → Guard V (Numbered (Seat C L)) (Entry C V) P R (Opening V) S → Spot V C L → Type 0
+    abbrev pub Unlocks : C → Guard V (Numbered (Seat C L)) (Entry C V) P R (Opening V) S → SeatSpot V C L → Type 0
     Unlocks call guard now = Wrote call (guard_value guard) (guard_spot guard) now × IsLast (guard_key guard) now.2.entries (guard_value guard)

@@ -140,11 +140,11 @@ IsAtPoint t c l h view = (view ≡ Some (Calling c l h)) ⊎ ((l ≡ t.start c h
 
 -- For a lock whose key is an opening:
 
-abbrev pub Spot : (V C L : Type 0) → Type 0
-Spot V C L = spots.Spot (Opening V) (Seat C L) (Entry C V)
+abbrev pub SeatSpot : (V C L : Type 0) → Type 0
+SeatSpot V C L = spots.Spot (Opening V) (Seat C L) (Entry C V)
 
-abbrev pub spot : {V P C L S : Type 0} → Session V (Numbered (Seat C L)) (Entry C V) P (Opening V) S → Spot V C L
-spot it = (it.permit.key, it.permit.view, it.seen)
+abbrev pub spot_of : {V P C L S : Type 0} → Session V (Numbered (Seat C L)) (Entry C V) P (Opening V) S → SeatSpot V C L
+spot_of it = (it.permit.key, it.permit.view, it.seen)
 
 module _ {W V C L : Type 0} (t : ℕ → V → Table W V C L (Answer V)) where
   abbrev pub TurnTold : Meaning C L → Bool → Option C → Opening V → Option (Numbered (Seat C L)) → List (Entry C V) → List (Entry C V) → ℕ → Numbered (Seat C L) → Type 0
@@ -160,7 +160,7 @@ module _ {W V C L : Type 0} (t : ℕ → V → Table W V C L (Answer V)) where
   IsAt c l h key = IsAtPoint (table_at t key) c l h
 
 -- the watch is of the party's lock and knows its trace, at least up to the party's last step; the party may rest in its seat
-abbrev pub Knows : {V C L : Type 0} → Meaning C L → Spot V C L → Type 0
+abbrev pub Knows : {V C L : Type 0} → Meaning C L → SeatSpot V C L → Type 0
 Knows s p = (p.0.name ≡ p.2.name) × (mark_of p.1 ≤ length p.2.entries) × (rests_at s (seat_now (what p.1)) ≡ true)
 
 -- if the party sees a value, it is the one written last
@@ -168,12 +168,12 @@ abbrev pub SeesLast : {V P C L S : Type 0} → Session V (Numbered (Seat C L)) (
 SeesLast it = IfSome it.permit.value (IsLast it.permit.key it.seen.entries)
 
 -- wherever this call rests, its party uses the value
-abbrev pub Uses : {C L : Type 0} → Meaning C L → C → Option Hold → Type 0
-Uses {L = L} s c h = (l : L) → rests_at s (Calling c l h) ≡ true → use_at s (Calling c l h) ≢ off
+abbrev pub UsesValue : {C L : Type 0} → Meaning C L → C → Option Hold → Type 0
+UsesValue {L = L} s c h = (l : L) → rests_at s (Calling c l h) ≡ true → use_at s (Calling c l h) ≢ off
 
 -- A party that uses the value sees it. If it saw one before this call, and uses the value wherever the call rests, it still sees that one.
 abbrev pub SeesOn : {V P C L S : Type 0} → Meaning C L → C → Option Hold → Option V → Session V (Numbered (Seat C L)) (Entry C V) P (Opening V) S → Type 0
-SeesOn s c h before it = use_at s (seat_now (what it.permit.view)) ≢ off → (it.permit.value ≢ None) × (Uses s c h → before ≢ None → it.permit.value ≡ before)
+SeesOn s c h before it = use_at s (seat_now (what it.permit.view)) ≢ off → (it.permit.value ≢ None) × (UsesValue s c h → before ≢ None → it.permit.value ≡ before)
 
 -- the party does not write the value
 abbrev pub Quiet : {C L : Type 0} → Meaning C L → Option (Seat C L) → Type 0
@@ -184,25 +184,25 @@ abbrev pub StaysQuiet : {C L : Type 0} → Meaning C L → C → Option Hold →
 StaysQuiet {L = L} s c h = (use_at s (resting h) ≡ writes → ⊥) × ((l : L) → use_at s (Calling c l h) ≡ writes → ⊥)
 
 -- the name of the lock's trace, and all moves of the lock that the party knows
-abbrev pub lock_of : {V C L : Type 0} → Spot V C L → ℕ
+abbrev pub lock_of : {V C L : Type 0} → SeatSpot V C L → ℕ
 lock_of p = p.2.name
 
-abbrev pub history : {V C L : Type 0} → Spot V C L → List (Entry C V)
+abbrev pub history : {V C L : Type 0} → SeatSpot V C L → List (Entry C V)
 history p = p.2.entries
 
 -- a party of this lock that has made no call, and knows nothing of the lock's trace
-abbrev pub new_in : {V C L : Type 0} → Opening V → Spot V C L
+abbrev pub new_in : {V C L : Type 0} → Opening V → SeatSpot V C L
 new_in lock = (lock, None, record { marker = record {}; name = lock.name; entries = [] })
 
 -- the party is in no call, holds this, and knows its lock's trace, at least up to its last step
-abbrev pub StandsAt : {V C L : Type 0} → Option Hold → Spot V C L → Type 0
+abbrev pub StandsAt : {V C L : Type 0} → Option Hold → SeatSpot V C L → Type 0
 StandsAt h p = (p.0.name ≡ p.2.name) × (mark_of p.1 ≤ length p.2.entries) × (seat_now (what p.1) ≡ resting h)
 
 abbrev pub Stands : {V P C L S : Type 0} → Option Hold → Session V (Numbered (Seat C L)) (Entry C V) P (Opening V) S → Type 0
-Stands h it = StandsAt h (spot it)
+Stands h it = StandsAt h (spot_of it)
 
 -- from `before` to `now` the party has made exactly this call, which had this answer
-abbrev pub Calls : {W V C L : Type 0} → (ℕ → V → Table W V C L (Answer V)) → C → Answer (Unit {0}) → Spot V C L → Spot V C L → Type 0
+abbrev pub Calls : {W V C L : Type 0} → (ℕ → V → Table W V C L (Answer V)) → C → Answer (Unit {0}) → SeatSpot V C L → SeatSpot V C L → Type 0
 Calls t c a before now = HasCalled (model_at t) c (with_value a None) before now
 
 module _ {W V C L : Type 0} (t : ℕ → V → Table W V C L (Answer V)) (s : Meaning C L) where
@@ -223,7 +223,7 @@ module _ {W V C L : Type 0} (t : ℕ → V → Table W V C L (Answer V)) (s : Me
   MayFind c l h n key = FindsAt s ((table_at t key).word l) n × IsReached c l h key
 
   -- so the party has been answered, by a step that found this number, and holds `after`
-  abbrev pub Ended : C → Option Hold → Answer (Unit {0}) → Option Hold → Spot V C L → Spot V C L → Type 0
+  abbrev pub Ended : C → Option Hold → Answer (Unit {0}) → Option Hold → SeatSpot V C L → SeatSpot V C L → Type 0
   Ended c h a after p q = Calls t c a p q × (seat_now (what q.1) ≡ resting after) × ((l : L) × (n : ℕ) × (next_of (table_at t p.0) c l h n ≡ Answers (with_value a None) after) × MayFind c l h n p.0)
 
   -- the step of this call at this point found this number, which is in bounds, and so the call goes on so
@@ -231,11 +231,11 @@ module _ {W V C L : Type 0} (t : ℕ → V → Table W V C L (Answer V)) (s : Me
   GoesBy c l h n next key = (filled None next ≡ next_of (table_at t key) c l h n) × FindsAt s ((table_at t key).word l) n
 
   -- from p to q the party has begun this call, and made steps of it, after which the call goes on so
-  abbrev pub Comes : C → Option Hold → Next L (Answer (Unit {0})) → Spot V C L → Spot V C L → Type 0
+  abbrev pub Comes : C → Option Hold → Next L (Answer (Unit {0})) → SeatSpot V C L → SeatSpot V C L → Type 0
   Comes c h next p q = elim next [ Continue l ↦ IsIn (model_at t) c p q × (what q.1 ≡ Some (Calling c l h)) | Answers a after ↦ Ended c h a after p q ]
 
   -- at q the party is in this call, which it began at p, or has not begun it
-  abbrev pub Under : C → Spot V C L → Spot V C L → Type 0
+  abbrev pub Under : C → SeatSpot V C L → SeatSpot V C L → Type 0
   Under c p q = (IsIn (model_at t) c p q × (has_begun (what q.1) ≡ true)) ⊎ ((q ≡ p) × (has_begun (what q.1) ≡ false))
 
   -- the first step of this call has this answer, for some word that is in bounds; the party holds the same

@@ -19,14 +19,15 @@ ghost use Rattle.spin_step.specs.declared.table.Operation.TheVariants.{Exchange}
 ghost use Rattle.spin_session.specs.Meaning.{HasSecond, seat_now, seat_after, table_at, use_at, model_at};
 ghost use Rattle.spin_session.specs.Operating.{Operates};
 ghost use Rattle.spin_session.specs.Passes.{After, Grants, Writes, lock_of};
-ghost use Rattle.spin_session.specs.Turns.{PeekTold, TurnTold, SeesLast, SeesOn, EndsWith, IsLedTo, LeapTold, Fuses, Lands, last_step, next_after, course_of, IsAt, Knows, StaysQuiet, Stands, MayBegin, Ended, Comes, GoesBy, GoesOn, Under, IsAnswered, Acquires, TriesToAcquire, IsLook, Tells, Calls, Spot, new_in, spot, is_granted};
+ghost use Rattle.spin_session.specs.Turns.{PeekTold, SeesLast, SeesOn, EndsWith, IsLedTo, Fuses, Lands, last_step, next_after, course_of, IsAt, Knows, StaysQuiet, Stands, MayBegin, Ended, Comes, GoesBy, GoesOn, Under, IsAnswered, Acquires, TriesToAcquire, IsLook, Tells, Calls, SeatSpot, new_in, spot_of, is_granted};
 
 use crate::second::Word;
 use crate::session::Session;
-use crate::table::{Ahead, CallOf, Entry, Leap, LeapOf, Party, Peek, Runs, Turn};
-use spin_core::cell::{Cell, Left, Permit, WritePermit};
+use crate::table::{Ahead, Entry, Party, Peek, Runs};
+use spin_core::cell::{Cell, Left, Permit, Play, WritePermit};
 use spin_core::guard::{Guard, Release};
 use spin_core::relax::RelaxStrategy;
+use spin_core::tie::Opening;
 use spin_core::trace::Watch;
 use spin_step::{Answer, Hold, Next, Operation, Steps};
 use std::marker::Brand;
@@ -53,7 +54,7 @@ pub type GuardOf<'a, T, P, R> = Guard<
 
 /// Returns the session of a new party of a lock.
 pub fn enter<T, P: Runs<T>>(cell: &Cell<T, Party<P::Call, P::Point>, P>) -> SessionOf<'_, T, P>
-    ensures { spot result ≡ new_in cell.now }
+    ensures { spot_of result ≡ new_in cell.now }
 {
     Session {
         permit: cell.enter(),
@@ -75,7 +76,7 @@ pub fn ask<'a, T, P: Runs<T>>(
     requires may { MayBegin P.tables P.meaning call holds session.permit.key }
     requires looks { IsLook P.tables call holds session.permit.key }
     ensures stands { Stands holds result.1 }
-    ensures calls { Calls P.tables call result.0 (spot session.entry) (spot result.1) }
+    ensures calls { Calls P.tables call result.0 (spot_of session.entry) (spot_of result.1) }
     ensures found { Tells P.tables P.meaning call holds result.0 session.entry.permit.key }
 {
     let point = point_of(&session, call, holds);
@@ -135,7 +136,7 @@ pub fn give<'a, T, P: Runs<T>>(
     ensures key { result.permit.key ≡ writer.entry.key }
     ensures same { use_at P.meaning (resting after) ≢ off → result.permit.value ≡ Some writer.entry.value }
     ensures name { writer.entry.key.name ≡ seen.name → result.seen.name ≡ seen.name }
-    ensures releases { writer.entry.key.name ≡ seen.name → writer.entry.view.2 ≤ length seen.entries → Releases (model_at P.tables) (λ o. o) call Done writer.entry.value (writer.entry.key, Some writer.entry.view, seen) (spot result) }
+    ensures releases { writer.entry.key.name ≡ seen.name → writer.entry.view.2 ≤ length seen.entries → Releases (model_at P.tables) (λ o. o) call Done writer.entry.value (writer.entry.key, Some writer.entry.view, seen) (spot_of result) }
 {
     let _ = after;
     P::laws();
@@ -160,9 +161,9 @@ pub fn give<'a, T, P: Runs<T>>(
 pub fn guarded<'a, T, P: Runs<T> + Release<T, Party<P::Call, P::Point>>, R>(
     session: SessionOf<'a, T, P>,
 ) -> GuardOf<'a, T, P, R>
-    requires writes { Writes P.meaning (spot session) }
+    requires writes { Writes P.meaning (spot_of session) }
     requires last { SeesLast session }
-    ensures grants { (call : P.Call) (before : Spot T P.Call P.Point) → Calls P.tables call Granted before (spot session.entry) → Grants P.tables P.meaning call before result }
+    ensures grants { (call : P.Call) (before : SeatSpot T P.Call P.Point) → Calls P.tables call Granted before (spot_of session.entry) → Grants P.tables P.meaning call before result }
 {
     P::laws();
     let Session { permit, seen } = session;
@@ -183,7 +184,7 @@ pub fn acquire<'a, T, P: Runs<T> + Release<T, Party<P::Call, P::Point>>, R: Rela
     requires stands { Stands holds session }
     requires may { MayBegin P.tables P.meaning call holds session.permit.key }
     requires acquires { Acquires P.tables P.meaning call holds session.permit.key }
-    ensures { Grants P.tables P.meaning call (spot session.entry) result }
+    ensures { Grants P.tables P.meaning call (spot_of session.entry) result }
 {
     let (next, point, found, session) = begin(session, call, holds);
     match next {
@@ -206,8 +207,8 @@ pub fn try_to_acquire<'a, T, P: Runs<T> + Release<T, Party<P::Call, P::Point>>, 
     requires may { MayBegin P.tables P.meaning call holds session.permit.key }
     requires tries { TriesToAcquire P.tables P.meaning call holds session.permit.key }
     requires once { IsAnswered P.tables call holds session.permit.key }
-    ensures granted { IfOk result (Grants P.tables P.meaning call (spot session.entry)) }
-    ensures refused { IfErr result (λ now. Stands holds now × Calls P.tables call Refused (spot session.entry) (spot now)) }
+    ensures granted { IfOk result (Grants P.tables P.meaning call (spot_of session.entry)) }
+    ensures refused { IfErr result (λ now. Stands holds now × Calls P.tables call Refused (spot_of session.entry) (spot_of now)) }
 {
     let (answer, _, session, _) = in_three(session, call, holds);
     if is_granted(answer) {
@@ -225,8 +226,8 @@ pub fn after<'a, T, P: Runs<T>>(
     session: SessionOf<'a, T, P>,
     earlier: &SessionOf<'_, T, P>,
 ) -> SessionOf<'a, T, P>
-    requires { lock_of (spot session) ≡ lock_of (spot earlier.now) }
-    ensures after { After (spot earlier.now) (spot session.entry) (spot result) }
+    requires { lock_of (spot_of session) ≡ lock_of (spot_of earlier.now) }
+    ensures after { After (spot_of earlier.now) (spot_of session.entry) (spot_of result) }
     ensures stands { (h : Option AHold) → Stands h session.entry → Stands h result }
 {
     let Session { permit, seen } = session;
@@ -258,9 +259,9 @@ pub fn point_of<'a, T, P: Runs<T>>(
     requires stands { Stands holds session.now }
     requires may { MayBegin P.tables P.meaning call holds session.now.permit.key }
     ensures start { result ≡ (table_at P.tables session.now.permit.key).start call holds }
-    ensures knows { Knows P.meaning (spot session.now) }
+    ensures knows { Knows P.meaning (spot_of session.now) }
     ensures at { IsAt P.tables call result holds session.now.permit.key (what session.now.permit.view) }
-    ensures under { Under P.tables P.meaning call (spot session.now) (spot session.now) }
+    ensures under { Under P.tables P.meaning call (spot_of session.now) (spot_of session.now) }
 {
     let _ = session;
     P::laws();
@@ -288,11 +289,11 @@ pub fn wait<'a, T, P: Runs<T>, R: RelaxStrategy, W: Wait>(
     found: u64,
     rt: &W,
 ) -> SessionOf<'a, T, P>
-    requires knows { Knows P.meaning (spot session) }
+    requires knows { Knows P.meaning (spot_of session) }
     requires goes { GoesOn P.tables call point holds found session.permit.key (what session.permit.view) }
     requires quiet { StaysQuiet P.meaning call holds }
-    ensures knows { Knows P.meaning (spot result) }
-    ensures ended { (p : Spot T P.Call P.Point) → Under P.tables P.meaning call p (spot session.entry) → (a : AnAnswer (Unit {0})) × (after : Option AHold) × Ended P.tables P.meaning call holds a after p (spot result) }
+    ensures knows { Knows P.meaning (spot_of result) }
+    ensures ended { (p : SeatSpot T P.Call P.Point) → Under P.tables P.meaning call p (spot_of session.entry) → (a : AnAnswer (Unit {0})) × (after : Option AHold) × Ended P.tables P.meaning call holds a after p (spot_of result) }
     ensures last { SeesLast result }
     ensures sees { (v : Option T) → SeesOn P.meaning call holds v session.entry → SeesOn P.meaning call holds v result }
 {
@@ -361,10 +362,10 @@ pub fn begin<'a, T, P: Runs<T>>(
 )
     requires stands { Stands holds session }
     requires may { MayBegin P.tables P.meaning call holds session.permit.key }
-    ensures knows { Knows P.meaning (spot result.3) }
+    ensures knows { Knows P.meaning (spot_of result.3) }
     ensures key { result.3.permit.key ≡ session.entry.permit.key }
     ensures seat { what result.3.permit.view ≡ Some (seat_after call holds result.0) }
-    ensures comes { Comes P.tables P.meaning call holds result.0 (spot session.entry) (spot result.3) }
+    ensures comes { Comes P.tables P.meaning call holds result.0 (spot_of session.entry) (spot_of result.3) }
     ensures goes { GoesBy P.tables P.meaning call result.1 holds result.2 result.0 session.entry.permit.key }
     ensures last { SeesLast result.3 }
     ensures sees { SeesOn P.meaning call holds session.entry.permit.value result.3 }
@@ -395,15 +396,15 @@ fn further<'a, T, P: Runs<T>>(
     u64,
     SessionOf<'a, T, P>,
 )
-    requires knows { Knows P.meaning (spot made.3) }
+    requires knows { Knows P.meaning (spot_of made.3) }
     requires seat { what made.3.permit.view ≡ Some (seat_after call holds made.0) }
     requires quiet { StaysQuiet P.meaning call holds }
     requires goes { GoesBy P.tables P.meaning call made.1 holds made.2 made.0 made.3.permit.key }
     requires last { SeesLast made.3 }
-    ensures knows { Knows P.meaning (spot result.3) }
+    ensures knows { Knows P.meaning (spot_of result.3) }
     ensures key { result.3.permit.key ≡ made.entry.3.permit.key }
     ensures seat { what result.3.permit.view ≡ Some (seat_after call holds result.0) }
-    ensures comes { (p : Spot T P.Call P.Point) → Comes P.tables P.meaning call holds made.entry.0 p (spot made.entry.3) → Comes P.tables P.meaning call holds result.0 p (spot result.3) }
+    ensures comes { (p : SeatSpot T P.Call P.Point) → Comes P.tables P.meaning call holds made.entry.0 p (spot_of made.entry.3) → Comes P.tables P.meaning call holds result.0 p (spot_of result.3) }
     ensures goes { GoesBy P.tables P.meaning call result.1 holds result.2 result.0 made.entry.3.permit.key }
     ensures last { SeesLast result.3 }
     ensures sees { (v : Option T) → SeesOn P.meaning call holds v made.entry.3 → SeesOn P.meaning call holds v result.3 }
@@ -436,8 +437,8 @@ pub fn in_three<'a, T, P: Runs<T>>(
     requires stands { Stands holds session }
     requires may { MayBegin P.tables P.meaning call holds session.permit.key }
     requires once { IsAnswered P.tables call holds session.permit.key }
-    ensures knows { Knows P.meaning (spot result.2) }
-    ensures ended { Ended P.tables P.meaning call holds result.0 result.1 (spot session.entry) (spot result.2) }
+    ensures knows { Knows P.meaning (spot_of result.2) }
+    ensures ended { Ended P.tables P.meaning call holds result.0 result.1 (spot_of session.entry) (spot_of result.2) }
     ensures last { SeesLast result.2 }
     ensures sees { SeesOn P.meaning call holds session.entry.permit.value result.2 }
 {
@@ -482,10 +483,10 @@ pub fn first<'a, T, P: Runs<T>>(
 )
     requires stands { Stands holds session }
     requires may { MayBegin P.tables P.meaning call holds session.permit.key }
-    ensures knows { Knows P.meaning (spot result.3) }
+    ensures knows { Knows P.meaning (spot_of result.3) }
     ensures key { result.3.permit.key ≡ session.entry.permit.key }
     ensures seat { what result.3.permit.view ≡ Some (seat_after call holds result.0) }
-    ensures comes { Comes P.tables P.meaning call holds result.0 (spot session.entry) (spot result.3) }
+    ensures comes { Comes P.tables P.meaning call holds result.0 (spot_of session.entry) (spot_of result.3) }
     ensures goes { GoesBy P.tables P.meaning call result.1 holds result.2 result.0 session.entry.permit.key }
     ensures reached { IsLedTo P.tables P.meaning call holds result.1 result.2 session.entry.permit.key }
     ensures last { SeesLast result.3 }
@@ -523,11 +524,11 @@ fn begin_by<'a, T, P: Runs<T>>(
     requires may { MayBegin P.tables P.meaning call holds session.permit.key }
     requires start { start ≡ (table_at P.tables session.permit.key).start call holds }
     requires fuses { Fuses (table_at P.tables session.permit.key) P.meaning call holds ahead }
-    ensures knows { Knows P.meaning (spot result.1) }
+    ensures knows { Knows P.meaning (spot_of result.1) }
     ensures key { result.1.permit.key ≡ session.entry.permit.key }
     ensures lands { Lands (table_at P.tables session.entry.permit.key) P.meaning call holds (last_step start ahead result.0) (seat_now (what result.1.permit.view)) }
     ensures seat { what result.1.permit.view ≡ Some (seat_after call holds (next_after (table_at P.tables session.entry.permit.key) call holds (last_step start ahead result.0))) }
-    ensures since { Since (model_at P.tables) (course_of call (next_after (table_at P.tables session.entry.permit.key) call holds (last_step start ahead result.0))) (spot session.entry) (spot result.1) }
+    ensures since { Since (model_at P.tables) (course_of call (next_after (table_at P.tables session.entry.permit.key) call holds (last_step start ahead result.0))) (spot_of session.entry) (spot_of result.1) }
     ensures last { SeesLast result.1 }
     ensures sees { SeesOn P.meaning call holds session.entry.permit.value result.1 }
 {
@@ -538,9 +539,9 @@ fn begin_by<'a, T, P: Runs<T>>(
     (found, Session { permit, seen })
 }
 
-/// Makes an exchange that is the first steps of one of these calls.
+/// Makes an exchange that is the first steps of one of these calls. The proof of a caller picks what it tells.
 #[inline(always)]
-pub fn leap<'a, T, P: Runs<T>, K: LeapOf<P::Call, P::Point>>(
+pub fn leap<'a, T, P: Runs<T>, M: Play<Opening<T>, Party<P::Call, P::Point>, Entry<P::Call, T>>>(
     permit: Permit<'a, T, Party<P::Call, P::Point>, P>,
     seen: Watch<Entry<P::Call, T>>,
     start: P::Point,
@@ -553,14 +554,14 @@ pub fn leap<'a, T, P: Runs<T>, K: LeapOf<P::Call, P::Point>>(
     Watch<Entry<P::Call, T>>,
 )
     requires knows { MayKnow (P.holds permit.key) (P.ways permit.key) seen }
-    requires keeps { Operates P.Word.words (P.holds permit.key) (P.ways permit.key) permit.view permit.value 0 (Exchange ahead.old ahead.new) (LeapTold P.tables P.meaning K.calls K.last permit.key permit.view) }
-    ensures moved { Moved (Watches (Named (P.holds permit.entry.key) (P.ways permit.entry.key) seen.name) seen result.2 (LeapTold P.tables P.meaning K.calls K.last permit.entry.key permit.entry.view) result.0) result.1.view }
+    requires keeps { Operates P.Word.words (P.holds permit.key) (P.ways permit.key) permit.view permit.value 0 (Exchange ahead.old ahead.new) (M.told permit.key permit.view) }
+    ensures moved { Moved (Watches (Named (P.holds permit.entry.key) (P.ways permit.entry.key) seen.name) seen result.2 (M.told permit.entry.key permit.entry.view) result.0) result.1.view }
     ensures kept { Keeps (P.ways permit.entry.key) permit.entry.view result.1.view permit.entry.value result.1.value }
     ensures found { Found (P.ways permit.entry.key) permit.entry.view result.1.view permit.entry.value result.1.value result.2 }
     ensures key { result.1.key ≡ permit.entry.key }
 {
     let _ = (start, call, other);
-    permit.exchange::<Leap<P, K>>(ahead.old, ahead.new, seen)
+    permit.exchange::<M>(ahead.old, ahead.new, seen)
 }
 
 /// Makes the step of the call at `point`, or begins the call there. Returns the number found, too.
@@ -571,13 +572,13 @@ pub fn step<'a, T, P: Runs<T>>(
     point: P::Point,
     holds: Option<Hold>,
 ) -> (Next<P::Point, Answer<()>>, u64, SessionOf<'a, T, P>)
-    requires knows { Knows P.meaning (spot session) }
+    requires knows { Knows P.meaning (spot_of session) }
     requires at { IsAt P.tables call point holds session.permit.key (what session.permit.view) }
     requires quiet { StaysQuiet P.meaning call holds }
-    ensures knows { Knows P.meaning (spot result.2) }
+    ensures knows { Knows P.meaning (spot_of result.2) }
     ensures key { result.2.permit.key ≡ session.entry.permit.key }
     ensures seat { what result.2.permit.view ≡ Some (seat_after call holds result.0) }
-    ensures comes { (p : Spot T P.Call P.Point) → Under P.tables P.meaning call p (spot session.entry) → Comes P.tables P.meaning call holds result.0 p (spot result.2) }
+    ensures comes { (p : SeatSpot T P.Call P.Point) → Under P.tables P.meaning call p (spot_of session.entry) → Comes P.tables P.meaning call holds result.0 p (spot_of result.2) }
     ensures goes { GoesBy P.tables P.meaning call point holds result.1 result.0 session.entry.permit.key }
     ensures last { SeesLast result.2 }
     ensures left { use_of (use_at P.meaning) (what session.entry.permit.view) ≢ off → IfSome session.entry.permit.value (IsLast result.2.permit.key result.2.seen.entries) }
@@ -596,9 +597,10 @@ pub fn step<'a, T, P: Runs<T>>(
     )
 }
 
-// Makes one operation of the call, on the word at this place. Returns the number found; a store finds 0.
+// Makes one operation of the call, on the word at this place. Returns the number found; a store finds 0. The proof of a
+// caller picks what it tells.
 #[inline(always)]
-fn operate<'a, T, P: Runs<T>, K: CallOf<P::Call>>(
+fn operate<'a, T, P: Runs<T>, M: Play<Opening<T>, Party<P::Call, P::Point>, Entry<P::Call, T>>>(
     permit: Permit<'a, T, Party<P::Call, P::Point>, P>,
     place: usize,
     operation: Operation,
@@ -610,27 +612,27 @@ fn operate<'a, T, P: Runs<T>, K: CallOf<P::Call>>(
     Watch<Entry<P::Call, T>>,
 )
     requires knows { MayKnow (P.holds permit.key) (P.ways permit.key) seen }
-    requires keeps { Operates P.Word.words (P.holds permit.key) (P.ways permit.key) permit.view permit.value place operation (TurnTold P.tables P.meaning K.gives K.call permit.key permit.view) }
-    ensures moved { Moved (Watches (Named (P.holds permit.entry.key) (P.ways permit.entry.key) seen.name) seen result.2 (TurnTold P.tables P.meaning K.gives K.call permit.entry.key permit.entry.view) result.0) result.1.view }
+    requires keeps { Operates P.Word.words (P.holds permit.key) (P.ways permit.key) permit.view permit.value place operation (M.told permit.key permit.view) }
+    ensures moved { Moved (Watches (Named (P.holds permit.entry.key) (P.ways permit.entry.key) seen.name) seen result.2 (M.told permit.entry.key permit.entry.view) result.0) result.1.view }
     ensures kept { Keeps (P.ways permit.entry.key) permit.entry.view result.1.view permit.entry.value result.1.value }
     ensures found { Found (P.ways permit.entry.key) permit.entry.view result.1.view permit.entry.value result.1.value result.2 }
     ensures key { result.1.key ≡ permit.entry.key }
 {
     let _ = call;
     if place > 0 {
-        return P::Word::operate::<T, Party<P::Call, P::Point>, Entry<P::Call, T>, P, Turn<P, K>>(
+        return P::Word::operate::<T, Party<P::Call, P::Point>, Entry<P::Call, T>, P, M>(
             permit, operation, seen,
         );
     }
     match operation {
-        Operation::Load => permit.load::<Turn<P, K>>(seen),
-        Operation::Exchange(old, new) => permit.exchange::<Turn<P, K>>(old, new, seen),
+        Operation::Load => permit.load::<M>(seen),
+        Operation::Exchange(old, new) => permit.exchange::<M>(old, new, seen),
         Operation::Store(to) => {
-            let (permit, seen) = permit.store::<Turn<P, K>>(to, seen);
+            let (permit, seen) = permit.store::<M>(to, seen);
             (0, permit, seen)
         }
-        Operation::Add(by) => permit.add::<Turn<P, K>>(by, seen),
-        Operation::Subtract(by) => permit.subtract::<Turn<P, K>>(by, seen),
-        Operation::SetLowestBit => permit.set_bits::<Turn<P, K>>(1, seen),
+        Operation::Add(by) => permit.add::<M>(by, seen),
+        Operation::Subtract(by) => permit.subtract::<M>(by, seen),
+        Operation::SetLowestBit => permit.set_bits::<M>(1, seen),
     }
 }

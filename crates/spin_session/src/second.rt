@@ -3,7 +3,7 @@ ghost use Rattle.std.specs.Prelude.{◌≡◌};
 ghost use Rattle.spin_core.specs.Cell.{Moved, Keeps};
 ghost use Rattle.spin_core.specs.Traced.{Found, MayKnow, Named, Watches};
 ghost use Rattle.spin_session.specs.Meaning.{Beside, just_one, with_second};
-ghost use Rattle.spin_session.specs.Operating.{Operates, stored};
+ghost use Rattle.spin_session.specs.Operating.{Operates};
 
 use spin_core::cell::{Permit, Play, Rule};
 use spin_core::trace::{Trace, Watch};
@@ -23,8 +23,8 @@ pub trait Word: Sized {
         seen: Watch<E>,
     ) -> (u64, Permit<'a, T, V, P>, Watch<E>)
         requires knows { MayKnow (P.holds permit.key) (P.ways permit.key) seen }
-        requires keeps { Operates words (P.holds permit.key) (P.ways permit.key) permit.view permit.value 1 operation (M.told permit.key 0 (stored operation) permit.view) }
-        ensures moved { Moved (Watches (Named (P.holds permit.entry.key) (P.ways permit.entry.key) seen.name) seen result.2 (M.told permit.entry.key 0 (stored operation) permit.entry.view) result.0) result.1.view }
+        requires keeps { Operates words (P.holds permit.key) (P.ways permit.key) permit.view permit.value 1 operation (M.told permit.key permit.view) }
+        ensures moved { Moved (Watches (Named (P.holds permit.entry.key) (P.ways permit.entry.key) seen.name) seen result.2 (M.told permit.entry.key permit.entry.view) result.0) result.1.view }
         ensures kept { Keeps (P.ways permit.entry.key) permit.entry.view result.1.view permit.entry.value result.1.value }
         ensures found { Found (P.ways permit.entry.key) permit.entry.view result.1.view permit.entry.value result.1.value result.2 }
         ensures key { result.1.key ≡ permit.entry.key };
@@ -40,8 +40,8 @@ impl Word for () {
         seen: Watch<E>,
     ) -> (u64, Permit<'a, T, V, P>, Watch<E>)
         requires knows { MayKnow (P.holds permit.key) (P.ways permit.key) seen }
-        requires keeps { Operates just_one (P.holds permit.key) (P.ways permit.key) permit.view permit.value 1 operation (M.told permit.key 0 (stored operation) permit.view) }
-        ensures moved { Moved (Watches (Named (P.holds permit.entry.key) (P.ways permit.entry.key) seen.name) seen result.2 (M.told permit.entry.key 0 (stored operation) permit.entry.view) result.0) result.1.view }
+        requires keeps { Operates just_one (P.holds permit.key) (P.ways permit.key) permit.view permit.value 1 operation (M.told permit.key permit.view) }
+        ensures moved { Moved (Watches (Named (P.holds permit.entry.key) (P.ways permit.entry.key) seen.name) seen result.2 (M.told permit.entry.key permit.entry.view) result.0) result.1.view }
         ensures kept { Keeps (P.ways permit.entry.key) permit.entry.view result.1.view permit.entry.value result.1.value }
         ensures found { Found (P.ways permit.entry.key) permit.entry.view result.1.view permit.entry.value result.1.value result.2 }
         ensures key { result.1.key ≡ permit.entry.key }
@@ -60,8 +60,8 @@ impl Word for u64 {
         seen: Watch<E>,
     ) -> (u64, Permit<'a, T, V, P>, Watch<E>)
         requires knows { MayKnow (P.holds permit.key) (P.ways permit.key) seen }
-        requires keeps { Operates with_second (P.holds permit.key) (P.ways permit.key) permit.view permit.value 1 operation (M.told permit.key 0 (stored operation) permit.view) }
-        ensures moved { Moved (Watches (Named (P.holds permit.entry.key) (P.ways permit.entry.key) seen.name) seen result.2 (M.told permit.entry.key 0 (stored operation) permit.entry.view) result.0) result.1.view }
+        requires keeps { Operates with_second (P.holds permit.key) (P.ways permit.key) permit.view permit.value 1 operation (M.told permit.key permit.view) }
+        ensures moved { Moved (Watches (Named (P.holds permit.entry.key) (P.ways permit.entry.key) seen.name) seen result.2 (M.told permit.entry.key permit.entry.view) result.0) result.1.view }
         ensures kept { Keeps (P.ways permit.entry.key) permit.entry.view result.1.view permit.entry.value result.1.value }
         ensures found { Found (P.ways permit.entry.key) permit.entry.view result.1.view permit.entry.value result.1.value result.2 }
         ensures key { result.1.key ≡ permit.entry.key }

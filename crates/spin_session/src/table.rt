@@ -1,11 +1,11 @@
 //! The rule of a cell that runs a lock's table. Begin with [`Runs`].
-ghost use Rattle.std.specs.Prelude.{◌≡◌, ℕ, Bool, false, None, Option};
+ghost use Rattle.std.specs.Prelude.{◌≡◌, ⊤, ℕ, None};
 ghost use Rattle.std.specs.Option.{IfSome};
 ghost use Rattle.spin_step.specs.Acts.{Table as ItsTable};
 ghost use Rattle.spin_step.specs.declared.answer.Answer.{Answer as AnAnswer};
 ghost use Rattle.spin_session.specs.Meaning.{Meaning};
 ghost use Rattle.spin_session.specs.Operating.{Executes};
-ghost use Rattle.spin_session.specs.Turns.{Fuses, LeapTold, PeekTold, TurnTold};
+ghost use Rattle.spin_session.specs.Turns.{Fuses, PeekTold};
 
 use crate::second::Word;
 use spin_core::cell::{Play, Rule};
@@ -13,7 +13,8 @@ use spin_core::relax::MAX_BACK_OFF;
 use spin_core::tie::{self, Opening};
 use spin_core::trace::Trace;
 use spin_step::{Hold, Operation, Seat, Steps};
-use std::marker::{Brand, PhantomData};
+use std::alloc::AllocError;
+use std::marker::PhantomData;
 
 /// A party: its seat in the model, with its number and its mark.
 pub type Party<C, L> = tie::Numbered<Seat<C, L>>;
@@ -25,13 +26,23 @@ pub type Entry<C, T> = tie::Entry<C, T>;
 ///
 /// If it finds `old`, it makes several of the call's steps. The last of them is at `point`, and finds `number`. If it
 /// finds another number, it makes the call's first step if `looks` is true, and otherwise none.
-#[derive(Clone, Copy)]
+#[derive(Copy)]
 pub struct Ahead<L> {
     pub old: u64,
     pub new: u64,
     pub point: L,
     pub number: u64,
     pub looks: bool,
+}
+
+impl<L: Copy> Clone for Ahead<L> {
+    ghost is_clone = { λ x y. y ≡ x };
+
+    ghost is_infallible = { λ _. ⊤ };
+
+    fn clone(&self) -> Result<Ahead<L>, AllocError> {
+        Ok(*self)
+    }
 }
 
 /// The rule of a cell that runs a table.
@@ -100,67 +111,13 @@ pub trait Runs<T>: Rule<
         ensures { Executes Self.Word.words tables meaning Self.holds Self.ways };
 }
 
-/// A call of type `C`. The proof of a step picks it.
-pub trait CallOf<C> {
-    ghost call: { Option C };
-
-    // Whether the party first writes its value, which it then no longer writes.
-    ghost gives: { Bool };
-}
-
-impl<C> CallOf<C> for Brand {
-    ghost call = { None };
-
-    ghost gives = { false };
-}
-
-/// The next step of the party's call. A party in no call begins the call `K`.
-pub struct Turn<P, K> {
-    marker: PhantomData<(P, K)>,
-}
-
-impl<T, P: Runs<T>, K: CallOf<P::Call>> Play<
-    Opening<T>,
-    Party<P::Call, P::Point>,
-    Entry<P::Call, T>,
-> for Turn<P, K> {
-    ghost told = { λ key old new before. TurnTold P.tables P.meaning K.gives K.call key before };
-}
-
-/// The first steps of a call by one operation. The proof picks the call and the last of its steps, by the number that
-/// the operation finds.
-pub trait LeapOf<C, L> {
-    ghost calls: { ℕ → Option C };
-
-    ghost last: { ℕ → Option (L × ℕ) };
-}
-
-impl<C, L> LeapOf<C, L> for Brand {
-    ghost calls = { λ n. None };
-
-    ghost last = { λ n. None };
-}
-
-/// The first steps of the call `K` by one operation.
-pub struct Leap<P, K> {
-    marker: PhantomData<(P, K)>,
-}
-
-impl<T, P: Runs<T>, K: LeapOf<P::Call, P::Point>> Play<
-    Opening<T>,
-    Party<P::Call, P::Point>,
-    Entry<P::Call, T>,
-> for Leap<P, K> {
-    ghost told = { λ key old new before. LeapTold P.tables P.meaning K.calls K.last key before };
-}
-
 /// A load of the word at place 1 that is no step of a call.
 pub struct Peek<P> {
     rule: PhantomData<P>,
 }
 
 impl<T, P: Runs<T>> Play<Opening<T>, Party<P::Call, P::Point>, Entry<P::Call, T>> for Peek<P> {
-    ghost told = { λ key old new before. PeekTold P.tables P.Word.words P.meaning key before };
+    ghost told = { λ key before. PeekTold P.tables P.Word.words P.meaning key before };
 }
 
 fn is_load(operation: Operation) -> bool {

@@ -8,7 +8,7 @@ ghost use Rattle.spin_step.specs.Schedules.{resting};
 ghost use Rattle.spin_step.specs.declared.stepped.Next.TheVariants.{Answers};
 ghost use Rattle.spin_step.specs.declared.answer.Answer.TheVariants.{Granted, Refused};
 ghost use Rattle.spin_session.specs.Meaning.{table_at, use_at};
-ghost use Rattle.spin_session.specs.Turns.{SeesLast, SeesOn, FusesBy, either_call, either_step, Stands, MayBegin, IsAnsweredBy, IsAnswered, IsAnsweredAtOnce, IsTry, IsLook, Calls, spot};
+ghost use Rattle.spin_session.specs.Turns.{SeesLast, SeesOn, FusesBy, either_call, either_step, Stands, MayBegin, IsAnsweredBy, IsAnswered, IsAnsweredAtOnce, IsTry, IsLook, Calls, spot_of};
 
 use spin_core::relax::{RelaxStrategy, Strategy};
 use spin_session::calls::{
@@ -39,7 +39,7 @@ pub fn wait_for<'a, T, P: Runs<T>, R: RelaxStrategy, W: Wait>(
     requires may { MayBegin P.tables P.meaning call holds session.permit.key }
     requires answers { IsAnsweredBy P.tables P.meaning call holds answer after session.permit.key }
     ensures stands { Stands after result }
-    ensures calls { Calls P.tables call answer (spot session.entry) (spot result) }
+    ensures calls { Calls P.tables call answer (spot_of session.entry) (spot_of result) }
     ensures last { SeesLast result }
     ensures sees { SeesOn P.meaning call holds session.entry.permit.value result }
 {
@@ -66,8 +66,8 @@ pub fn try_for<'a, T, P: Runs<T>, W: Wait>(
     requires stands { Stands holds session }
     requires may { MayBegin P.tables P.meaning call holds session.permit.key }
     requires tries { IsTry P.tables P.meaning call holds after session.permit.key }
-    ensures granted { IfOk result (λ now. Stands after now × SeesLast now × Calls P.tables call Granted (spot session.entry) (spot now)) }
-    ensures refused { IfErr result (λ now. Stands holds now × Calls P.tables call Refused (spot session.entry) (spot now)) }
+    ensures granted { IfOk result (λ now. Stands after now × SeesLast now × Calls P.tables call Granted (spot_of session.entry) (spot_of now)) }
+    ensures refused { IfErr result (λ now. Stands holds now × Calls P.tables call Refused (spot_of session.entry) (spot_of now)) }
     ensures sees { IfOk result (SeesOn P.meaning call holds session.entry.permit.value) }
     ensures still { IfErr result (SeesOn P.meaning call holds session.entry.permit.value) }
 {
@@ -108,8 +108,8 @@ pub fn attempt<'a, T, P: Runs<T>>(
     requires may { MayBegin P.tables P.meaning call holds session.permit.key }
     requires tries { IsTry P.tables P.meaning call holds after session.permit.key }
     requires once { IsAnswered P.tables call holds session.permit.key }
-    ensures granted { IfOk result (λ now. Stands after now × SeesLast now × Calls P.tables call Granted (spot session.entry) (spot now)) }
-    ensures refused { IfErr result (λ now. Stands holds now × SeesLast now × Calls P.tables call Refused (spot session.entry) (spot now)) }
+    ensures granted { IfOk result (λ now. Stands after now × SeesLast now × Calls P.tables call Granted (spot_of session.entry) (spot_of now)) }
+    ensures refused { IfErr result (λ now. Stands holds now × SeesLast now × Calls P.tables call Refused (spot_of session.entry) (spot_of now)) }
     ensures sees { IfOk result (SeesOn P.meaning call holds session.entry.permit.value) }
     ensures still { IfErr result (SeesOn P.meaning call holds session.entry.permit.value) }
 {
@@ -140,7 +140,7 @@ pub fn exchange_for<'a, T, P: Runs<T>>(
     requires looks { MayBegin P.tables P.meaning lost holds session.permit.key × IsLook P.tables lost holds session.permit.key }
     requires fuses { FusesBy (table_at P.tables session.permit.key) P.meaning (either_call won lost ahead) holds (either_step ((table_at P.tables session.permit.key).start lost holds) ahead) ahead.old ahead.new }
     requires wins { next_of (table_at P.tables session.permit.key) won ahead.point holds ahead.number ≡ Answers Granted after }
-    ensures granted { IfOk result (λ now. Stands after now × SeesLast now × Calls P.tables won Granted (spot session.entry) (spot now)) }
+    ensures granted { IfOk result (λ now. Stands after now × SeesLast now × Calls P.tables won Granted (spot_of session.entry) (spot_of now)) }
     ensures sees { IfOk result (SeesOn P.meaning won holds session.entry.permit.value) }
     ensures refused { IfErr result (Stands holds) }
 {
@@ -172,7 +172,7 @@ pub fn make<'a, T, P: Runs<T>>(
     requires may { MayBegin P.tables P.meaning call holds session.permit.key }
     requires answers { IsAnsweredAtOnce P.tables call holds answer after session.permit.key }
     ensures stands { Stands after result }
-    ensures calls { Calls P.tables call answer (spot session.entry) (spot result) }
+    ensures calls { Calls P.tables call answer (spot_of session.entry) (spot_of result) }
     ensures last { SeesLast result }
     ensures left { use_at P.meaning (resting holds) ≢ off → IfSome session.entry.permit.value (IsLast result.permit.key result.seen.entries) }
     ensures sees { SeesOn P.meaning call holds session.entry.permit.value result }

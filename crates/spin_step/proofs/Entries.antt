@@ -1,8 +1,8 @@
 -- A party's step changes the party's entries as if it were alone, and changes nobody else's.
-use Rattle.std.proofs.Common.{◌≡◌, ℕ, ◌==◌, Bool, true, cond, Option, Some, List, [], ◌∷◌, ◌++◌, filter, arith, refl}
+use Rattle.std.proofs.Common.{◌≡◌, ℕ, ◌==◌, ◌&&◌, Bool, true, cond, if◌then◌else◌, Option, Some, List, [], ◌∷◌, ◌++◌, filter, arith, refl, ne_eqb, eq-eqb}
 use Rattle.std.proofs.lemmas.List.{append-nil}
 use Rattle.std.proofs.lemmas.List.Elements.{filter-append}
-use Rattle.spin_step.specs.Plain.{Plain, Kind, Holder, Change, apply, is_open, without_holder, with_kind, without_starver}
+use Rattle.spin_step.specs.Plain.{Plain, Kind, Holder, holder, same_kind, Change, apply, is_open, without_holder, with_kind, without_starver}
 use Rattle.spin_step.specs.Parties.{party_of, apply_some, IsOpenStep, entries, entries_after}
 
 -- one more element at the end of a list
@@ -14,13 +14,17 @@ filter-more test xs x = grind (arith, filter-append test xs (x ∷ []), append-n
 abbrev of : ℕ → List Holder → List Holder
 of q hs = filter (λ h. h.party == q) hs
 
+-- where the first hold of the party p of some kind gives way to these
+others-step : (b : Bool) (h : Holder) (p q : ℕ) (ys hs ws : List Holder) → (p ≡ q → ⊥) → of q ys ≡ [] → of q ws ≡ of q hs → of q (if (h.party == p) && b then ys ++ hs else h ∷ ws) ≡ of q (h ∷ hs)
+others-step b h p q ys hs ws ne none rest = grind (arith, filter-append (λ h. h.party == q) ys hs)
+
 others-without_holder : (p q : ℕ) (k : Kind) (hs : List Holder) → (p ≡ q → ⊥) → of q (without_holder p k hs) ≡ of q hs
 others-without_holder p q k [] ne = refl
-others-without_holder p q k (h ∷ hs) ne = grind (arith, others-without_holder p q k hs)
+others-without_holder p q k (h ∷ hs) ne = others-step (same_kind k h.kind) h p q [] hs (without_holder p k hs) ne refl (others-without_holder p q k hs ne)
 
 others-with_kind : (p q : ℕ) (k l : Kind) (hs : List Holder) → (p ≡ q → ⊥) → of q (with_kind p k l hs) ≡ of q hs
 others-with_kind p q k l [] ne = refl
-others-with_kind p q k l (h ∷ hs) ne = grind (arith, others-with_kind p q k l hs)
+others-with_kind p q k l (h ∷ hs) ne = others-step (same_kind k h.kind) h p q (holder p l ∷ []) hs (with_kind p k l hs) ne (rw (ne_eqb p q ne) refl) (others-with_kind p q k l hs ne)
 
 others-without_starver : (p q : ℕ) (rs : List ℕ) → (p ≡ q → ⊥) → filter (λ r. r == q) (without_starver p rs) ≡ filter (λ r. r == q) rs
 others-without_starver p q [] ne = refl
@@ -36,13 +40,17 @@ entries-other s p q step ne may = grind (arith, entries-others)
 
 -- The party's own entries change as if it were alone.
 
+own-step : (W : List Holder → List Holder) (b : Bool) (h : Holder) (p : ℕ) (ys hs ws : List Holder) → W (h ∷ of p hs) ≡ (if (h.party == p) && b then ys ++ of p hs else h ∷ W (of p hs)) → of p ys ≡ ys → of p ws ≡ W (of p hs)
+    → of p (if (h.party == p) && b then ys ++ hs else h ∷ ws) ≡ W (of p (h ∷ hs))
+own-step W b h p ys hs ws is all rest = grind (arith, filter-append (λ h. h.party == p) ys hs, is, all, rest)
+
 own-without_holder : (p : ℕ) (k : Kind) (hs : List Holder) → of p (without_holder p k hs) ≡ without_holder p k (of p hs)
 own-without_holder p k [] = refl
-own-without_holder p k (h ∷ hs) = grind (arith, own-without_holder p k hs)
+own-without_holder p k (h ∷ hs) = own-step (without_holder p k) (same_kind k h.kind) h p [] hs (without_holder p k hs) refl refl (own-without_holder p k hs)
 
 own-with_kind : (p : ℕ) (k l : Kind) (hs : List Holder) → of p (with_kind p k l hs) ≡ with_kind p k l (of p hs)
 own-with_kind p k l [] = refl
-own-with_kind p k l (h ∷ hs) = grind (arith, own-with_kind p k l hs)
+own-with_kind p k l (h ∷ hs) = own-step (with_kind p k l) (same_kind k h.kind) h p (holder p l ∷ []) hs (with_kind p k l hs) refl (rw (eq-eqb p p refl) refl) (own-with_kind p k l hs)
 
 own-without_starver : (p : ℕ) (rs : List ℕ) → filter (λ r. r == p) (without_starver p rs) ≡ without_starver p (filter (λ r. r == p) rs)
 own-without_starver p [] = refl

@@ -10,4 +10,3 @@ pub mod Tickets
 pub mod TicketSteps
 pub mod InOrder
 pub mod Onces
-pub mod Made

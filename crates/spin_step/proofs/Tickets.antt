@@ -4,7 +4,7 @@ use Rattle.std.specs.Prelude.{◌⊎◌, sum_by}
 use Rattle.std.proofs.lemmas.List.Sums.{sum_by-cons}
 use Rattle.spin_step.specs.Plain.{Plain, Ticket, ticket, is_first, is_empty, serving_word, Effect, given, Change, serves, apply, is_open, with_first_entered, without_first}
 use Rattle.spin_step.specs.Parties.{none_entered, first_alone_entered}
-use Rattle.spin_step.specs.Tickets.{numbered_from, Numbered, gone}
+use Rattle.spin_step.specs.Tickets.{numbered_from, HasTicketNumbers, gone}
 
 abbrev own : ℕ → List Ticket → List Ticket
 own p ts = filter (λ t. t.party == p) ts
@@ -18,7 +18,7 @@ turn : (p n k : ℕ) (ts : List Ticket) → numbered_from k ts → own p ts ≡ 
 turn p n k ts numbers e = grind (arith, within)
 
 -- a party whose ticket has not entered may enter exactly if its number is served
-pub enters_in_turn : (s : Plain) (p k n : ℕ) → Numbered s → serving_word s ≡ k → own p s.tickets ≡ ticket p n false ∷ [] → is_first p false s.tickets ≡ (k == n)
+pub enters_in_turn : (s : Plain) (p k n : ℕ) → HasTicketNumbers s → serving_word s ≡ k → own p s.tickets ≡ ticket p n false ∷ [] → is_first p false s.tickets ≡ (k == n)
 enters_in_turn s p k n numbers served e = grind (arith, turn)
 
 -- How many tickets have a given number.
@@ -48,7 +48,7 @@ numbered-more k [] p n b numbers e = (omega (arith, e), tt)
 numbered-more k (t ∷ ts) p n b numbers e = (numbers.0, numbered-more (suc k) ts p n b numbers.1 (omega (arith, e)))
 
 -- taking a ticket does not change the served number
-pub serving-taken : (s : Plain) (p : ℕ) (b : Bool) → Numbered s → (s.next + 1) - length (s.tickets ++ ticket p s.next b ∷ []) ≡ serving_word s
+pub serving-taken : (s : Plain) (p : ℕ) (b : Bool) → HasTicketNumbers s → (s.next + 1) - length (s.tickets ++ ticket p s.next b ∷ []) ≡ serving_word s
 serving-taken s p b numbered = omega (arith, length-append s.tickets (ticket p s.next b ∷ []), numbered.0)
 
 pub serving-entered : (s : Plain) → s.next - length (with_first_entered s.tickets) ≡ serving_word s
@@ -58,22 +58,22 @@ serving-entered s = grind arith
 pub serving-gone : (n : ℕ) (ts : List Ticket) → length ts ≤ n → is_empty ts ≡ false → n - length (without_first ts) ≡ (n - length ts) + 1
 serving-gone n ts within some = grind arith
 
-pub numbered-given : (s : Plain) (p : ℕ) (e : Effect) → Numbered s → Numbered (given s p e)
+pub numbered-given : (s : Plain) (p : ℕ) (e : Effect) → HasTicketNumbers s → HasTicketNumbers (given s p e)
 numbered-given s p e numbered =
     grind (arith, length-append, serving-taken s p, numbered-more (serving_word s) s.tickets p s.next)
 
-pub numbered-serves : (s : Plain) (p : ℕ) → Numbered s → Numbered (apply s (serves p))
+pub numbered-serves : (s : Plain) (p : ℕ) → HasTicketNumbers s → HasTicketNumbers (apply s (serves p))
 numbered-serves s p numbered = grind arith
 
 -- the served number grows by one with each ticket that leaves; no other step changes it
-pub serving-moves : (s : Plain) (c : Change) → Numbered s → is_open s c ≡ true → serving_word (apply s c) ≡ serving_word s + gone c
+pub serving-moves : (s : Plain) (c : Change) → HasTicketNumbers s → is_open s c ≡ true → serving_word (apply s c) ≡ serving_word s + gone c
 serving-moves s c numbered may = grind (arith, serving-taken s, serving-gone)
 
 -- the served number stays the same; or it grows by one, and somebody has a ticket before the step
 abbrev pub Advances : Plain → Change → Type 0
 Advances s c = (serving_word (apply s c) ≡ serving_word s) ⊎ ((is_empty s.tickets ≡ false) × (serving_word (apply s c) ≡ serving_word s + 1))
 
-pub serving-advances : (s : Plain) (c : Change) → Numbered s → is_open s c ≡ true → Advances s c
+pub serving-advances : (s : Plain) (c : Change) → HasTicketNumbers s → is_open s c ≡ true → Advances s c
 serving-advances s c numbered may = grind (arith, serving-taken s, serving-gone)
 
 -- Whether anybody has a ticket.
@@ -94,7 +94,7 @@ entered : (p n k : ℕ) (ts : List Ticket) → numbered_from k ts → first_alon
 entered p n k ts numbers alone same = grind (arith, none_own)
 
 -- a ticket that has entered is the first one, and its number is served
-pub entered_is_served : (s : Plain) (p n : ℕ) → Numbered s → first_alone_entered s.tickets ≡ true → own p s.tickets ≡ ticket p n true ∷ [] → (is_first p true s.tickets ≡ true) × (serving_word s ≡ n)
+pub entered_is_served : (s : Plain) (p n : ℕ) → HasTicketNumbers s → first_alone_entered s.tickets ≡ true → own p s.tickets ≡ ticket p n true ∷ [] → (is_first p true s.tickets ≡ true) × (serving_word s ≡ n)
 entered_is_served s p n numbered alone same = entered p n (serving_word s) s.tickets numbered.1 alone same
 
 -- if a party has a ticket, the queue is not empty

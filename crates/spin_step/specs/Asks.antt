@@ -4,10 +4,10 @@ use Rattle.std.specs.List.{list_any}
 use Rattle.std.specs.Option.{option_map_or}
 use Rattle.spin_step.specs.Plain.{Plain, Kind, reading, upgradable, asking, writing, Ask, to_write, to_upgrade, to_upgrade_asked, to_take_ticket, to_enter, to_take_and_enter, to_lock_unregistered, to_lock_starving, to_lock_starving_alone, to_begin, Change, gets, releases, serves, stops_starving, turns, completes, fails, arrives, is_open_to, is_empty, is_first, is_holder, is_nothing, is_complete}
 use Rattle.spin_step.specs.Parties.{is_held}
-use Rattle.spin_step.specs.Barriers.{may_leave, is_leading, filled_by}
+use Rattle.spin_step.specs.Barriers.{may_leave_at, is_leading, filled_by}
 use Rattle.spin_step.specs.declared.place.Hold.{Hold}
 use Rattle.spin_step.specs.declared.place.Hold.TheVariants.{Read, Upgradable, Write, Ticket, Starver}
-use Rattle.spin_step.specs.Calls.{Said, granted, refused, locked, starved, done, tells, counted, gives_value, has_no_value, failed, leads, follows, Mark, unlimited, within, within_changes, gets_within, changes_within, registers_after, Meaning, never, got, got_or_starved, found, means, is_for, makes, is_starved, readers, writers, Asked}
+use Rattle.spin_step.specs.Calls.{Said, granted, refused, locked, starved, done, tells, counted, gives_value, has_no_value, failed, leads, follows, Mark, unlimited, within, within_changes, gets_within, changes_within, registers_after, Sense, never, got, got_or_starved, found, means, is_for, makes, is_starved, readers, writers, Asked}
 
 -- What a party holds.
 
@@ -85,12 +85,12 @@ finds_full arrival m = nat_le (filled_by m.before arrival.after.arrivals) m.befo
 -- What answers say.
 
 -- the party has made these plain steps
-abbrev pub made : (ℕ → List Change) → Meaning
+abbrev pub made : (ℕ → List Change) → Sense
 made steps = means (λ p. steps p ∷ []) (λ p span. true)
 
 -- The party gets the value, and has made one of these lists of plain steps. At some mark there is a value, or the
 -- party's own step completes its closure.
-abbrev pub gave : (ℕ → List (List Change)) → Meaning
+abbrev pub gave : (ℕ → List (List Change)) → Sense
 gave steps = means steps (λ p span. list_any (λ m. is_complete m.before.phase || makes p is_completion m) span)
 
 -- A call of one step that makes no plain step and has no answers. Other calls are built from it.
@@ -288,7 +288,7 @@ waits_for_value = record initializes {
 }
 
 -- the answer is the value, or that there is none; the second is right at a moment when `none` holds of the plain lock
-abbrev pub value_or : (Plain → Bool) → Said → Meaning
+abbrev pub value_or : (Plain → Bool) → Said → Sense
 value_or none gives_value = gave (λ p. [] ∷ [])
 value_or none has_no_value = found (λ p s. none s)
 value_or none _ = never
@@ -318,5 +318,5 @@ meets = record a_call {
     | _ ↦ never
   ];
   limit = λ words. changes_within 1;
-  is_open_next = λ first k p s. not first && (may_leave s k || is_leading s k);
+  is_open_next = λ first k p s. not first && (may_leave_at s k || is_leading s k);
 }

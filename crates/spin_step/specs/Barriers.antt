@@ -26,5 +26,5 @@ abbrev pub generation_at : Plain → ℕ → ℕ
 generation_at s k = (k / max s.group 1) % 2 ^ 64
 
 -- Suppose that the k-th arrival does not lead. Its group is full, as far as a generation modulo 2^64 can tell.
-abbrev pub may_leave : Plain → ℕ → Bool
-may_leave s k = not (((s.arrivals / max s.group 1 - k / max s.group 1) % 2 ^ 64) == 0)
+abbrev pub may_leave_at : Plain → ℕ → Bool
+may_leave_at s k = not (((s.arrivals / max s.group 1 - k / max s.group 1) % 2 ^ 64) == 0)

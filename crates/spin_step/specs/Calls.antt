@@ -125,15 +125,15 @@ abbrev pub grants : ℕ → Ask → Mark → Bool
 grants p ask m = is_open_to m.before p ask && makes p (is_for ask) m
 
 -- What an answer says of its call.
-pub data Meaning : Type 0 where
-  never : Meaning  -- the call never has this answer
-  got : Ask → Meaning  -- the party has got what it asks
-  got_or_starved : Ask → Ask → Meaning  -- it has got the first, or it has registered as a starver and got the second
-  found : (ℕ → Plain → Bool) → Meaning  -- the plain lock passes this test at some moment, and the call has made no plain step
+pub data Sense : Type 0 where
+  never : Sense  -- the call never has this answer
+  got : Ask → Sense  -- the party has got what it asks
+  got_or_starved : Ask → Ask → Sense  -- it has got the first, or it has registered as a starver and got the second
+  found : (ℕ → Plain → Bool) → Sense  -- the plain lock passes this test at some moment, and the call has made no plain step
   -- the call has made one of these lists of plain steps, and its span passes this test
-  means : (ℕ → List (List Change)) → (ℕ → List Mark → Bool) → Meaning
+  means : (ℕ → List (List Change)) → (ℕ → List Mark → Bool) → Sense
 
-abbrev pub own_steps : Meaning → ℕ → List (List Change)
+abbrev pub own_steps : Sense → ℕ → List (List Change)
 own_steps never p = []
 own_steps (got ask) p = grant p ask ∷ []
 own_steps (got_or_starved a b) p = grant p a ∷ (gets p to_starve ∷ grant p b) ∷ []
@@ -141,7 +141,7 @@ own_steps (found test) p = [] ∷ []
 own_steps (means steps right) p = steps p
 
 -- The answer is right at a moment of the call: in a state in which some step of its span, perhaps the last, was made.
-abbrev pub moment : Meaning → ℕ → List Mark → Bool
+abbrev pub moment : Sense → ℕ → List Mark → Bool
 moment never p span = false
 moment (got ask) p span = list_any (grants p ask) span
 moment (got_or_starved a b) p span = list_any (grants p a) span || list_any (grants p b) span
@@ -153,7 +153,7 @@ pub record Asked : Type 0 where
   pub begins : Option Hold → Bool  -- what its party may hold when it begins
   pub waits : Bool  -- it may wait for another party
   pub tries : Option Ask  -- what a try asks; where that is closed the try ends
-  pub answers : Said → Meaning
+  pub answers : Said → Sense
   pub most : Said  -- one of the answers that it may give
   pub limit : ℕ → Limit  -- the limit of its steps, on a lock of so many words
   -- Whether the next request of a waiting call is open. The arguments: whether the call has made no plain step yet,

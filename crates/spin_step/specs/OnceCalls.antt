@@ -24,22 +24,22 @@ abbrev pub is_there : ℕ → Bool
 is_there w = w == 2
 
 -- the call answers the value that is there
-abbrev pub tells : Option Hold → Next OncePoint (Answer (Unit {0}))
-tells h = Answers (Value tt) h
+abbrev pub tells_value : Option Hold → Next OncePoint (Answer (Unit {0}))
+tells_value h = Answers (Value tt) h
 
 abbrev pub OnceAct : Type 0
 OnceAct = Act ℕ OncePoint (Answer (Unit {0}))
 
 -- A call with a closure looks first. If there is no value, it begins its closure; while another closure runs, it waits.
 abbrev pub runs : OnceAct → OncePoint → Option Hold → OnceAct
-runs end Look h = load_if is_there (λ w. tells h) (λ w. Continue TryBegin)
-runs end TryBegin h = exchange (swap 0 begun) (λ p. gets p to_begin) (Continue Run) (λ w. either (is_there w) (tells h) (Continue Await))
-runs end Await h = load_if is_there (λ w. tells h) (λ w. either (w == 0) (Continue TryBegin) (Continue Await))
+runs end Look h = load_if is_there (λ w. tells_value h) (λ w. Continue TryBegin)
+runs end TryBegin h = exchange (swap 0 begun) (λ p. gets p to_begin) (Continue Run) (λ w. either (is_there w) (tells_value h) (Continue Await))
+runs end Await h = load_if is_there (λ w. tells_value h) (λ w. either (w == 0) (Continue TryBegin) (Continue Await))
 runs end Run h = end
 
 -- the step that ends the call's own closure, which gives a value or fails
 abbrev pub ends : {V : Type 0} → Option V → Option Hold → OnceAct
-ends (Some v) h = store (λ w. w == 1) (op.Store (completed 1)) (λ p. completes p) (tells h)
+ends (Some v) h = store (λ w. w == 1) (op.Store (completed 1)) (λ p. completes p) (tells_value h)
 ends None h = store (λ w. w == 1) (op.Store (failed 1)) (λ p. fails p) (Answers Failed h)
 
 -- the value that the call's closure gives
@@ -50,9 +50,9 @@ brings_of (InitFromRef v) = Some v
 brings_of _ = None
 
 abbrev pub act_of : {V : Type 0} → OnceCall V → OncePoint → Option Hold → OnceAct
-act_of Wait l h = load_if is_there (λ w. tells h) (λ w. Continue Look)
-act_of Poll l h = load_if is_there (λ w. tells h) (λ w. either (w == 0) (Answers NoValue h) (Continue Look))
-act_of Get l h = load_if is_there (λ w. tells h) (λ w. Answers NoValue h)
+act_of Wait l h = load_if is_there (λ w. tells_value h) (λ w. Continue Look)
+act_of Poll l h = load_if is_there (λ w. tells_value h) (λ w. either (w == 0) (Answers NoValue h) (Continue Look))
+act_of Get l h = load_if is_there (λ w. tells_value h) (λ w. Answers NoValue h)
 act_of IsCompleted l h = load (λ w. Answers (Is (is_there w)) h)
 act_of c l h = runs (ends (brings_of c) h) l h
 

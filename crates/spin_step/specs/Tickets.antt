@@ -7,14 +7,14 @@ numbered_from k [] = Unit {0}
 numbered_from k (t ∷ ts) = (t.number ≡ k) × numbered_from (suc k) ts
 
 -- the tickets have the numbers from the served one to the last one taken, in order and without gaps
-abbrev pub Numbered : Plain → Type 0
-Numbered s = (length s.tickets ≤ s.next) × numbered_from (serving_word s) s.tickets
+abbrev pub HasTicketNumbers : Plain → Type 0
+HasTicketNumbers s = (length s.tickets ≤ s.next) × numbered_from (serving_word s) s.tickets
 
 -- Take a party whose one ticket has this number and has not entered. While `serving` is the served number, `turn` says
 -- whether the plain lock lets this party enter.
 abbrev pub IsTurn : ℕ → ℕ → Bool → Type 0
 IsTurn serving number turn =
-    (s : Plain) (party : ℕ) → Numbered s → serving_word s ≡ serving → filter (λ t. t.party == party) s.tickets ≡ ticket party number false ∷ [] → is_open s (gets party to_enter) ≡ turn
+    (s : Plain) (party : ℕ) → HasTicketNumbers s → serving_word s ≡ serving → filter (λ t. t.party == party) s.tickets ≡ ticket party number false ∷ [] → is_open s (gets party to_enter) ≡ turn
 
 -- The results of the step functions.
 

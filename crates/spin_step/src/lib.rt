@@ -25,7 +25,6 @@ mod once_calls;
 mod place;
 mod schedule;
 mod stepped;
-pub mod stepping;
 pub mod table;
 pub mod ticket;
 mod ticket_calls;

@@ -18,10 +18,11 @@ pub trait Words: Copy {
 
     ghost limit: { ℕ };
 
-    /// Returns the number in the word at this place.
+    /// Returns the number in the word at this place. To put it there again changes nothing. Numbers below the limit have
+    /// 64 bits.
     fn number(self, place: usize) -> u64
-        ensures number { place < places → result ≡ number_at memory place self }
-        ensures small { result < limit };
+        ensures number { place < places → (result ≡ number_at memory place self) × (memory.put place result self ≡ self) }
+        ensures small { (result < limit) × (limit ≤ 2 ^ 64) };
 
     /// Returns the words after this number is put at this place.
     ///
@@ -29,11 +30,6 @@ pub trait Words: Copy {
     /// The place has to be that of a word, and the number below the limit.
     fn put(self, place: usize, number: u64) -> Self
         ensures { place < places → number < limit → result ≡ memory.put place number self };
-
-    /// States that numbers below the limit have 64 bits, and that to put the number that is there changes nothing.
-    fn laws()
-        ensures fits { limit ≤ 2 ^ 64 }
-        ensures kept { (i : ℕ) (w : Self) → i < places → memory.put i (number_at memory i w) w ≡ w };
 }
 
 impl Words for bool {
@@ -52,8 +48,6 @@ impl Words for bool {
         let _ = place;
         number == 1
     }
-
-    fn laws() {}
 }
 
 impl Words for usize {
@@ -72,8 +66,6 @@ impl Words for usize {
         let _ = place;
         number as usize
     }
-
-    fn laws() {}
 }
 
 impl Words for u8 {
@@ -92,8 +84,6 @@ impl Words for u8 {
         let _ = place;
         (number % 256) as u8
     }
-
-    fn laws() {}
 }
 
 impl Words for TicketWords {
@@ -120,6 +110,4 @@ impl Words for TicketWords {
             }
         }
     }
-
-    fn laws() {}
 }

@@ -5,7 +5,7 @@ use Rattle.std.proofs.lemmas.Bool.{lt-ltb}
 use Rattle.std.proofs.lemmas.Nat.{div-add-mod', div-mul-add, le-div}
 use Rattle.std.proofs.Math.Nat.{mod-lt, mod-eq_of_lt, mul-add-mod_self_right, suc-mul, le-max_right, div-mul-le_self, mul-le-mul_right}
 use Rattle.spin_step.specs.Plain.{Plain, arrives, apply}
-use Rattle.spin_step.specs.Barriers.{IsBarrier, arrived, is_leading, filled_by, generation_at, may_leave}
+use Rattle.spin_step.specs.Barriers.{IsBarrier, arrived, is_leading, filled_by, generation_at, may_leave_at}
 
 -- if n is q * g + r, and r is below g, then q is the quotient of n by g, and r the remainder
 parts : (n q g r : ℕ) → n ≡ q * g + r → r < g → (n / g ≡ q) × (n % g ≡ r)
@@ -36,7 +36,7 @@ quotients-grow : (j k g : ℕ) → 0 < g → j ≤ k → j / g ≤ k / g
 quotients-grow j k g some le = le-div (j / g) k g some (omega (arith, div-mul-le_self j g, le))
 
 -- two generations are equal exactly if a multiple of 2^64 groups lies between them
-pub barrier_may_leave-tells : (s : Plain) (k n count generation own : ℕ) → IsBarrier s n count generation → k ≤ s.arrivals → generation_at s k ≡ own → not (generation == own) ≡ may_leave s k
+pub barrier_may_leave-tells : (s : Plain) (k n count generation own : ℕ) → IsBarrier s n count generation → k ≤ s.arrivals → generation_at s k ≡ own → not (generation == own) ≡ may_leave_at s k
 barrier_may_leave-tells s k n count generation own is le at =
     grind (arith, quotients-grow k s.arrivals (max s.group 1) (some-group s) le, at, is.generations)
 
@@ -52,5 +52,5 @@ barrier_may_leave-full s k n count generation own is le at follows leave = let g
 pub barrier_count-below : (s : Plain) (n count generation : ℕ) → IsBarrier s n count generation → nat_lt count (max n 1) ≡ true
 barrier_count-below s n count generation is = lt-ltb count (max n 1) (omega (arith, mod-lt s.arrivals (some-group s), is.counts, ap (λ k. max k 1) is.group))
 
--- the rules that the contract of `may_leave` uses
+-- the rules that the contract of `may_leave_at` uses
 pub ruleset leaving = (barrier_may_leave-tells, barrier_may_leave-full)

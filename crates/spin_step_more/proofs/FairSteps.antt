@@ -4,7 +4,7 @@ use Rattle.std.specs.Prelude.{min}
 use Rattle.spin_step.specs.Plain.{Plain, Kind, is_starver, gets, releases, stops_starving, to_lock_unregistered, to_lock_starving, to_lock_starving_alone, to_starve, fair_word}
 use Rattle.spin_step.specs.Parties.{is_held}
 use Rattle.spin_step.specs.Steps.{Decides, Gives}
-use Rattle.spin_step_more.specs.Starvers.{most_starvers, is_set, lock, starve, unstarved, lock_fair, lock_starved, unlocked}
+use Rattle.spin_step_more.specs.Starvers.{most_starvers, is_held_word, lock, starve, unstarved, lock_fair, lock_starved, unlocked}
 use Rattle.spin_step.specs.Parties.{OneHolds}
 use Rattle.spin_step.proofs.Holders.{length-without_holder}
 use Rattle.spin_step.proofs.Starvers.{length-without_starver}
@@ -33,7 +33,7 @@ fair_unstarve-gives s p w is = λ found. omega (arith, length-without_starver p 
 pub fair_unlock-gives : (s : Plain) (p : ℕ) (k : Kind) (w : ℕ) → fair_word s ≡ w → Gives s (releases p k) fair_word (unlocked w)
 fair_unlock-gives s p k w is = λ found. omega (arith, length-without_holder p k s.holders found, is)
 
-pub fair_is_locked-tells : (s : Plain) (w : ℕ) → OneHolds s → s.tickets ≡ [] → fair_word s ≡ w → is_held s ≡ is_set w
+pub fair_is_locked-tells : (s : Plain) (w : ℕ) → OneHolds s → s.tickets ≡ [] → fair_word s ≡ w → is_held s ≡ is_held_word w
 fair_is_locked-tells s w one queue is = grind arith
 
 -- the rules for the contracts of functions that never fail

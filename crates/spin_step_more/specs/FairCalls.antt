@@ -1,7 +1,7 @@
 -- The fair lock's calls, step by step, and what each step is in the plain lock.
 use Rattle.std.specs.Prelude.{ℕ, ◌+◌, Option, Some, None, ◌==◌, nat_lt, min}
 use Rattle.spin_step.specs.Plain.{writing, to_lock_unregistered, to_lock_starving, to_lock_starving_alone, to_starve, gets, releases, stops_starving, holder_weight, starver_weight}
-use Rattle.spin_step_more.specs.Starvers.{most_starvers, is_set, lock, starve, lock_fair}
+use Rattle.spin_step_more.specs.Starvers.{most_starvers, is_held_word, lock, starve, lock_fair}
 use Rattle.spin_step.specs.declared.place.Hold.{Hold}
 use Rattle.spin_step.specs.declared.place.Hold.TheVariants.{Write, Starver}
 use Rattle.spin_step.specs.declared.stepped.Next.{Next}
@@ -21,12 +21,12 @@ use Rattle.spin_step.specs.Tables.{usual_table}
 use Rattle.spin_step.specs.declared.table.Operation.TheVariants as op
 
 -- the point at which a call begins
-abbrev pub starts_at : FairCall → FairPoint
-starts_at Lock = Attempt 0
-starts_at Starve = Load
-starts_at StarverTryLock = SetFlag
-starts_at StarverLock = SetFlag
-starts_at _ = First
+abbrev pub fair_start : FairCall → FairPoint
+fair_start Lock = Attempt 0
+fair_start Starve = Load
+fair_start StarverTryLock = SetFlag
+fair_start StarverLock = SetFlag
+fair_start _ = First
 
 -- How a call goes on after a step: its next point or its answer.
 
@@ -58,17 +58,17 @@ act_of_first TryLock h = exchange (swap 0 lock) (λ p. gets p to_lock_unregister
 act_of_first TryLockStarver h = exchange (swap 0 lock) (λ p. gets p to_lock_unregistered) granted (rejects h)
 act_of_first StarverTryLockFair h = exchange (swap starver_weight lock_fair) (λ p. gets p to_lock_starving_alone) (Continue Unregister) (λ w. Answers Refused h)
 act_of_first StarverDrop h = store (λ w. nat_lt 1 w) (op.Subtract starver_weight) (λ p. stops_starving p) (Answers Done None)
-act_of_first Release h = store is_set (op.Subtract holder_weight) (λ p. releases p writing) (Answers Done None)
-act_of_first _ h = load (λ w. Answers (Is (is_set w)) h)
+act_of_first Release h = store is_held_word (op.Subtract holder_weight) (λ p. releases p writing) (Answers Done None)
+act_of_first _ h = load (λ w. Answers (Is (is_held_word w)) h)
 
 abbrev pub act_of : {V : Type 0} → ℕ → ℕ → FairCall → FairPoint → Option Hold → Act ℕ FairPoint (Answer V)
 act_of cap patience c First h = act_of_first c h
 act_of cap patience c (Attempt n) h = weak_exchange 0 lock (λ p. gets p to_lock_unregistered) granted (Continue (Look n))
-act_of cap patience c (Look n) h = load_if is_set (λ w. looks_on patience n) (λ w. Continue (Attempt n))
+act_of cap patience c (Look n) h = load_if is_held_word (λ w. looks_on patience n) (λ w. Continue (Attempt n))
 act_of cap patience c Load h = load_for (starve cap) (λ p. gets p to_starve) (λ w. Continue (Register w)) (finds_no_room patience c h)
 act_of cap patience c (Register n) h = retry n (starve cap) (λ p. gets p to_starve) (registered c) (λ w. Continue (Register w)) (finds_no_room patience c h)
 act_of cap patience c SetFlag h = exchange op.SetLowestBit (λ p. gets p to_lock_starving) (Continue Unregister) (λ w. finds_flag_set c h)
-act_of cap patience c Await h = load_if is_set (λ w. Continue Await) (λ w. Continue SetFlag)
+act_of cap patience c Await h = load_if is_held_word (λ w. Continue Await) (λ w. Continue SetFlag)
 act_of cap patience c Unregister h = store (λ w. nat_lt 1 w) (op.Subtract starver_weight) (λ p. stops_starving p) granted
 
 abbrev pub asks_of : ℕ → FairCall → Option Hold → Asked
@@ -87,7 +87,7 @@ asks_of patience Release h = gives_back is_write (Some Write)
 -- looks have found the flag set, `lock` goes on to register.
 abbrev pub fair_table : {V : Type 0} → V → ℕ → ℕ → Table ℕ V FairCall FairPoint (Answer V)
 fair_table v cap patience =
-    record (usual_table (Some v) fair 0 one_number (λ c h. starts_at c) (act_of cap patience) (asks_of patience)) { cap = min cap most_starvers }
+    record (usual_table (Some v) fair 0 one_number (λ c h. fair_start c) (act_of cap patience) (asks_of patience)) { cap = min cap most_starvers }
 
 abbrev pub fair_machine : {V : Type 0} → V → ℕ → ℕ → Machine ℕ V FairCall FairPoint (Answer V)
 fair_machine v cap patience = machine_of (fair_table v cap patience)

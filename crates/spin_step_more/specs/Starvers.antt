@@ -14,8 +14,8 @@ Tells s Locked = (is_empty s.holders ≡ false) × (is_empty s.starvers ≡ true
 Tells s Starved = is_empty s.starvers ≡ false
 
 -- the word shows a holder
-abbrev pub is_set : ℕ → Bool
-is_set word = word % starver_weight == holder_weight
+abbrev pub is_held_word : ℕ → Bool
+is_held_word word = word % starver_weight == holder_weight
 
 -- The results of the step functions.
 

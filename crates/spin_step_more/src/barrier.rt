@@ -2,7 +2,7 @@
 //! leave. Begin with [`State`].
 ghost use Rattle.std.specs.Prelude.{◌≡◌, ◌<◌, ◌≤◌, ◌+◌, ◌==◌, ℕ, true, false, not, max};
 ghost use Rattle.spin_step.specs.Plain.{Plain, arrives, apply, fresh};
-ghost use Rattle.spin_step.specs.Barriers.{IsBarrier, arrived, is_leading, filled_by, generation_at, may_leave};
+ghost use Rattle.spin_step.specs.Barriers.{IsBarrier, arrived, is_leading, filled_by, generation_at, may_leave_at};
 
 /// The state of a barrier: the size of its groups, and how many threads have arrived.
 ///
@@ -106,7 +106,7 @@ pub fn arrive(state: State) -> (State, bool)
 #[tactic(auto, using(crate::proofs::Barriers::leaving))]
 pub fn may_leave(state: State, generation: usize) -> bool
     ensures exact { result ≡ not (state.generation == generation) }
-    ensures plain { (s : Plain) (k : ℕ) → IsBarrier s state.n state.count state.generation → k ≤ s.arrivals → generation_at s k ≡ generation → result ≡ may_leave s k }
+    ensures plain { (s : Plain) (k : ℕ) → IsBarrier s state.n state.count state.generation → k ≤ s.arrivals → generation_at s k ≡ generation → result ≡ may_leave_at s k }
     ensures full { (s : Plain) (k : ℕ) → IsBarrier s state.n state.count state.generation → k ≤ s.arrivals → generation_at s k ≡ generation → is_leading s k ≡ false → result ≡ true → filled_by s k ≤ s.arrivals }
 {
     state.generation != generation

@@ -20,7 +20,7 @@ ghost use Rattle.std.specs.Prelude.{◌≡◌, ◌≢◌, ◌≤◌, ◌+◌, �
 ghost use Rattle.spin_step.specs.Plain.{Plain, Kind, gets, releases, stops_starving, to_lock_unregistered, to_lock_starving, to_lock_starving_alone, to_starve, is_starver, starver_weight, fair_word};
 ghost use Rattle.spin_step.specs.Parties.{is_held};
 ghost use Rattle.spin_step.specs.Steps.{Decides, Gives};
-ghost use Rattle.spin_step_more.specs.Starvers.{most_starvers, Tells, reason_text, is_set, lock, reject, starve, unstarved, lock_fair, lock_starved, unlocked};
+ghost use Rattle.spin_step_more.specs.Starvers.{most_starvers, Tells, reason_text, is_held_word, lock, reject, starve, unstarved, lock_fair, lock_starved, unlocked};
 ghost use Rattle.spin_step.specs.Parties.{OneHolds};
 ghost use Rattle.spin_step_more.specs.declared.fair.LockRejectReason.TheVariants.{Locked, Starved};
 
@@ -159,7 +159,7 @@ pub fn lock_starved(word: usize) -> Option<usize>
 /// state (`Gives`).
 #[tactic(auto, using(crate::proofs::FairSteps::gives))]
 pub fn unlock(word: usize) -> usize
-    requires { is_set word ≡ true }
+    requires { is_held_word word ≡ true }
     ensures exact { result ≡ unlocked word }
     ensures plain { (s : Plain) (party : ℕ) (kind : Kind) → fair_word s ≡ word → Gives s (releases party kind) fair_word result }
 {
@@ -171,7 +171,7 @@ pub fn unlock(word: usize) -> usize
 /// # Contract
 /// The answer is that of the plain lock.
 pub fn is_locked(word: usize) -> bool
-    ensures exact { result ≡ is_set word }
+    ensures exact { result ≡ is_held_word word }
     ensures plain { (s : Plain) → OneHolds s → s.tickets ≡ [] → fair_word s ≡ word → is_held s ≡ result }
 {
     word % STARVER == HOLDER

@@ -1,7 +1,7 @@
 //! Threads that share a `Once` find one value, whoever made it.
 use crate::equal::equal;
+use spin_examples::agreed::{handed, made_before, race, read_given, set_then_read};
 use spin_once::once::Once;
-use spin_uses::agreed::{handed, made_before, race, read_given, set_then_read};
 
 #[test]
 fn a_race_has_one_winner(rt: HostRuntime) {

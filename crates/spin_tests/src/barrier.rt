@@ -8,10 +8,10 @@ use std::process::Abort;
 use std::sync::Wait;
 use std::sync::atomic::{AtomicBool, AtomicU64, Ordering};
 
-fn is_shared<T: Send + Sync>() {}
+fn can_be_shared<T: Send + Sync>() {}
 
 fn travels<R: 'static>() {
-    is_shared::<Barrier<R>>();
+    can_be_shared::<Barrier<R>>();
 }
 
 #[test]
@@ -25,15 +25,15 @@ const LOOKS: u32 = 100_000;
 
 /// The results of one round of ten threads.
 #[derive(Drop)]
-struct Round {
+struct RoundOfTen {
     left: AtomicBool,
     leaders: AtomicU64,
     fewest: AtomicU64,
 }
 
-impl Round {
+impl RoundOfTen {
     fn new() -> Self {
-        Round {
+        RoundOfTen {
             left: AtomicBool::new(false),
             leaders: AtomicU64::new(0),
             fewest: AtomicU64::new(u64::MAX),
@@ -43,16 +43,16 @@ impl Round {
 
 /// Two rounds of the same ten threads.
 #[derive(Drop)]
-struct Rounds {
+struct TwoRounds {
     barrier: Barrier<Yield>,
     arrived: AtomicU64,
     left_early: AtomicBool,
-    first: Round,
-    second: Round,
+    first: RoundOfTen,
+    second: RoundOfTen,
 }
 
-impl Rounds {
-    fn pass<R: Wait>(&self, rt: &R, round: &Round) {
+impl TwoRounds {
+    fn pass<R: Wait>(&self, rt: &R, round: &RoundOfTen) {
         self.arrived.fetch_add(1, Ordering::SeqCst);
         let waited = self.barrier.wait(rt);
         round.left.store(true, Ordering::SeqCst);
@@ -64,7 +64,7 @@ impl Rounds {
     }
 }
 
-impl Crew for Rounds {
+impl Crew for TwoRounds {
     type Answer = ();
 
     // Passes both rounds. The first thread checks that no thread leaves before the group is full.
@@ -82,19 +82,19 @@ impl Crew for Rounds {
     }
 }
 
-fn comes_to<R: Abort>(rt: &R, round: &Round, arrived: u64) {
+fn comes_to<R: Abort>(rt: &R, round: &RoundOfTen, arrived: u64) {
     equal(rt, round.leaders.load(Ordering::SeqCst), 1);
     equal(rt, round.fewest.load(Ordering::SeqCst) >= arrived, true);
 }
 
 #[test]
 fn ten_threads_wait_for_one_another_twice_over(rt: HostRuntime) {
-    let rounds = Rounds {
+    let rounds = TwoRounds {
         barrier: Barrier::new(10),
         arrived: AtomicU64::new(0),
         left_early: AtomicBool::new(false),
-        first: Round::new(),
-        second: Round::new(),
+        first: RoundOfTen::new(),
+        second: RoundOfTen::new(),
     };
     drop(in_threads(&rt, rt.alloc(), &rounds, 10));
     equal(&rt, rounds.left_early.load(Ordering::SeqCst), false);

@@ -1,12 +1,12 @@
 //! What no contract says of callers of a barrier that keeps its arrivals: they end, and each thread was there.
 use super::equal::equal;
-use spin_uses::meeting::meet;
-use spin_uses::phases::{Folded, Open, run_phases};
+use spin_examples::meeting::meet_in_two;
+use spin_examples::phases::{Folded, Open, run_phases};
 
 #[test]
 fn two_threads_meet_and_both_have_raised_the_number(rt: HostRuntime) {
     for _ in 0..50 {
-        let ((_, first, then), (_, also_first, also_then)) = meet(&rt);
+        let ((_, first, then), (_, also_first, also_then)) = meet_in_two(&rt);
         equal(&rt, (first.max(also_first), then, also_then), (2, 2, 2));
     }
 }

@@ -1,6 +1,6 @@
 //! A number in which threads count, and which a caller keeps below a bound.
 ghost use Rattle.std.specs.Prelude.{◌≤◌};
-ghost use Rattle.spin.specs.MutexGuard.{value_of};
+ghost use Rattle.spin.specs.Guard.{guard_value};
 
 use spin::Yield;
 use spin::mutex::{Mutex, MutexGuard};
@@ -12,9 +12,9 @@ fn count<W: Wait>(rt: &W, counter: &Mutex<u64, Yield>) {
     *guard = guard.wrapping_add(1);
 }
 
-/// Counts one more, up to `most`. Under a guard a caller knows the value: `value_of` of the guard, before and after.
+/// Counts one more, up to `most`. Under a guard a caller knows the value: `guard_value` of the guard, before and after.
 pub fn count_up_to(guard: &mut MutexGuard<'_, u64, Yield>, most: u64)
-    ensures { value_of guard.old ≤ most → value_of guard.new ≤ most }
+    ensures { guard_value guard.old ≤ most → guard_value guard.new ≤ most }
 {
     if **guard < most {
         **guard += 1;

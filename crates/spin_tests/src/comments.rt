@@ -100,7 +100,7 @@ fn spin_flag_spin_1(rt: HostRuntime) {
 }
 
 #[test]
-fn spin_ticket_ticket_1(rt: HostRuntime) {
+fn spin_mutex_ticket_1(rt: HostRuntime) {
     use spin::mutex::TicketMutex;
     use std::thread;
 

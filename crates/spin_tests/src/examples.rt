@@ -13,10 +13,10 @@ use spin_examples::passes_lazy::{Seven, force_by_three};
 use spin_examples::passes_once::make_beside_look;
 use spin_examples::passes_ticket::{count_by_three, try_once as try_ticket_once};
 use spin_examples::registers::four_threads;
+use spin_examples::relay::relay;
 use spin_examples::two_locks::copy;
 use spin_examples::versions::race;
 use spin_examples::{passes_fair, passes_rw, totals, written_rw};
-use spin_uses::relay::relay;
 use std::thread::join;
 
 #[test]

@@ -1,7 +1,7 @@
 //! What has to succeed in several threads, and which thread waits for which.
 use crate::equal::equal;
 use crate::parts::{Crew, in_threads};
-use crate::waiting::{await_number, comes_to, has_turn, is_kept_out, pause};
+use crate::waiting::{await_number, comes_to, has_turn, is_kept_out, linger};
 use spin_core::lock::SharedLock;
 use spin_core::relax::{RelaxStrategy, Spin, Yield};
 use spin_fair::fair::FairMutex;
@@ -45,7 +45,7 @@ fn two_share_a_lock_at_once(rt: HostRuntime) {
 // thread continues.
 fn lets_go<G: Drop, R: Wait>(rt: &R, guard: G, came: &AtomicU64, done: &AtomicU64) -> bool {
     await_number(rt, came, 1);
-    pause(rt);
+    linger(rt);
     drop(guard);
     comes_to(rt, done, 1)
 }
@@ -104,7 +104,7 @@ impl Crew for Newcomer {
         if index == 0 {
             let place = self.lock.starve(rt).expect(rt, "below the cap");
             self.starves.store(1, SeqCst);
-            pause(rt);
+            linger(rt);
             let early = self.done.load(SeqCst) == 1;
             drop(place);
             return !early;
@@ -189,7 +189,7 @@ impl Crew for FailsAndMakes {
             let value = self.once.try_call_once(rt, || {
                 self.begun.store(1, SeqCst);
                 await_number(rt, &self.came, 1);
-                pause(rt);
+                linger(rt);
                 Err(())
             });
             equal(rt, comes_to(rt, &self.done, 1), true);

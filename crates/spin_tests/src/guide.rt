@@ -6,7 +6,7 @@ use super::equal::equal;
 use spin::mutex::SpinMutex;
 use spin::{LazyLock, RwLock};
 use spin_examples::guide::calls::add_both;
-use spin_examples::guide::setting::{Text, share};
+use spin_examples::guide::setting::{Text, share_of_work};
 use spin_examples::guide::table::port_of;
 use spin_examples::guide::version::watch_one;
 use std::collections::BTreeMap;
@@ -24,10 +24,13 @@ fn a_setting_is_read_from_its_text(rt: HostRuntime) {
     let none = LazyLock::promising((), Text("none"));
     equal(
         &rt,
-        (share(&rt, &eight, 80), share(&rt, &eight, 160)),
+        (
+            share_of_work(&rt, &eight, 80),
+            share_of_work(&rt, &eight, 160),
+        ),
         (10, 20),
     );
-    equal(&rt, share(&rt, &none, 80), 80);
+    equal(&rt, share_of_work(&rt, &none, 80), 80);
 }
 
 #[test]

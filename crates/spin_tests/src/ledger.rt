@@ -2,19 +2,19 @@
 ghost use Rattle.std.specs.Prelude.{◌≡◌, ◌<◌, ◌^◌, sum};
 
 use super::equal::equal;
-use spin_uses::ledger::{Accounts, Ledger, Opening, Refused, Transfer, replay, total};
+use spin_examples::ledger::{Accounts, Ledger, Opening, Refused, Transfer, replay, total};
 use std::alloc::{Allocator, Global};
 use std::marker::Brand;
 use std::process::Abort;
 use std::sync::Wait;
 use std::thread::{Threads, join};
 
-pub fn transfer(from: usize, to: usize, amount: u64) -> Transfer {
+pub fn transfer_of(from: usize, to: usize, amount: u64) -> Transfer {
     Transfer { from, to, amount }
 }
 
 /// Compares each account's balance, and the total.
-pub fn holds<O: Opening, A: Allocator, R: Abort>(
+pub fn has_balances<O: Opening, A: Allocator, R: Abort>(
     rt: &R,
     accounts: &Accounts<O, A>,
     told: [u64; 3],
@@ -33,23 +33,31 @@ fn makes_and_refuses<O: Opening, R: Abort>(rt: &R, alloc: Global, balances: Vec<
 {
     let mut accounts: Accounts<O> = Accounts::open(alloc, balances);
     for (asked, answer, told) in [
-        (transfer(0, 2, 30), Ok(()), [70, 20, 30]),
-        (transfer(0, 2, 71), Err(Refused::TooLittle), [70, 20, 30]),
-        (transfer(2, 1, 30), Ok(()), [70, 50, 0]),
-        (transfer(2, 0, 0), Ok(()), [70, 50, 0]),
-        (transfer(3, 0, 0), Err(Refused::NoSuchAccount), [70, 50, 0]),
-        (transfer(0, 3, 1), Err(Refused::NoSuchAccount), [70, 50, 0]),
-        (transfer(1, 1, 50), Ok(()), [70, 50, 0]),
-        (transfer(1, 1, 51), Err(Refused::TooLittle), [70, 50, 0]),
+        (transfer_of(0, 2, 30), Ok(()), [70, 20, 30]),
+        (transfer_of(0, 2, 71), Err(Refused::TooLittle), [70, 20, 30]),
+        (transfer_of(2, 1, 30), Ok(()), [70, 50, 0]),
+        (transfer_of(2, 0, 0), Ok(()), [70, 50, 0]),
+        (
+            transfer_of(3, 0, 0),
+            Err(Refused::NoSuchAccount),
+            [70, 50, 0],
+        ),
+        (
+            transfer_of(0, 3, 1),
+            Err(Refused::NoSuchAccount),
+            [70, 50, 0],
+        ),
+        (transfer_of(1, 1, 50), Ok(()), [70, 50, 0]),
+        (transfer_of(1, 1, 51), Err(Refused::TooLittle), [70, 50, 0]),
     ] {
         equal(rt, (asked, accounts.transfer(asked)), (asked, answer));
-        holds(rt, &accounts, told);
+        has_balances(rt, &accounts, told);
     }
     let made = [
-        transfer(0, 2, 30),
-        transfer(2, 1, 30),
-        transfer(2, 0, 0),
-        transfer(1, 1, 50),
+        transfer_of(0, 2, 30),
+        transfer_of(2, 1, 30),
+        transfer_of(2, 0, 0),
+        transfer_of(1, 1, 50),
     ];
     equal(rt, accounts.journal(), made.as_slice());
 }
@@ -68,7 +76,7 @@ fn trades<O: Opening, W: Wait>(rt: &W, ledger: &Ledger<O>, seed: u64, turns: u64
         random ^= random << 13;
         random ^= random >> 7;
         random ^= random << 17;
-        let asked = transfer(
+        let asked = transfer_of(
             (random % 4) as usize,
             (random >> 8) as usize % 4,
             (random >> 16) % 64,

@@ -1,5 +1,8 @@
-//! Tests of what no contract says of the step functions, the raw cell, the locks, the names of `spin` and the callers.
-//! Each kind of lock has a module of its own.
+//! Tests of what no contract says of the step functions, the raw cell, the locks, the names of `spin`, the callers, worlds,
+//! texts, the explorer and both programs; and wrong tables of each object, each with a law that it breaks.
+//!
+//! The tests in `src` run threads, run long, or show that a caller can do what a call asks. The others are in `unproved`,
+//! which `.ci/tests` runs. [`careless`] is a table whose mistakes break no law, [`dispenser`] an object of a caller's own.
 #![tactic(auto)]
 
 #[cfg(test)]
@@ -12,20 +15,28 @@ mod barrier_kept;
 mod bounded;
 #[cfg(test)]
 mod cache;
+pub mod careless;
 #[cfg(test)]
 mod comments;
 #[cfg(test)]
 mod counter;
+pub mod dispenser;
+#[cfg(test)]
+mod ends;
 #[cfg(test)]
 mod equal;
 #[cfg(test)]
 mod examples;
+#[cfg(test)]
+mod explorer;
 #[cfg(test)]
 mod granted;
 #[cfg(test)]
 mod guide;
 #[cfg(test)]
 mod ledger;
+#[cfg(test)]
+mod long;
 #[cfg(test)]
 mod mutex;
 #[cfg(test)]
@@ -34,6 +45,8 @@ mod once;
 mod parts;
 #[cfg(test)]
 mod phases;
+#[cfg(test)]
+mod program;
 #[cfg(test)]
 mod rwlock;
 #[cfg(test)]
@@ -45,4 +58,7 @@ mod sends;
 #[cfg(test)]
 mod settings;
 #[cfg(test)]
+mod two_runs;
+#[cfg(test)]
 mod waiting;
+pub mod wrong;

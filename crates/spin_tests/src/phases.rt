@@ -1,7 +1,7 @@
 //! What no contract says: workers are threads, and each round is folded once, by its leader, when it is complete.
 use super::equal::equal;
 use spin_core::relax::{RelaxStrategy, Yield};
-use spin_uses::phases::{Folded, Gate, Open, run_phases};
+use spin_examples::phases::{Folded, Gate, Open, run_phases};
 use std::sync::Wait;
 use std::sync::atomic::AtomicU64;
 use std::sync::atomic::Ordering::SeqCst;

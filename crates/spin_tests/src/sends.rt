@@ -6,12 +6,12 @@ use spin_fair::fair::{FairMutex, FairMutexGuard, Starvation};
 use spin_flag::spin::{SpinMutex, SpinMutexGuard};
 use spin_mutex::mutex;
 use spin_mutex::mutex::{Mutex, MutexGuard};
+use spin_mutex::ticket::{TicketMutex, TicketMutexGuard};
 use spin_once::lazylock::LazyLock;
 use spin_once::once::Once;
 use spin_rwlock::rwlock::{
     ReadHeld, RwLock, RwLockReadGuard, RwLockUpgradableGuard, RwLockWriteGuard, WriteHeld,
 };
-use spin_ticket::ticket::{TicketMutex, TicketMutexGuard};
 use std::cell::Cell;
 
 fn is_send<T: Send>() {}
@@ -30,7 +30,7 @@ macro_rules! travels {
 
 fn travel<'a, T: Send + 'a, R: 'a>() {
     travels!(SpinMutex<T, R>, SpinMutexGuard<'a, T, R>, spin_flag::spin::Held<'a, T, R>);
-    travels!(TicketMutex<T, R>, TicketMutexGuard<'a, T, R>, spin_ticket::ticket::Held<'a, T, R>);
+    travels!(TicketMutex<T, R>, TicketMutexGuard<'a, T, R>, spin_mutex::ticket::Held<'a, T, R>);
     travels!(FairMutex<T, R>, FairMutexGuard<'a, T, R>, spin_fair::fair::Held<'a, T, R>);
     is_send::<Starvation<'a, T, R>>();
     is_sync::<Starvation<'a, T, R>>();

@@ -1,15 +1,15 @@
 //! What a caller knows of the settings of a text, and that all threads see the same.
-ghost use Rattle.spin_uses.specs.Settings.{IsAnswerFor};
+ghost use Rattle.spin_examples.specs.Settings.{IsAnswerFor};
 
 use super::equal::equal;
 use super::parts::{Crew, in_threads};
 use spin_core::relax::Yield;
-use spin_uses::settings::{Answer, BadLine, Settings, SharedSettings};
+use spin_examples::settings::{Answer, BadLine, Settings, SharedSettings};
 use std::process::Abort;
 use std::sync::Wait;
 
 // A caller's proof: it shares the settings of its text, and knows what the answer means.
-fn ask<W: Wait>(rt: &W, text: &str) -> Answer
+fn settings_of<W: Wait>(rt: &W, text: &str) -> Answer
     ensures { IsAnswerFor text.now result }
 {
     let shared: SharedSettings<Yield> = SharedSettings::new(text);
@@ -23,10 +23,10 @@ fn settings_are_those_of_the_text(rt: HostRuntime) {
         workers: 9,
         ..Settings::default()
     };
-    equal(&rt, ask(&rt, "workers = 9\n"), Ok(settings));
+    equal(&rt, settings_of(&rt, "workers = 9\n"), Ok(settings));
     equal(
         &rt,
-        ask(&rt, "port = 80\nworkers: 9\n"),
+        settings_of(&rt, "port = 80\nworkers: 9\n"),
         Err(BadLine { number: 2 }),
     );
 }

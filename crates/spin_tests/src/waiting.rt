@@ -19,7 +19,7 @@ pub fn await_number<R: Wait>(rt: &R, number: &AtomicU64, wanted: u64) {
 }
 
 /// Waits long enough for another thread, which has arrived, to fail or to find what it waits for.
-pub fn pause<R: Wait>(rt: &R) {
+pub fn linger<R: Wait>(rt: &R) {
     for _ in 0..1000 {
         Yield::relax(rt);
     }

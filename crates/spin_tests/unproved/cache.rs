@@ -1,7 +1,7 @@
 //! Which answers of a cache are made, and which are kept.
 use crate::cache::{SquareCache, square};
 use crate::equal::equal;
-use spin_uses::cache::Cache;
+use spin_examples::cache::Cache;
 use std::alloc::AllocError;
 use std::cell::Cell;
 

@@ -4,8 +4,8 @@ use crate::equal::equal;
 use spin_fair::fair::{FairMutex, FairMutexGuard};
 use spin_flag::spin::{SpinMutex, SpinMutexGuard};
 use spin_mutex::mutex::{Mutex, MutexGuard};
+use spin_mutex::ticket::{TicketMutex, TicketMutexGuard};
 use spin_rwlock::rwlock::{RwLock, RwLockReadGuard, RwLockUpgradableGuard, RwLockWriteGuard};
-use spin_ticket::ticket::{TicketMutex, TicketMutexGuard};
 use std::cell::Cell;
 use std::sync::Wait;
 

@@ -5,8 +5,8 @@ use spin_core::lock::{Lock, SharedLock};
 use spin_fair::fair::FairMutex;
 use spin_flag::spin::SpinMutex;
 use spin_mutex::mutex::Mutex;
+use spin_mutex::ticket::TicketMutex;
 use spin_rwlock::rwlock::RwLock;
-use spin_ticket::ticket::TicketMutex;
 use std::sync::Wait;
 
 fn found<L: Lock<u64>>(lock: &L) -> Option<u64> {

@@ -1,14 +1,14 @@
 //! A journal is replayed, and each allocation of a ledger is refused.
 use crate::equal::equal;
-use crate::ledger::{holds, transfer};
+use crate::ledger::{has_balances, transfer_of};
 use bumpalo::Bump;
-use spin_uses::ledger::{Accounts, Refused, replay};
+use spin_examples::ledger::{Accounts, Refused, replay};
 use std::marker::Brand;
 use std::process::Abort;
 
 #[test]
 fn a_journal_is_replayed(rt: HostRuntime) {
-    let journal = [transfer(0, 2, 30), transfer(2, 1, 10)];
+    let journal = [transfer_of(0, 2, 30), transfer_of(2, 1, 10)];
     let balances = replay(rt.alloc(), &[100, 20, 0], &journal).expect(&rt, "memory");
     equal(&rt, balances.as_slice(), [70, 30, 20].as_slice());
     let refused = replay(rt.alloc(), &[29, 20, 0], &journal);
@@ -29,16 +29,16 @@ fn is_refused_whole<'a>(
     let filled = arena.chunk_capacity().saturating_sub(left);
     let filled = Vec::<u8, &'a Bump>::with_capacity(arena, filled).expect(rt, "memory");
     let mut accounts: Accounts<Brand, &'a Bump> = Accounts::open(arena, balances);
-    let first = accounts.transfer(transfer(0, 2, 30));
+    let first = accounts.transfer(transfer_of(0, 2, 30));
     let again = replay(arena, &[100, 20, 0], accounts.journal()).err();
     drop(filled);
     if first.is_err() {
         equal(rt, first, Err(Refused::OutOfMemory));
-        holds(rt, &accounts, [100, 20, 0]);
+        has_balances(rt, &accounts, [100, 20, 0]);
         equal(rt, accounts.journal().is_empty(), true);
         return false;
     }
-    holds(rt, &accounts, [70, 20, 30]);
+    has_balances(rt, &accounts, [70, 20, 30]);
     if again.is_some() {
         equal(rt, again, Some(Refused::OutOfMemory));
     }

@@ -4,9 +4,9 @@ ghost use Rattle.std.proofs.Common.{rules};
 
 use crate::equal::equal;
 use spin_core::relax::Yield;
+use spin_examples::cache::Answers;
+use spin_examples::cache::logged::LoggedCache;
 use spin_history::history::{BlankLog, History, Work, open};
-use spin_uses::cache::Answers;
-use spin_uses::cache::logged::LoggedCache;
 use std::alloc::{AllocError, Global};
 use std::process::Abort;
 use std::sync::Wait;

@@ -4,7 +4,7 @@ use spin_core::relax::Loop;
 use spin_fair::fair::{FairMutex, FairMutexGuard};
 use spin_flag::spin::{SpinMutex, SpinMutexGuard};
 use spin_mutex::mutex::{Mutex, MutexGuard};
-use spin_ticket::ticket::{TicketMutex, TicketMutexGuard};
+use spin_mutex::ticket::{TicketMutex, TicketMutexGuard};
 use std::process::Abort;
 use std::sync::Wait;
 

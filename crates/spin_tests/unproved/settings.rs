@@ -1,6 +1,6 @@
 //! Good lines and texts are read, and of a bad text the first bad line is told.
 use crate::equal::equal;
-use spin_uses::settings::{BadLine, Setting, Settings};
+use spin_examples::settings::{BadLine, Setting, Settings};
 
 #[test]
 fn a_line_sets_one_thing_or_nothing(rt: HostRuntime) {

@@ -1,6 +1,8 @@
 //! Which calls succeed while a thread starves, and which looks of a waiting `lock` count.
 use crate::equal::equal;
-use crate::mutex::fair::{HELD, HELD_AND_STARVED, OPEN, STARVED, enters_in_the_end, shows, starve};
+use crate::mutex::fair::{
+    HELD, HELD_AND_STARVED, OPEN, STARVED, enters_in_the_end, has_state, starve_below_cap,
+};
 use spin_core::relax::Loop;
 use spin_fair::fair::{FairMutex, FairRule, STARVATION_SPINS};
 use spin_session::table::Runs;
@@ -12,37 +14,37 @@ use std::mem::forget;
 fn a_starver_comes_before_newcomers(rt: HostRuntime) {
     let lock: FairMutex<u64> = FairMutex::new(42);
     let guard = lock.lock(&rt);
-    shows(&rt, &lock, HELD);
+    has_state(&rt, &lock, HELD);
     equal(&rt, lock.try_lock().is_none(), true);
-    let starvation = starve(&rt, &lock);
-    shows(&rt, &lock, HELD_AND_STARVED);
+    let starvation = starve_below_cap(&rt, &lock);
+    has_state(&rt, &lock, HELD_AND_STARVED);
     drop(guard);
-    shows(&rt, &lock, STARVED);
+    has_state(&rt, &lock, STARVED);
     equal(&rt, lock.try_lock().is_none(), true);
     let guard = starvation.try_lock().ok().expect(&rt, "open");
-    shows(&rt, &lock, HELD);
+    has_state(&rt, &lock, HELD);
     equal(&rt, *guard, 42);
-    let starvation = starve(&rt, &lock);
-    shows(&rt, &lock, HELD_AND_STARVED);
+    let starvation = starve_below_cap(&rt, &lock);
+    has_state(&rt, &lock, HELD_AND_STARVED);
     drop(guard);
-    shows(&rt, &lock, STARVED);
+    has_state(&rt, &lock, STARVED);
     drop(starvation);
-    shows(&rt, &lock, OPEN);
+    has_state(&rt, &lock, OPEN);
 }
 
 #[test]
 fn a_refused_starver_stays_registered(rt: HostRuntime) {
     let lock: FairMutex<u64, Loop> = FairMutex::new(42);
-    let first = starve(&rt, &lock);
-    let second = starve(&rt, &lock);
-    shows(&rt, &lock, STARVED);
+    let first = starve_below_cap(&rt, &lock);
+    let second = starve_below_cap(&rt, &lock);
+    has_state(&rt, &lock, STARVED);
     let first = first.try_lock_fair().err().expect(&rt, "two starve");
-    shows(&rt, &lock, STARVED);
+    has_state(&rt, &lock, STARVED);
     let guard = second.try_lock().ok().expect(&rt, "open");
-    shows(&rt, &lock, HELD_AND_STARVED);
+    has_state(&rt, &lock, HELD_AND_STARVED);
     let first = first.try_lock().err().expect(&rt, "held");
     let first = first.try_lock_fair().err().expect(&rt, "held");
-    shows(&rt, &lock, HELD_AND_STARVED);
+    has_state(&rt, &lock, HELD_AND_STARVED);
     drop(guard);
     enters_in_the_end(&rt, &lock, first);
 }
@@ -50,11 +52,11 @@ fn a_refused_starver_stays_registered(rt: HostRuntime) {
 #[test]
 fn a_forgotten_starver_keeps_newcomers_away(rt: HostRuntime) {
     let lock: FairMutex<u64> = FairMutex::new(42);
-    forget(starve(&rt, &lock));
-    shows(&rt, &lock, STARVED);
+    forget(starve_below_cap(&rt, &lock));
+    has_state(&rt, &lock, STARVED);
     equal(&rt, lock.try_lock().is_none(), true);
-    equal(&rt, starve(&rt, &lock).try_lock().is_ok(), true);
-    shows(&rt, &lock, STARVED);
+    equal(&rt, starve_below_cap(&rt, &lock).try_lock().is_ok(), true);
+    has_state(&rt, &lock, STARVED);
     equal(&rt, lock.into_inner(), 42);
 }
 

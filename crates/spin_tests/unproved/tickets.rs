@@ -1,9 +1,9 @@
 //! What happens once all tickets are used up, and which calls take a ticket. Also that a `Mutex` uses tickets.
 use crate::equal::equal;
 use spin_mutex::mutex::Mutex;
-use spin_mutex::tickets::starting_at as mutex_starting_at;
-use spin_ticket::ticket::{TicketMutex, TicketMutexGuard};
-use spin_ticket::tickets::{next, starting_at};
+use spin_mutex::mutex::tickets::starting_at as mutex_starting_at;
+use spin_mutex::ticket::{TicketMutex, TicketMutexGuard};
+use spin_mutex::tickets::{next, starting_at};
 
 #[test]
 fn used_up_tickets_are_refused(rt: HostRuntime) {

@@ -13,8 +13,8 @@ use Rattle.std.proofs.lemmas.Fmt.{decimal_is_IsNumeral, decimal-digits_value, de
 use Rattle.memchr.specs.Find.{Nowhere, Passes, is_byte}
 use Rattle.spin_text.specs.Numbers.{IsNumber}
 use Rattle.spin_text.specs.Lines.{words_of}
-use Rattle.spin_text.specs.Reading.{◌>>=◌, last, read_number, number_at, last_number}
-use Rattle.spin_text.proofs.Options.{chosen, bound, some_is, and_true, last_takes}
+use Rattle.spin_text.specs.Reading.{◌>>=◌, if_last, read_number, number_at, last_number}
+use Rattle.spin_text.proofs.Options.{found_is, some_is, and_true, last_takes}
 use Rattle.spin_text.proofs.Cuts.{cut_none, first_word}
 
 -- a number is printed as the word that it was read from
@@ -47,7 +47,7 @@ read_number_some w n fits is = ap read_number is ∙ read_decimal n fits
 
 pub read_number_takes : (w : List ℕ) (n : ℕ) → read_number w ≡ Some n → (n < 2 ^ 64) × (w ≡ decimal n)
 unfolding read_number
-read_number_takes w n is = grind (arith, chosen, and_true, some_is, ltb-true, bytes_eq-Decides)
+read_number_takes w n is = grind (arith, and_true, some_is, ltb-true, bytes_eq-Decides)
 
 pub read_number_none : (w : List ℕ) (r : Option ℕ) → r ≡ read_number w → ((n : ℕ) → n < 2 ^ 64 → ¬ (w ≡ decimal n)) → None ≡ r
 read_number_none w None is none = refl
@@ -122,12 +122,7 @@ same_bytes line word is = sym (join_with_byte-slice_split 32 line) ∙ ap (join_
 -- a number that is read is below 2^64, and the line begins with its decimal text
 pub number_at_takes : (ws : List (List ℕ)) (x : ℕ × List (List ℕ)) → number_at ws ≡ Some x → (x.0 < 2 ^ 64) × (ws ≡ decimal x.0 ∷ x.1)
 unfolding number_at
-number_at_takes [] x is = absurd (cc)
-number_at_takes (w ∷ ws) x one =
-    bound (read_number w) (λ n. Some (n, ws)) x ((x.0 < 2 ^ 64) × (w ∷ ws ≡ decimal x.0 ∷ x.1)) (λ n found is.
-    let number = read_number_takes w n found in
-    let P : ℕ × List (List ℕ) → Type 0 = λ y. (y.0 < 2 ^ 64) × (w ∷ ws ≡ decimal y.0 ∷ y.1) in
-    subst P (some_is is) (number.0, ap (λ v. v ∷ ws) number.1)) one
+number_at_takes ws x = found_is (number_at ws) (λ y. (y.0 < 2 ^ 64) × (ws ≡ decimal y.0 ∷ y.1)) x (grind (arith, read_number_takes))
 
 pub number_at_again : (n : ℕ) (ws : List (List ℕ)) → n < 2 ^ 64 → number_at (decimal n ∷ ws) ≡ Some (n, ws)
 unfolding number_at
@@ -141,7 +136,7 @@ last_number_takes ws n is = number_at_takes ws (n, []) (last_takes (number_at ws
 
 pub last_number_again : (n : ℕ) → n < 2 ^ 64 → last_number (decimal n ∷ []) ≡ Some n
 unfolding last_number
-last_number_again n fits = ap last (number_at_again n [] fits)
+last_number_again n fits = ap if_last (number_at_again n [] fits)
 
 -- reading a word as a line gives the number that the word spells
 pub number_alone : (word : List ℕ) (r : Option ℕ) → r ≡ last_number (words_of word) → IfSome r (λ n. IsNumber word n)

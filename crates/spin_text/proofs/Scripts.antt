@@ -15,7 +15,8 @@ use Rattle.spin_text.specs.Reading.{◌>>=◌, read_entry, entries_in, read_head
 use Rattle.spin_text.specs.Readable.{ReadsCalls, AllSpell, AllRead, StopsEntries}
 use Rattle.spin_text.specs.Transcripts.{transcript_text}
 use Rattle.spin_text.specs.Texts.{Script, script_words, ScriptFits, Spells, AreOfScript, IsFirstBad, played, PlaysBytes, PlaysLines, StopsPlaying, StopsWriting}
-use Rattle.spin_text.proofs.Options.{some_is, on_ok, if_err}
+use Rattle.spin_text.proofs.Options.{some_is}
+use Rattle.std.proofs.lemmas.Result.{on_ok_weaker, IfErr-weaker}
 use Rattle.spin_text.proofs.Moves.{entry_takes, entry_again}
 use Rattle.spin_text.proofs.Headers.{header_takes, header_again, read_of, reads_of}
 
@@ -130,9 +131,10 @@ first_bad h es line more fits each none =
     }
 
 -- if a header is read from the first line, that line spells the header
-pub headed : (line : List (List ℕ)) (all more : List (List (List ℕ))) (h : Header) → all ≡ line ∷ more → read_header line ≡ Some h
+pub headed : (line : List (List ℕ)) (all more : List (List (List ℕ))) (read : Option Header) (found h : Header) → all ≡ line ∷ more → read ≡ read_header line → read ≡ Some found → found ≡ h
     → HeaderFits h × (all ≡ header_words h ∷ more)
-headed line all more h is found = let header = header_takes line h found in (header.0, is ∙ ap (λ w. w ∷ more) header.1)
+headed line all more read found h is reads some same =
+    let header = header_takes line h (sym reads ∙ some ∙ ap Some same) in (header.0, is ∙ ap (λ w. w ∷ more) header.1)
 
 -- an error in the lines after the header is an error of the whole text
 pub bad_entry : (bytes : List ℕ) (h : Header) (rest : List (List (List ℕ))) (e : RunError) → HeaderFits h → words_by_line bytes ≡ header_words h ∷ rest → StopsEntries (calls_of h) (read_of h) rest e → StopsPlaying bytes e
@@ -152,25 +154,18 @@ stops_so B C U P Q before at_write e stops = grind arith
 module _ {X : Type 0} (r : Result X RunError) (P Q : List ℕ → Type 0) (each : (text : List ℕ) → P text → Q text) (a b : Option (List ℕ)) where
   -- if P implies Q, and some text with P was written, then some text with Q was written
   pub some_so : OnOk r (AppendsSome P a b) → OnOk r (AppendsSome Q a b)
-  some_so = on_ok r _ _ (λ t. (t.0, each t.0 t.1, t.2))
+  some_so = on_ok_weaker r (λ t. (t.0, each t.0 t.1, t.2))
 
   pub beginning_so : (B C : RunError → Type 0) (U F : Type 0) → ((e : RunError) → B e → C e)
       → IfErr r (StopsWriting B U (F × AppendsSomeBeginning P a b)) → IfErr r (StopsWriting C U (F × AppendsSomeBeginning Q a b))
-  beginning_so B C U F before = if_err r _ _ (stops_so B C U _ _ before (λ t. (t.0, (t.1.0, each t.1.0 t.1.1, t.1.2))))
+  beginning_so B C U F before = IfErr-weaker r _ _ (stops_so B C U _ _ before (λ t. (t.0, (t.1.0, each t.1.0 t.1.1, t.1.2))))
 
--- What holds of the lines after the header holds of all bytes.
-module _ {X W L : Type 0} (r : Result X RunError) (bytes : List ℕ) (h : Header) (m : Machine W ℕ (CallOf h) L (Answer ℕ)) (parties : ℕ)
-    (rest : List (List (List ℕ))) (headed_so : HeaderFits h × (words_by_line bytes ≡ header_words h ∷ rest))
-    (same : (es : List (ℕ × Move (CallOf h) ℕ)) → transcript_text m parties es ≡ played h es) (a b : Option (List ℕ)) (U F : Type 0) where
-  each_text : (text : List ℕ) → PlaysLines (calls_of h) m parties rest text → PlaysBytes bytes text
-  each_text text = whole_text bytes h rest m parties text headed_so.0 headed_so.1 same
-
-  pub plays_so : OnOk r (AppendsSome (PlaysLines (calls_of h) m parties rest) a b)
-      → IfErr r (StopsWriting (StopsEntries (calls_of h) (read_of h) rest) U
-      (F × AppendsSomeBeginning (PlaysLines (calls_of h) m parties rest) a b))
-      → OnOk r (AppendsSome (PlaysBytes bytes) a b)
-      × IfErr r (StopsWriting (StopsPlaying bytes) U (F × AppendsSomeBeginning (PlaysBytes bytes) a b))
-  plays_so plays stops = (
-    some_so r _ _ each_text a b plays,
-    beginning_so r _ _ each_text a b _ _ U F (λ e. bad_entry bytes h rest e headed_so.0 headed_so.1) stops,
-  )
+-- What holds of the lines after the header holds of all bytes. The machine is that of an object as it is made.
+pub plays_so : {X W L O : Type 0} (bytes : List ℕ) (h : Header) (rest : List (List (List ℕ))) (made new : O) → HeaderFits h × (words_by_line bytes ≡ header_words h ∷ rest) → new ≡ made
+    → (machine : O → Machine W ℕ (CallOf h) L (Answer ℕ)) (parties : ℕ) → ((es : List (ℕ × Move (CallOf h) ℕ)) → transcript_text (machine made) parties es ≡ played h es)
+    → (r : Result X RunError) (a b : Option (List ℕ)) (U F : Type 0) → OnOk r (AppendsSome (PlaysLines (calls_of h) (machine new) parties rest) a b)
+    → IfErr r (StopsWriting (StopsEntries (calls_of h) (read_of h) rest) U (F × AppendsSomeBeginning (PlaysLines (calls_of h) (machine new) parties rest) a b))
+    → OnOk r (AppendsSome (PlaysBytes bytes) a b) × IfErr r (StopsWriting (StopsPlaying bytes) U (F × AppendsSomeBeginning (PlaysBytes bytes) a b))
+plays_so bytes h rest made new first fields machine parties same r a b U F plays stops =
+    let each = λ (text : List ℕ). whole_text bytes h rest (machine new) parties text first.0 first.1 (λ es. ap (λ o. transcript_text (machine o) parties es) fields ∙ same es) in
+    (some_so r _ _ each a b plays, beginning_so r _ _ each a b _ _ U F (λ e. bad_entry bytes h rest e first.0 first.1) stops)

@@ -18,6 +18,10 @@ use Rattle.spin_text.specs.declared.header.Header.{Header}
 use Rattle.spin_text.specs.declared.header.Header.TheVariants.{Flag, Ticket, Rw, Fair, Barrier, Once}
 use Rattle.spin_text.specs.Spelling.{Calls}
 
+-- calls in whose words there is no number
+abbrev pub without_numbers : {C : Type 0} → (C → List (List ℕ)) → Calls C
+without_numbers words = record { words = words; fits = λ c. true }
+
 -- The words of each object's calls.
 
 abbrev pub flag_call_words : FlagCall → List (List ℕ)
@@ -27,17 +31,11 @@ flag_call_words flag.TryLockWeak = codes "try_lock_weak" ∷ []
 flag_call_words flag.IsLocked = codes "is_locked" ∷ []
 flag_call_words flag.Release = codes "release" ∷ []
 
-abbrev pub flag_calls : Calls FlagCall
-flag_calls = record { words = flag_call_words; fits = λ c. true }
-
 abbrev pub ticket_call_words : TicketCall → List (List ℕ)
 ticket_call_words ticket.Lock = codes "lock" ∷ []
 ticket_call_words ticket.TryLock = codes "try_lock" ∷ []
 ticket_call_words ticket.IsLocked = codes "is_locked" ∷ []
 ticket_call_words ticket.Release = codes "release" ∷ []
-
-abbrev pub ticket_calls : Calls TicketCall
-ticket_calls = record { words = ticket_call_words; fits = λ c. true }
 
 abbrev pub rw_call_words : RwCall → List (List ℕ)
 rw_call_words rw.TryRead = codes "try_read" ∷ []
@@ -56,9 +54,6 @@ rw_call_words rw.Downgrade = codes "downgrade" ∷ []
 rw_call_words rw.DowngradeToUpgradeable = codes "downgrade_to_upgradeable" ∷ []
 rw_call_words rw.Release = codes "release" ∷ []
 
-abbrev pub rw_calls : Calls RwCall
-rw_calls = record { words = rw_call_words; fits = λ c. true }
-
 abbrev pub fair_call_words : FairCall → List (List ℕ)
 fair_call_words fair.Lock = codes "lock" ∷ []
 fair_call_words fair.TryLock = codes "try_lock" ∷ []
@@ -71,14 +66,8 @@ fair_call_words fair.StarverLock = codes "starver_lock" ∷ []
 fair_call_words fair.StarverDrop = codes "starver_drop" ∷ []
 fair_call_words fair.Release = codes "release" ∷ []
 
-abbrev pub fair_calls : Calls FairCall
-fair_calls = record { words = fair_call_words; fits = λ c. true }
-
 abbrev pub barrier_call_words : BarrierCall → List (List ℕ)
 barrier_call_words barrier.Wait = codes "wait" ∷ []
-
-abbrev pub barrier_calls : Calls BarrierCall
-barrier_calls = record { words = barrier_call_words; fits = λ c. true }
 
 abbrev pub once_call_words : OnceCall ℕ → List (List ℕ)
 once_call_words (once.CallOnce v) = codes "call_once" ∷ decimal v ∷ []
@@ -96,8 +85,8 @@ once_call_fits (once.TryCallOnceOk v) = nat_lt v (2 ^ 64)
 once_call_fits (once.InitFromRef v) = nat_lt v (2 ^ 64)
 once_call_fits _ = true
 
-abbrev pub once_calls : Calls (OnceCall ℕ)
-once_calls = record { words = once_call_words; fits = once_call_fits }
+abbrev pub once_spelling : Calls (OnceCall ℕ)
+once_spelling = record { words = once_call_words; fits = once_call_fits }
 
 -- The first line of a text.
 
@@ -135,9 +124,9 @@ CallOf (Barrier n parties) = BarrierCall
 CallOf (Once parties) = OnceCall ℕ
 
 abbrev pub calls_of : (h : Header) → Calls (CallOf h)
-calls_of (Flag value parties) = flag_calls
-calls_of (Ticket value first parties) = ticket_calls
-calls_of (Rw value cap parties) = rw_calls
-calls_of (Fair value cap spins parties) = fair_calls
-calls_of (Barrier n parties) = barrier_calls
-calls_of (Once parties) = once_calls
+calls_of (Flag value parties) = without_numbers flag_call_words
+calls_of (Ticket value first parties) = without_numbers ticket_call_words
+calls_of (Rw value cap parties) = without_numbers rw_call_words
+calls_of (Fair value cap spins parties) = without_numbers fair_call_words
+calls_of (Barrier n parties) = without_numbers barrier_call_words
+calls_of (Once parties) = once_spelling

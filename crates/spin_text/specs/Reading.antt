@@ -8,16 +8,11 @@ use Rattle.spin_step.specs.declared.schedule.Move.{Move}
 use Rattle.spin_step.specs.declared.schedule.Move.TheVariants.{Begin, Step, Weak, Read, Write, Leak, OwnerGet, OwnerSet}
 use Rattle.spin_step_more.specs.Readers.{reader_limit}
 use Rattle.spin_step_more.specs.Starvers.{most_starvers}
-use Rattle.spin_step.specs.declared.flag_calls.FlagCall.{FlagCall}
-use Rattle.spin_step_more.specs.declared.fair_calls.FairCall.{FairCall}
-use Rattle.spin_step_more.specs.declared.rw_calls.RwCall.{RwCall}
-use Rattle.spin_step.specs.declared.ticket_calls.TicketCall.{TicketCall}
-use Rattle.spin_world.specs.declared.barrier.BarrierCall.{BarrierCall}
 use Rattle.spin_step.specs.declared.once_calls.OnceCall.{OnceCall}
 use Rattle.spin_step.specs.declared.once_calls.OnceCall.TheVariants as once
 use Rattle.spin_text.specs.declared.header.Header.{Header}
 use Rattle.spin_text.specs.declared.header.Header.TheVariants.{Flag, Ticket, Rw, Fair, Barrier, Once}
-use Rattle.spin_text.specs.declared.objects.TheConstants.{FLAG_CALLS, TICKET_CALLS, RW_CALLS, FAIR_CALLS, BARRIER_CALLS, PLAIN_ONCE_CALLS}
+use Rattle.spin_text.specs.declared.objects.TheConstants.{PLAIN_ONCE_CALLS}
 use Rattle.spin_text.specs.Lines.{words_of, words_by_line}
 
 infixl 10 ◌>>=◌
@@ -63,17 +58,17 @@ number_within least most ws = do
   if nat_le least n.0 && nat_le n.0 most then Some n else None
 
 -- what was read, if no word is left
-abbrev pub last : {A : Type 0} → Option (A × List (List ℕ)) → Option A
-last read = read >>= λ x. if is_end x.1 then Some x.0 else None
+abbrev pub if_last : {A : Type 0} → Option (A × List (List ℕ)) → Option A
+if_last read = read >>= λ x. if is_end x.1 then Some x.0 else None
 
 unfoldable pub last_word : List (List ℕ) → Option (List ℕ)
-last_word ws = last (word_at ws)
+last_word ws = if_last (word_at ws)
 
 unfoldable pub last_number : List (List ℕ) → Option ℕ
-last_number ws = last (number_at ws)
+last_number ws = if_last (number_at ws)
 
 unfoldable pub last_parties : List (List ℕ) → Option ℕ
-last_parties ws = last (number_within 1 1000 ws)
+last_parties ws = if_last (number_within 1 1000 ws)
 
 unfoldable pub owner_move : {C : Type 0} → List (List ℕ) → Option (Move C ℕ)
 owner_move ws = do
@@ -118,23 +113,6 @@ named (row ∷ rows) w = if bytes_eq w row.0 then Some row.1 else named rows w
 -- the entry that a table has for the only word of a line
 unfoldable pub only_named : {C : Type 0} → List (List ℕ × C) → List (List ℕ) → Option C
 only_named rows ws = last_word ws >>= named rows
-
--- How the calls of each object are read.
-
-unfoldable pub read_flag_call : List (List ℕ) → Option FlagCall
-read_flag_call ws = only_named (by_word FLAG_CALLS) ws
-
-unfoldable pub read_ticket_call : List (List ℕ) → Option TicketCall
-read_ticket_call ws = only_named (by_word TICKET_CALLS) ws
-
-unfoldable pub read_rw_call : List (List ℕ) → Option RwCall
-read_rw_call ws = only_named (by_word RW_CALLS) ws
-
-unfoldable pub read_fair_call : List (List ℕ) → Option FairCall
-read_fair_call ws = only_named (by_word FAIR_CALLS) ws
-
-unfoldable pub read_barrier_call : List (List ℕ) → Option BarrierCall
-read_barrier_call ws = only_named (by_word BARRIER_CALLS) ws
 
 -- a `try_call_once`, read from the words after its name
 unfoldable pub read_try_call_once : List (List ℕ) → Option (OnceCall ℕ)

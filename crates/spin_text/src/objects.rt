@@ -47,16 +47,16 @@ pub const FLAG_CALLS: [(&[u8], FlagCall); 5] = [
 ];
 
 impl Spelled for Flag<u64> {
-    ghost use Rattle.spin_text.specs.Objects.{flag_calls};
-    ghost use Rattle.spin_text.specs.Reading.{read_flag_call};
+    ghost use Rattle.spin_text.specs.Objects.{flag_call_words, without_numbers};
+    ghost use Rattle.spin_text.specs.Reading.{by_word, only_named};
+    ghost use Rattle.spin_text.specs.declared.objects.TheConstants.{FLAG_CALLS};
 
-    ghost calls = { flag_calls };
+    ghost calls = { without_numbers flag_call_words };
 
-    ghost read = { read_flag_call };
+    ghost read = { only_named (by_word FLAG_CALLS) };
 
     fn reads_calls() {}
 
-    #[tactic(auto, unfolding(crate::specs::Reading::read_flag_call))]
     fn call(line: Rest) -> Option<FlagCall> {
         only_named(&FLAG_CALLS, line)
     }
@@ -75,16 +75,16 @@ pub const TICKET_CALLS: [(&[u8], TicketCall); 4] = [
 ];
 
 impl Spelled for Ticket<u64> {
-    ghost use Rattle.spin_text.specs.Objects.{ticket_calls};
-    ghost use Rattle.spin_text.specs.Reading.{read_ticket_call};
+    ghost use Rattle.spin_text.specs.Objects.{ticket_call_words, without_numbers};
+    ghost use Rattle.spin_text.specs.Reading.{by_word, only_named};
+    ghost use Rattle.spin_text.specs.declared.objects.TheConstants.{TICKET_CALLS};
 
-    ghost calls = { ticket_calls };
+    ghost calls = { without_numbers ticket_call_words };
 
-    ghost read = { read_ticket_call };
+    ghost read = { only_named (by_word TICKET_CALLS) };
 
     fn reads_calls() {}
 
-    #[tactic(auto, unfolding(crate::specs::Reading::read_ticket_call))]
     fn call(line: Rest) -> Option<TicketCall> {
         only_named(&TICKET_CALLS, line)
     }
@@ -114,16 +114,16 @@ pub const RW_CALLS: [(&[u8], RwCall); 15] = [
 ];
 
 impl Spelled for Rw<u64> {
-    ghost use Rattle.spin_text.specs.Objects.{rw_calls};
-    ghost use Rattle.spin_text.specs.Reading.{read_rw_call};
+    ghost use Rattle.spin_text.specs.Objects.{rw_call_words, without_numbers};
+    ghost use Rattle.spin_text.specs.Reading.{by_word, only_named};
+    ghost use Rattle.spin_text.specs.declared.objects.TheConstants.{RW_CALLS};
 
-    ghost calls = { rw_calls };
+    ghost calls = { without_numbers rw_call_words };
 
-    ghost read = { read_rw_call };
+    ghost read = { only_named (by_word RW_CALLS) };
 
     fn reads_calls() {}
 
-    #[tactic(auto, unfolding(crate::specs::Reading::read_rw_call))]
     fn call(line: Rest) -> Option<RwCall> {
         only_named(&RW_CALLS, line)
     }
@@ -148,16 +148,16 @@ pub const FAIR_CALLS: [(&[u8], FairCall); 10] = [
 ];
 
 impl Spelled for Fair<u64> {
-    ghost use Rattle.spin_text.specs.Objects.{fair_calls};
-    ghost use Rattle.spin_text.specs.Reading.{read_fair_call};
+    ghost use Rattle.spin_text.specs.Objects.{fair_call_words, without_numbers};
+    ghost use Rattle.spin_text.specs.Reading.{by_word, only_named};
+    ghost use Rattle.spin_text.specs.declared.objects.TheConstants.{FAIR_CALLS};
 
-    ghost calls = { fair_calls };
+    ghost calls = { without_numbers fair_call_words };
 
-    ghost read = { read_fair_call };
+    ghost read = { only_named (by_word FAIR_CALLS) };
 
     fn reads_calls() {}
 
-    #[tactic(auto, unfolding(crate::specs::Reading::read_fair_call))]
     fn call(line: Rest) -> Option<FairCall> {
         only_named(&FAIR_CALLS, line)
     }
@@ -171,16 +171,16 @@ impl Spelled for Fair<u64> {
 pub const BARRIER_CALLS: [(&[u8], BarrierCall); 1] = [(b"wait", BarrierCall::Wait)];
 
 impl Spelled for BarrierObject {
-    ghost use Rattle.spin_text.specs.Objects.{barrier_calls};
-    ghost use Rattle.spin_text.specs.Reading.{read_barrier_call};
+    ghost use Rattle.spin_text.specs.Objects.{barrier_call_words, without_numbers};
+    ghost use Rattle.spin_text.specs.Reading.{by_word, only_named};
+    ghost use Rattle.spin_text.specs.declared.objects.TheConstants.{BARRIER_CALLS};
 
-    ghost calls = { barrier_calls };
+    ghost calls = { without_numbers barrier_call_words };
 
-    ghost read = { read_barrier_call };
+    ghost read = { only_named (by_word BARRIER_CALLS) };
 
     fn reads_calls() {}
 
-    #[tactic(auto, unfolding(crate::specs::Reading::read_barrier_call))]
     fn call(line: Rest) -> Option<BarrierCall> {
         only_named(&BARRIER_CALLS, line)
     }
@@ -214,10 +214,10 @@ const PLAIN_ONCE_CALLS: [(&[u8], OnceCall<u64>); 4] = [
 ];
 
 impl Spelled for OnceObject<u64> {
-    ghost use Rattle.spin_text.specs.Objects.{once_calls};
+    ghost use Rattle.spin_text.specs.Objects.{once_spelling};
     ghost use Rattle.spin_text.specs.Reading.{read_once_call};
 
-    ghost calls = { once_calls };
+    ghost calls = { once_spelling };
 
     ghost read = { read_once_call };
 

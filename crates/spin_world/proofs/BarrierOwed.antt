@@ -11,7 +11,6 @@ use Rattle.spin_world_core.proofs.Steps.{Plays}
 use Rattle.spin_world_core.proofs.Stands.{absent}
 use Rattle.spin_world_core.proofs.Rows.{Point, nowhere, looked, onward}
 use Rattle.spin_world_core.proofs.Shapes.{Notes, OwesAll}
-use Rattle.spin_world_core.proofs.Usual.{no_holders}
 use Rattle.spin_world_core.proofs.Filled.{plays_of}
 use Rattle.std.specs.List.{list_any}
 use Rattle.std.specs.Prelude.{nat_le}
@@ -80,11 +79,7 @@ module _ (n : ℕ) where
   pub barrier_facts : Plays (barrier_machine n) (barrier_notes n)
   barrier_facts = plays_of (record {
     computes = grind arith;
-    operates = grind arith;
-    shape_first = record { no_holders = refl; group = refl };
-    one_list = λ s of. no_holders s of.no_holders;
     calls = λ c h. (0, grind arith);
-    begins = grind arith;
     others = λ p q c l h s step r span ne of may belongs knows.
         let on = λ (g : ℕ). waits-on g p q s step r span (grind arith) belongs in grind (arith, on);
     owes = owes;

@@ -9,13 +9,12 @@ pub use Rattle.spin_step.specs.Calls.{AnyOf, BelongsTo, Mark, Registers, TriesTo
 pub use Rattle.spin_step_more.specs.FairKind.{fair}
 pub use Rattle.spin_world.specs.Fairness.{IsFree, IsGrantedNext, SetsAClearFlag, GoesForAClearFlag}
 pub use Rattle.std.specs.Prelude.{min}
-pub use Rattle.spin_step_more.specs.Starvers.{most_starvers, is_set, lock, starve, lock_fair}
+pub use Rattle.spin_step_more.specs.Starvers.{most_starvers, is_held_word, lock, starve, lock_fair}
 pub use Rattle.spin_step.specs.Parties.{OneHolds}
 pub use Rattle.spin_step.proofs.Holders.{is_empty-none, length-without_holder, is_holder-from_entries, is_holder-own}
 pub use Rattle.spin_step.proofs.Starvers.{is_starver-from_entries, length-without_starver}
 pub use Rattle.spin_step_more.proofs.FairSteps.{flag_is, fair_lock-grants, fair_starve-grants, fair_lock_fair-grants, fair_lock_starved-grants, fair_unstarve-gives, fair_unlock-gives, fair_is_locked-tells}
 pub use Rattle.spin_world_core.proofs.Stands.{holds, starves, holds_and_starves, entries_at}
-pub use Rattle.spin_world_core.proofs.Usual.{only_left, no_queue}
 pub use Rattle.spin_step.specs.declared.place.Hold.{Hold}
 pub use Rattle.spin_step.specs.declared.place.Hold.TheVariants.{Starver, Write}
 pub use Rattle.spin_step.specs.declared.stepped.Next.TheVariants.{Continue}

@@ -1,10 +1,10 @@
 -- What has to be shown of the fair lock's table.
-use Rattle.spin_world.proofs.FairNames.{◌≡◌, ℕ, ◌<◌, ◌+◌, ◌-◌, ◌%◌, true, nat_lt, Option, Some, None, List, ◌∷◌, refl, arith, eqb-true, Plain, writing, to_lock_unregistered, to_lock_starving, to_lock_starving_alone, to_starve, Change, gets, releases, stops_starving, is_starver, fair_word, apply_some, entries, is_held, empty_is, is_holder-from_entries, is_starver-from_entries, eq-eqb, length-without_holder, length-without_starver, is_set, lock, starve, lock_fair, fair_lock-grants, fair_starve-grants, fair_lock_fair-grants, fair_lock_starved-grants, fair_unstarve-gives, fair_unlock-gives, Hold, Write, Starver, FairCall, Lock, TryLock, TryLockStarver, IsLocked, Starve, StarverTryLockFair, StarverTryLock, StarverLock, StarverDrop, Release, FairPoint, First, Attempt, Look, Load, Register, SetFlag, Await, Unregister, StepKind, plain, again, weak, Mark, granted, fair, mark_of, own_count, changes, RegistersInTime, tried, fair_table, fair_machine, holds, starves, holds_and_starves, entries_at, Row, Point, nowhere, looked, onward, Notes, Means, OwesAll, SoonAll, no_queue, []}
+use Rattle.spin_world.proofs.FairNames.{◌≡◌, ℕ, ◌<◌, ◌+◌, ◌-◌, ◌%◌, true, nat_lt, Option, Some, None, List, ◌∷◌, refl, arith, eqb-true, Plain, writing, to_lock_unregistered, to_lock_starving, to_lock_starving_alone, to_starve, Change, gets, releases, stops_starving, is_starver, fair_word, apply_some, entries, is_held, empty_is, is_holder-from_entries, is_starver-from_entries, eq-eqb, length-without_holder, length-without_starver, is_held_word, lock, starve, lock_fair, fair_lock-grants, fair_starve-grants, fair_lock_fair-grants, fair_lock_starved-grants, fair_unstarve-gives, fair_unlock-gives, Hold, Write, Starver, FairCall, Lock, TryLock, TryLockStarver, IsLocked, Starve, StarverTryLockFair, StarverTryLock, StarverLock, StarverDrop, Release, FairPoint, First, Attempt, Look, Load, Register, SetFlag, Await, Unregister, StepKind, plain, again, weak, Mark, granted, fair, mark_of, own_count, changes, RegistersInTime, tried, fair_table, fair_machine, holds, starves, holds_and_starves, entries_at, Row, Point, nowhere, looked, onward, Notes, Means, OwesAll, SoonAll, []}
 use Rattle.spin_step.specs.declared.table.Operation.TheVariants as op
 use Rattle.spin_world_core.proofs.Lists.{eqb_self}
 use Rattle.spin_world_core.proofs.Steps.{Plays}
 use Rattle.spin_world_core.proofs.Filled.{plays_of}
-use Rattle.spin_world.proofs.Registering.{MayBeBlind, none_left, few_to_load, few_to_register, Looking, Loading, Registering, none_yet, starving-other, looking-other, loading-other, registering-other, goes_on, missed, looked_free, looked_held, looked_late, loaded, retried, full, registered, looked_starving}
+use Rattle.spin_world.proofs.Registering.{MayBeBlind, none_left, few_to_load, few_to_register, Looking, Loading, Registering, no_split, starving-other, looking-other, loading-other, registering-other, goes_on, missed, looked_free, looked_held, looked_late, loaded, retried, full, registered, looked_starving}
 use Rattle.spin_world.proofs.FairKnowledge.{IsFair, comes, flag_clear, word_starved, not_there}
 
 -- the row of a starver that waits for the lock, after these plain steps
@@ -58,7 +58,7 @@ module _ {V : Type 0} (v : V) (cap patience : ℕ) where
 
   -- what the step functions mean in a state of this shape
   module _ (p : ℕ) (s : Plain) (w : ℕ) (word : fair_word s ≡ w) (shape : IsFair cap s) where
-    held : is_held s ≡ is_set w
+    held : is_held s ≡ is_held_word w
     held = grind arith
 
     lock_means : IsMeant p s (gets p to_lock_unregistered) (lock w)
@@ -78,7 +78,7 @@ module _ {V : Type 0} (v : V) (cap patience : ℕ) where
     unstarve_means found =
         grind (arith, word, shape, length-without_starver p s.starvers found, fair_unstarve-gives s p w word found)
 
-    unlock_means : entries p s ≡ entries_at p (holds writing) → (is_set w ≡ true) × IsMeant p s (releases p writing) (Some (w - 1))
+    unlock_means : entries p s ≡ entries_at p (holds writing) → (is_held_word w ≡ true) × IsMeant p s (releases p writing) (Some (w - 1))
     unlock_means mine =
         let fewer = length-without_holder p writing s.holders in
         grind (arith, is_holder-from_entries p, eq-eqb (w % 2) 1, fair_unlock-gives s p writing w, fewer, shape)
@@ -121,11 +121,6 @@ module _ {V : Type 0} (v : V) (cap patience : ℕ) where
   owes p Release l h s w span = grind (arith, unlock_means p s w)
   owes p _ l h s w span = grind (arith, is_starver-from_entries p, lock_fair_means p s w, lock_starved_means p s w, held p s w, unstarve_means p s w)
 
-  -- If nobody disturbs the call, its exchange acquires a free lock, at once or after a look. A party that has begun to
-  -- register then registers, gets the lock, and stops starving.
-  soon : SoonAll (fair_notes v cap patience)
-  soon = grind (arith, empty_is, flag_clear, not_there)
-
   others : (p q : ℕ) (c : FairCall) (l : FairPoint) (s : Plain) (step : Option Change) (r : StepKind) (span : List Mark) → (q ≡ p → ⊥) → KnowsAt patience c l p s span → KnowsAt patience c l p (apply_some s step) (mark_of q step r s ∷ span)
   others p q Lock (Register n) s step r span ne knows = registering-other patience p q s step r span ne n knows
   others p q Lock l s step r span ne knows = let starving = starving-other patience p q s step r span ne in
@@ -135,13 +130,11 @@ module _ {V : Type 0} (v : V) (cap patience : ℕ) where
 
   pub fair_facts : Plays (fair_machine v cap patience) (fair_notes v cap patience)
   fair_facts = plays_of (record {
-    computes = grind arith;
-    operates = grind arith;
-    shape_first = record { one = omega arith; queue = refl; room = refl };
-    one_list = λ s shape. no_queue s shape.queue;
+    computes = grind (arith, no_split);
     calls = λ c h. (patience, grind arith);
-    begins = λ p c h s. grind (arith, none_yet {p = p} {n = patience});
     others = λ p q c l h s step r span ne shape may belongs knows. others p q c l s step r span ne knows;
     owes = owes;
-    soon = soon;
+    -- If nobody disturbs the call, its exchange acquires a free lock, at once or after a look. A party that has begun to
+    -- register then registers, gets the lock, and stops starving.
+    soon = grind (arith, empty_is, flag_clear, not_there);
   }) refl

@@ -8,7 +8,6 @@ use Rattle.spin_step.specs.FlagCalls.{flag_table, flag_machine}
 use Rattle.spin_world_core.proofs.Steps.{Plays}
 use Rattle.spin_world_core.proofs.Rows.{starts}
 use Rattle.spin_world_core.proofs.Shapes.{Notes}
-use Rattle.spin_world_core.proofs.Usual.{no_queue}
 use Rattle.spin_world_core.proofs.Filled.{plays_of}
 
 -- At each point the row is that of the beginning, since the call has made no plain step. Only `Lock` makes more than one
@@ -20,12 +19,8 @@ module _ {V : Type 0} (v : V) where
   pub flag_facts : Plays (flag_machine v) (flag_notes v)
   flag_facts = plays_of (record {
     computes = grind arith;
-    operates = grind arith;
     -- an exchange that fails finds the flag set, and leaves it set
-    shape_first = refl;
-    one_list = no_queue;
     calls = λ c h. (0, grind arith);
-    begins = grind arith;
     others = λ p q c l h s step r span ne shape may belongs knows. tt;
     owes = λ p c l h s w span.
         let found = is_holder-from_entries p writing s.holders in

@@ -1,5 +1,5 @@
 -- What has to be shown of the table of a `Once`.
-use Rattle.spin_world.proofs.OnceNames.{◌≡◌, ℕ, true, Option, Some, None, List, ◌∷◌, refl, arith, Plain, running, to_begin, Change, gets, completes, fails, runs-others, Hold, OnceCall, CallOnce, TryCallOnceOk, TryCallOnceErr, InitFromRef, Wait, Poll, Get, IsCompleted, OncePoint, Look, TryBegin, Run, Mark, Said, gives_value, failed, once_table, once_machine, has_just_looked, Plays, Point, nowhere, looked, onward, Notes, no_holders, []}
+use Rattle.spin_world.proofs.OnceNames.{◌≡◌, ℕ, true, Option, Some, None, List, ◌∷◌, refl, arith, Plain, running, to_begin, Change, gets, completes, fails, runs-others, Hold, OnceCall, CallOnce, TryCallOnceOk, TryCallOnceErr, InitFromRef, Wait, Poll, Get, IsCompleted, OncePoint, Look, TryBegin, Run, Mark, Said, gives_value, failed, once_table, once_machine, has_just_looked, Plays, Point, nowhere, looked, onward, Notes, []}
 use Rattle.spin_world_core.proofs.Stands.{absent}
 use Rattle.spin_world_core.proofs.Filled.{plays_with}
 
@@ -22,9 +22,7 @@ point_of _ _ _ = nowhere
 
 -- A party that is about to begin its closure has just looked. A party that runs its closure knows that the phase says so.
 abbrev pub RunsAt : OncePoint → ℕ → Plain → List Mark → Type 0
-RunsAt TryBegin p s span = has_just_looked p span ≡ true
-RunsAt Run p s span = s.phase ≡ running p
-RunsAt l p s span = Unit {0}
+RunsAt l p s span = elim l [ TryBegin ↦ has_just_looked p span ≡ true | Run ↦ s.phase ≡ running p | _ ↦ Unit {0} ]
 
 -- nobody holds or queues
 abbrev pub IsFree : Plain → Type 0
@@ -38,11 +36,7 @@ module _ {V : Type 0} (value : Option V) where
   once_facts = plays_with (record {
     pays = record {
       computes = grind arith;
-      operates = grind arith;
-      shape_first = (refl, refl);
-      one_list = λ s free. no_holders s free.0;
       calls = λ c h. (0, grind arith);
-      begins = grind arith;
       others = λ p q c l h s step r span ne free may belongs knows. grind (arith, runs-others s p q step ne may);
       owes = grind arith;
       soon = grind arith;

@@ -3,7 +3,7 @@ use Rattle.spin_world.specs.Ticket.{TicketMachine}
 use Rattle.spin_world_core.specs.Runs.{state_at}
 use Rattle.spin_world_core.specs.Users.{seen_at}
 use Rattle.spin_world_core.specs.Runs.{Schedule}
-use Rattle.spin_world.proofs.TicketNames.{◌≡◌, ℕ, ◌+◌, Option, Some, ◌∷◌, ◌++◌, slice_get, arith, Plain, Change, serving_word, apply_some, IsOpenStep, bit, Numbered, serving-moves, entered_is_served, Holding, TicketCall, TicketPoint, TicketWords, Seen, scene, opening, ticket_machine, seen_after, Plays, passes, serves_one, tickets_gone, InOrder, InTurn, []}
+use Rattle.spin_world.proofs.TicketNames.{◌≡◌, ℕ, ◌+◌, Option, Some, ◌∷◌, ◌++◌, slice_get, arith, Plain, Change, serving_word, apply_some, IsOpenStep, bit, HasTicketNumbers, serving-moves, entered_is_served, Holding, TicketCall, TicketPoint, TicketWords, Seen, scene, opening, ticket_machine, seen_after, Plays, passes, serves_one, tickets_gone, TicketsInOrder, InTurn, []}
 use Rattle.spin_step.specs.declared.place.Hold.TheVariants as hold
 use Rattle.spin_world.proofs.TicketOwed.{ticket_notes, ticket_facts}
 use Rattle.spin_world_core.proofs.Preserved.{Invariant}
@@ -11,7 +11,7 @@ use Rattle.spin_world_core.proofs.Every.{kept}
 use Rattle.spin_world_core.proofs.Guards.{seen_after-append}
 use Rattle.spin_world_core.proofs.Reached.{good, numbers_are, stands, calls}
 
-moves_some : (s : Plain) (p : ℕ) (step : Option Change) → Numbered s → IsOpenStep s p step → serving_word (apply_some s step) ≡ serving_word s + bit (passes serves_one step)
+moves_some : (s : Plain) (p : ℕ) (step : Option Change) → HasTicketNumbers s → IsOpenStep s p step → serving_word (apply_some s step) ≡ serving_word s + bit (passes serves_one step)
 moves_some s p step numbered may = grind (arith, λ (c : Change). serving-moves s c numbered)
 
 module _ {V : Type 0} (v : V) (first : ℕ) where
@@ -26,7 +26,7 @@ module _ {V : Type 0} (v : V) (first : ℕ) where
   served seen [] good = omega arith
   served seen (e ∷ es) good = grind (arith, kept f seen e.0 e.1 good, moves_some, served (scene m seen e.0 e.1).after es (kept f seen e.0 e.1 good).good)
 
-  pub in_order : (n : ℕ) (past : Schedule TicketCall V) → InOrder (state_at m n past).words (seen_at m n past).plain
+  pub in_order : (n : ℕ) (past : Schedule TicketCall V) → TicketsInOrder (state_at m n past).words (seen_at m n past).plain
   in_order n past = grind (arith, numbers_are f n past, good f n past)
 
   -- a party that holds has the served ticket

@@ -58,12 +58,9 @@ Loading patience p span = Going (few_to_load p) patience p span
 abbrev pub Registering : ℕ → ℕ → ℕ → Plain → List Mark → Type 0
 Registering patience w p s span = Going (few_to_register p s w) patience p span
 
-no_split : (recent : List Mark) (m : Mark) (older : List Mark) → [] ≡ recent ++ m ∷ older → ⊥
+-- a span without steps has no late look
+pub no_split : (recent : List Mark) (m : Mark) (older : List Mark) → [] ≡ recent ++ m ∷ older → ⊥
 no_split recent m older e = omega (arith, ap length e, length-append recent (m ∷ older))
-
--- `RegistersInTime` holds when a call begins
-pub none_yet : {p n : ℕ} → RegistersInTime none_left p n []
-none_yet {p} {n} = grind (arith, no_split)
 
 -- a step of another party
 module _ (patience p q : ℕ) (s : Plain) (step : Option Change) (r : StepKind) (span : List Mark) (ne : q ≡ p → ⊥) where

@@ -17,4 +17,3 @@ pub use Rattle.spin_step_more.specs.declared.rw_calls.RwPoint.TheVariants.{First
 pub use Rattle.spin_step.specs.Acts.{begin_of}
 pub use Rattle.spin_world_core.proofs.Stands.{holds, entries_at, Stand, holds_and_starves}
 pub use Rattle.spin_world_core.proofs.Shapes.{Notes, Means, OwesAll, SoonAll, Pays, row_of}
-pub use Rattle.spin_world_core.proofs.Usual.{no_queue}

@@ -1,5 +1,5 @@
 -- What has to be shown of the table of the read-write lock.
-use Rattle.spin_world.proofs.RwNames.{◌≡◌, ℕ, ◌≤◌, true, Option, Some, None, ◌∷◌, length, refl, ap, sym, ◌∙◌, arith, eq-eqb, length-append, Plain, Kind, upgradable, asking, weight, to_read, to_read_upgradable, to_write, to_upgrade, to_upgrade_asked, Change, gets, releases, turns, is_holder, may_turn, rw_word, entries, IsExclusive, reader_limit, tells, read, read_upgradable, write, upgrade, upgrade_asked, released, is_holder-from_entries, is_holder-own, length-without_holder, empty_is, room_to_come, one_of_each, read-word, upgradable_read-word, upgradable-word, tells-holder, readers-word, writers-word, only_upgradable-word, only_asking-word, empty-word, Hold, RwCall, TryRead, Read, TryUpgradeableRead, UpgradeableRead, ReaderCount, WriterCount, Upgrade, Downgrade, DowngradeToUpgradeable, Release, RwPoint, First, Exchange, Asking, holds, entries_at, Notes, Means, OwesAll, SoonAll, no_queue, [], turned_to}
+use Rattle.spin_world.proofs.RwNames.{◌≡◌, ℕ, ◌≤◌, true, Option, Some, None, ◌∷◌, length, refl, ap, sym, ◌∙◌, arith, eq-eqb, length-append, Plain, Kind, upgradable, asking, weight, to_read, to_read_upgradable, to_write, to_upgrade, to_upgrade_asked, Change, gets, releases, turns, is_holder, may_turn, rw_word, entries, IsExclusive, reader_limit, tells, read, read_upgradable, write, upgrade, upgrade_asked, released, is_holder-from_entries, is_holder-own, length-without_holder, empty_is, room_to_come, one_of_each, read-word, upgradable_read-word, upgradable-word, tells-holder, readers-word, writers-word, only_upgradable-word, only_asking-word, empty-word, Hold, RwCall, TryRead, Read, TryUpgradeableRead, UpgradeableRead, ReaderCount, WriterCount, Upgrade, Downgrade, DowngradeToUpgradeable, Release, RwPoint, First, Exchange, Asking, holds, entries_at, Notes, Means, OwesAll, SoonAll, [], turned_to}
 use Rattle.std.specs.Prelude.{min, max}
 use Rattle.spin_step.proofs.Sums.{length-with_kind}
 use Rattle.spin_step_more.proofs.ReaderSteps.{rw_read-grants, rw_upgradable-grants, rw_write-grants, rw_upgrade-grants, rw_upgrade_asked-grants, rw_release-gives, rw_turn-gives}
@@ -92,20 +92,12 @@ module _ {V : Type 0} (v : V) (cap : ℕ) where
   owes p Release l h s w span = grind (arith, release_means p s w)
   owes p _ l h s w span = grind (arith, read_means p s w, upgradable_means p s w, write_means p s w, upgrade_means p s w)
 
-  -- if nobody disturbs the call, its exchange succeeds on a word that admits the party, at once or after a look
-
-  soon : SoonAll (rw_notes v cap)
-  soon = grind (arith, read-word, one_of_each, eq-eqb, upgradable_read-word, empty-word, is_holder-own, only_asking-word, only_upgradable-word, holder_by)
-
   pub rw_facts : Plays (rw_machine v cap) (rw_notes v cap)
   rw_facts = plays_of (record {
-    computes = grind arith;
-    operates = operates_one (rw_table v cap) refl;
-    shape_first = record { no_queue = refl; room = refl; few = omega arith };
-    one_list = λ s shape. no_queue s shape.no_queue;
+    computes = grind (arith, operates_one (rw_table v cap) refl);
     calls = λ c h. (0, grind arith);
-    begins = grind arith;
     others = λ p q c l h s step r span ne shape may belongs knows. tt;
     owes = owes;
-    soon = soon;
+    -- if nobody disturbs the call, its exchange succeeds on a word that admits the party, at once or after a look
+    soon = grind (arith, read-word, one_of_each, eq-eqb, upgradable_read-word, empty-word, is_holder-own, only_asking-word, only_upgradable-word, holder_by);
   }) refl

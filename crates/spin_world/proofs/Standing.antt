@@ -15,7 +15,7 @@ use Rattle.spin_world_core.proofs.Steps.{Plays}
 use Rattle.spin_world_core.specs.Runs.{Seen, scene, opening, entries_of}
 use Rattle.spin_world_core.specs.Users.{seen_after, passes, ReadsAgreeAcross}
 use Rattle.spin_step_more.specs.RwCalls.{rw_machine}
-use Rattle.spin_world.specs.Standing.{StandTogether, KeepsWritersOut, less, Downgrades, readers_gone, StaysAsking, AllGone, Opens, converts}
+use Rattle.spin_world.specs.Standing.{StandTogether, KeepsWritersOut, less, Downgrades, readers_gone, KeepsAsking, AllGone, Opens, converts}
 use Rattle.spin_world.proofs.RwOwed.{holder_by, rw_notes, rw_facts}
 use Rattle.spin_world_core.proofs.Reached.{good, numbers_are, stands, calls, calls_so, StandsSo}
 use Rattle.spin_step.proofs.Lists.{get-set_same}
@@ -32,11 +32,9 @@ goes_some s p q step alone found may stays = grind (arith, readers_only_go s p, 
 
 module _ {V : Type 0} (v : V) (cap : ℕ) where
   -- the next step of a call answers `Granted` exactly if the word is that of one reader that asks to upgrade
-  abbrev Upgrades : State ℕ V RwCall RwPoint → ℕ → RwCall → RwPoint → Option Hold → Type 0
-  Upgrades s p c l h = ((moves_at (rw_machine v cap) s p Step (Some (Calling c l h))).outcome ≡ Answered Granted None) ↔ ((s.words == weight asking) ≡ true)
-
   upgraded : (s : State ℕ V RwCall RwPoint) (p : ℕ) (c : RwCall) (l : RwPoint) (h : Option Hold)
-      → StandsSo (rw_notes v cap) (λ e. is_holder p asking e.holders) p c l h → Upgrades s p c l h
+      → StandsSo (rw_notes v cap) (λ e. is_holder p asking e.holders) p c l h
+      → ((moves_at (rw_machine v cap) s p Step (Some (Calling c l h))).outcome ≡ Answered Granted None) ↔ ((s.words == weight asking) ≡ true)
   upgraded s p c l h asks = grind (arith, asks)
 
   -- Over a whole schedule
@@ -60,11 +58,11 @@ module _ {V : Type 0} (v : V) (cap : ℕ) where
 
   -- An upgrade is opened by releases
 
-  stays_now : (p : ℕ) (seen : Seen ℕ V RwCall RwPoint) (es : Schedule RwCall V) → StaysAsking p m seen es → is_holder p asking seen.plain.holders ≡ true
+  stays_now : (p : ℕ) (seen : Seen ℕ V RwCall RwPoint) (es : Schedule RwCall V) → KeepsAsking p m seen es → is_holder p asking seen.plain.holders ≡ true
   stays_now p seen [] stays = stays
   stays_now p seen (e ∷ es) stays = stays.0
 
-  gone_through : (p : ℕ) (seen : Seen ℕ V RwCall RwPoint) (es : Schedule RwCall V) → Invariant f seen → StaysAsking p m seen es
+  gone_through : (p : ℕ) (seen : Seen ℕ V RwCall RwPoint) (es : Schedule RwCall V) → Invariant f seen → KeepsAsking p m seen es
       → (count_kind reading (seen_after m seen es).plain.holders + readers_gone m seen es ≡ count_kind reading seen.plain.holders)
       × (is_holder p asking (seen_after m seen es).plain.holders ≡ true)
   gone_through p seen [] here stays = (omega arith, stays)

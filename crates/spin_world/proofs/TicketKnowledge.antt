@@ -1,5 +1,5 @@
 -- What a party finds in a queue of tickets, and what answers follow from this.
-use Rattle.spin_world.proofs.TicketNames.{any_passes, ◌≡◌, ℕ, ◌==◌, ◌≤◌, ◌⊎◌, Bool, true, false, not, None, List, ◌∷◌, arith, Plain, ticket_limit, to_take_and_enter, is_empty, is_open_to, serving_word, is_held, Numbered, nobody_stands, somebody_stands, plain, mark_of, is_left, []}
+use Rattle.spin_world.proofs.TicketNames.{any_passes, ◌≡◌, ℕ, ◌==◌, ◌≤◌, ◌⊎◌, Bool, true, false, not, None, List, ◌∷◌, arith, Plain, ticket_limit, to_take_and_enter, is_empty, is_open_to, serving_word, is_held, HasTicketNumbers, nobody_stands, somebody_stands, plain, mark_of, is_left, []}
 use Rattle.spin_step.specs.Calls.{AnyOf, Mark}
 use Rattle.spin_step.specs.Asks.{same}
 use Rattle.std.specs.List.{list_any}
@@ -7,7 +7,7 @@ use Rattle.std.specs.List.{list_any}
 -- the shape of the lock: a queue, and no other holders
 pub record Queue (s : Plain) : Type 0 where
   pub no_holders : s.holders ≡ []
-  pub numbered : Numbered s
+  pub numbered : HasTicketNumbers s
   pub in_range : is_empty s.tickets ≡ false → s.next ≤ ticket_limit
 
 -- some party had a ticket before some step of the span, or k is the number served now

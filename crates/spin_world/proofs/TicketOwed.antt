@@ -1,5 +1,5 @@
 -- What has to be shown of the ticket lock's table.
-use Rattle.spin_world.proofs.TicketNames.{serving-advances, ◌≡◌, ℕ, ◌+◌, ◌==◌, true, false, Option, Some, None, List, ◌∷◌, refl, arith, Plain, effect, to_take_ticket, to_enter, to_take_and_enter, Change, gets, serves, next_word, serving_word, entries, take, enters_in_turn, numbered-given, numbered-serves, serving-taken, serving-entered, entered_is_served, stands, Hold, TicketWords, TicketCall, Lock, TryLock, IsLocked, Release, TicketPoint, LoadNext, Take, Await, TryLoadNext, TryLoadServing, TryTake, LookServing, LookNext, Serve, own_count, passing, is_left, ticket_table, ticket_machine, Plays, queues, entries_at, any_map, Point, nowhere, looked, onward, Notes, Means, OwesAll, no_holders, []}
+use Rattle.spin_world.proofs.TicketNames.{serving-advances, ◌≡◌, ℕ, ◌+◌, ◌==◌, true, false, Option, Some, None, List, ◌∷◌, refl, arith, Plain, effect, to_take_ticket, to_enter, to_take_and_enter, Change, gets, serves, next_word, serving_word, entries, take, enters_in_turn, numbered-given, numbered-serves, serving-taken, serving-entered, entered_is_served, stands, Hold, TicketWords, TicketCall, Lock, TryLock, IsLocked, Release, TicketPoint, LoadNext, Take, Await, TryLoadNext, TryLoadServing, TryTake, LookServing, LookNext, Serve, own_count, passing, is_left, ticket_table, ticket_machine, Plays, queues, entries_at, any_map, Point, nowhere, looked, onward, Notes, Means, OwesAll, []}
 use Rattle.spin_step.specs.Parties.{first_alone_entered}
 use Rattle.spin_step.proofs.TicketSteps.{ticket_take-grants_alone, ticket_serve-gives}
 use Rattle.spin_step.specs.declared.place.Hold.TheVariants as hold
@@ -59,12 +59,8 @@ module _ {V : Type 0} (v : V) (first : ℕ) where
 
   pub ticket_facts : Plays (ticket_machine v first) (ticket_notes v first)
   ticket_facts = plays_of (record {
-    computes = grind arith;
-    operates = grind arith;
-    shape_first = record { no_holders = refl; numbered = (omega arith, tt); in_range = λ some. absurd (cc (some)) };
-    one_list = λ s queue. no_holders s queue.no_holders;
+    computes = grind (arith, eqb_self);
     calls = λ c h. (0, grind arith);
-    begins = λ p c h s. grind (arith, eqb_self);
     others = λ p q c l h s step r span ne queue may belongs knows.
         grind (arith, λ (c : Change). serving-advances s c queue.numbered, ne_eqb q p ne);
     owes = owes;

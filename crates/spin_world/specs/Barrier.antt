@@ -9,19 +9,15 @@ use Rattle.spin_step.specs.Calls.{says_of}
 use Rattle.spin_step.specs.Asks.{meets}
 use Rattle.spin_world.specs.BarrierKind.{barrier}
 use Rattle.spin_world.specs.BarrierTable.{BarrierMachine}
-use Rattle.spin_world_core.specs.Kinds.{BeginAt}
+use Rattle.spin_world_core.specs.Kinds.{IsLock, BeginAt}
 
 -- `m` is the machine of a barrier with groups of n
 pub record IsBarrierOf (n : ℕ) (m : BarrierMachine) : Type 0 where
-  pub lock_kind : m.lock_kind ≡ barrier
-  pub group : m.group ≡ n
   -- nobody has arrived, and no group is full yet
-  pub opens_empty : m.words ≡ record { count = 0; generation = 0 }
-  pub numbers : (w : BarrierWords) → m.numbers w ≡ w.count ∷ w.generation ∷ []
+  pub is_lock : IsLock barrier (record { count = 0; generation = 0 }) (λ w. w.count ∷ w.generation ∷ []) None false m
+  pub open is_lock use *
+  pub group : m.group ≡ n
   -- no party may hold a barrier
   pub cap : m.cap ≡ 0
-  pub no_value : m.value ≡ None
-  pub owned : m.owned ≡ false
   pub wait : (h : Option Hold) → m.asks Wait h ≡ meets
-  pub says : (a : Answer ℕ) → m.says a ≡ says_of a
   pub calls : BeginAt m ((Wait, None) ∷ [])

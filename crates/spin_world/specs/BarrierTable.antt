@@ -16,12 +16,12 @@ use Rattle.spin_step.specs.Acts.{Memory, two_numbers, Act, load_if, section, eit
 use Rattle.spin_step.specs.Tables.{usual_table}
 use Rattle.spin_step.specs.Asks.{meets}
 
--- the words after one more arrival at a barrier with groups of n; `leads` says whether this arrival leads its group
+-- the words after one more arrival at a barrier with groups of n; `leads_group` says whether this arrival leads its group
 abbrev pub arrive : ℕ → BarrierWords → BarrierWords
 arrive n w = let a = arrived n w.count w.generation in record { count = a.0.0; generation = a.0.1 }
 
-abbrev pub leads : ℕ → BarrierWords → Bool
-leads n w = (arrived n w.count w.generation).1
+abbrev pub leads_group : ℕ → BarrierWords → Bool
+leads_group n w = (arrived n w.count w.generation).1
 
 -- the count is below the group's size
 abbrev pub is_below : ℕ → BarrierWords → Bool
@@ -35,12 +35,12 @@ is_past g generation = not (generation == g)
 abbrev pub barrier_memory : Memory BarrierWords
 barrier_memory = two_numbers (λ w. w.count) (λ w. w.generation) (λ k w. record w { count = k }) (λ k w. record w { generation = k })
 
-abbrev pub word_of : BarrierPoint → ℕ
-word_of l = elim l [ Arrive ↦ 0 | Leave g ↦ 1 ]
+abbrev pub barrier_word : BarrierPoint → ℕ
+barrier_word l = elim l [ Arrive ↦ 0 | Leave g ↦ 1 ]
 
 -- what the call does at each point; no arrival is refused
 abbrev pub act_of : ℕ → BarrierPoint → Option Hold → Act BarrierWords BarrierPoint (Answer ℕ)
-act_of n Arrive h = section (is_below n) (λ w. Some (arrive n w)) (λ p. arrives p) (λ w. either (leads n w) (Answers Leader h) (Continue (Leave w.generation))) (λ w. Continue Arrive)
+act_of n Arrive h = section (is_below n) (λ w. Some (arrive n w)) (λ p. arrives p) (λ w. either (leads_group n w) (Answers Leader h) (Continue (Leave w.generation))) (λ w. Continue Arrive)
 act_of n (Leave g) h = load_if (is_past g) (λ k. Answers Follower h) (λ k. Continue (Leave g))
 
 abbrev pub BarrierMachine : Type 0
@@ -51,7 +51,7 @@ barrier_table n = let opening : BarrierWords = record { count = 0; generation = 
     record (usual_table None barrier opening barrier_memory (λ c h. Arrive) (λ c l h. act_of n l h) (λ c h. meets)) {
       owned = false;
       group = n;
-      word = word_of;
+      word = barrier_word;
     }
 
 abbrev pub barrier_machine : ℕ → BarrierMachine

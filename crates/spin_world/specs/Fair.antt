@@ -1,6 +1,6 @@
 -- What a fair lock is: its first state, how many parties may starve, and what each of its calls promises. The promise of
 -- a call also says what its party holds when the call begins.
-use Rattle.spin_world_core.specs.Kinds.{Asks}
+use Rattle.spin_world_core.specs.Kinds.{IsLock, Asks}
 use Rattle.std.specs.Prelude.{◌≡◌, ℕ, true, min, Some, None, [], ◌∷◌}
 use Rattle.spin_step.specs.Plain.{to_lock_unregistered, to_lock_starving, to_lock_starving_alone, to_starve}
 use Rattle.spin_step_more.specs.Starvers.{most_starvers}
@@ -21,12 +21,9 @@ FairMachine V = Machine ℕ V FairCall FairPoint (Answer V)
 -- `m` is the machine of a fair lock with this cap of starvers. A `lock` tries to register when more than `patience`
 -- of its looks have found the flag set.
 pub record IsFairLock {V : Type 0} (given : V) (cap patience : ℕ) (m : FairMachine V) : Type 0 where
-  pub lock_kind : m.lock_kind ≡ fair
+  pub is_lock : IsLock fair 0 (λ w. w ∷ []) (Some given) true m
+  pub open is_lock use *
   pub most_starve : m.cap ≡ min cap most_starvers
-  pub opens_empty : m.words ≡ 0
-  pub number : (w : ℕ) → m.numbers w ≡ w ∷ []
-  pub value : m.value ≡ Some given
-  pub owned : m.owned ≡ true
   pub lock : Asks m Lock (waits_or_starves patience)
   pub try_lock : Asks m TryLock (tries to_lock_unregistered)
   pub try_lock_starver : Asks m TryLockStarver (tries_to_know to_lock_unregistered)
@@ -37,7 +34,6 @@ pub record IsFairLock {V : Type 0} (given : V) (cap patience : ℕ) (m : FairMac
   pub starver_lock : Asks m StarverLock waits_starving
   pub starver_drop : Asks m StarverDrop (gives_back is_registered (Some Starver))
   pub release : Asks m Release (gives_back is_write (Some Write))
-  pub says : (a : Answer V) → m.says a ≡ says_of a
   pub calls : BeginAt m ((Lock, None) ∷ (TryLock, None) ∷ (TryLockStarver, None) ∷ (IsLocked, None) ∷ (Starve, None) ∷ (Release, Some Write) ∷ [])
   pub starving : BeginAt m ((StarverTryLockFair, Some Starver) ∷ (StarverTryLock, Some Starver) ∷ [])
   pub starvers : BeginAt m ((StarverLock, Some Starver) ∷ (StarverDrop, Some Starver) ∷ [])

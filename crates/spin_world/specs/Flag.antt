@@ -1,5 +1,5 @@
 -- What a flag is: its first state, and what each of its calls promises. The promise also says what the party holds when the call begins.
-use Rattle.spin_world_core.specs.Kinds.{Asks}
+use Rattle.spin_world_core.specs.Kinds.{IsLock, Asks}
 use Rattle.std.specs.Prelude.{◌≡◌, Bool, true, false, Option, Some, None, [], ◌∷◌}
 use Rattle.spin_step.specs.Plain.{to_write}
 use Rattle.spin_step.specs.Steps.{bit}
@@ -15,17 +15,13 @@ use Rattle.spin_step.specs.FlagKind.{flag}
 use Rattle.spin_step.specs.Machines.{Machine}
 use Rattle.spin_world_core.specs.Kinds.{BeginAt, AnswersIn}
 
-pub record IsFlag {V : Type 0} (given : V) (m : Machine Bool V FlagCall FlagPoint (Answer V)) : Type 0 where
-  pub lock_kind : m.lock_kind ≡ flag
-  pub opens_clear : m.words ≡ false
-  pub number : (w : Bool) → m.numbers w ≡ bit w ∷ []
-  pub value : m.value ≡ Some given
-  pub owned : m.owned ≡ true
+pub record IsFlagMachine {V : Type 0} (given : V) (m : Machine Bool V FlagCall FlagPoint (Answer V)) : Type 0 where
+  pub is_lock : IsLock flag false (λ w. bit w ∷ []) (Some given) true m
+  pub open is_lock use *
   pub lock : Asks m Lock waits_to_write
   pub try_lock : Asks m TryLock (tries to_write)
   pub try_lock_weak : Asks m TryLockWeak (tries_weakly to_write)
   pub is_locked : Asks m IsLocked looks
   pub release : (h : Option Hold) → m.asks Release h ≡ gives_back is_write h
-  pub says : (a : Answer V) → m.says a ≡ says_of a
   pub calls : BeginAt m ((Lock, None) ∷ (TryLock, None) ∷ (TryLockWeak, None) ∷ (IsLocked, None) ∷ (Release, Some Write) ∷ [])
   pub soon : AnswersIn m 2 Lock

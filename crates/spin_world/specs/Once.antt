@@ -11,7 +11,7 @@ use Rattle.spin_step.specs.Asks.{fails_to_initialize, initializes, looks_complet
 use Rattle.spin_step.specs.OnceKind.{once}
 use Rattle.spin_step.specs.Machines.{opening_plain}
 use Rattle.spin_step.specs.Acts.{gives_of}
-use Rattle.spin_world_core.specs.Kinds.{BeginAt}
+use Rattle.spin_world_core.specs.Kinds.{IsLock, BeginAt}
 use Rattle.spin_step.specs.OnceCalls.{OnceMachine}
 
 -- the call promises this, and its closure makes this value, if any
@@ -20,14 +20,11 @@ Takes m c what value = (h : Option Hold) → (m.asks c h ≡ what) × (m.brings 
 
 -- `m` is the machine of a `Once` that opens with the value `given`, or opens empty
 pub record IsOnceOf {V : Type 0} (given : Option V) (m : OnceMachine V) : Type 0 where
-  pub lock_kind : m.lock_kind ≡ once
-  pub value : m.value ≡ given
-  pub opens_empty : given ≡ None → (m.words ≡ 0) × ((opening_plain m).phase ≡ nothing)
-  pub opens_complete : (v : V) → given ≡ Some v → (m.words ≡ 2) × ((opening_plain m).phase ≡ complete)
-  pub number : (w : ℕ) → m.numbers w ≡ w ∷ []
+  pub is_lock : IsLock once (elim given [ None ↦ 0 | Some v ↦ 2 ]) (λ w. w ∷ []) given true m
+  pub open is_lock use *
+  pub phase : (opening_plain m).phase ≡ elim given [ None ↦ nothing | Some v ↦ complete ]
   -- no party may hold a `Once`
   pub cap : m.cap ≡ 0
-  pub owned : m.owned ≡ true
   pub call_once : (v : V) → Takes m (CallOnce v) initializes (Some v)
   pub try_call_once_ok : (v : V) → Takes m (TryCallOnceOk v) initializes (Some v)
   pub try_call_once_err : Takes m TryCallOnceErr fails_to_initialize None
@@ -36,7 +33,6 @@ pub record IsOnceOf {V : Type 0} (given : Option V) (m : OnceMachine V) : Type 0
   pub poll : Takes m Poll polls None
   pub get : Takes m Get looks_for_value None
   pub is_completed : Takes m IsCompleted looks_complete None
-  pub says : (a : Answer V) → m.says a ≡ says_of a
   -- only the answer `Value` gives a value
   pub gives : (a : Answer V) → m.gives a ≡ gives_of a
   pub closures : (v : V) → BeginAt m ((CallOnce v, None) ∷ (TryCallOnceOk v, None) ∷ (TryCallOnceErr, None) ∷ (InitFromRef v, None) ∷ [])

@@ -1,6 +1,6 @@
 -- What a read-write lock is: its first state, how many parties it admits, and what each of its calls promises. The
 -- promise of a call also says what its party holds when the call begins.
-use Rattle.spin_world_core.specs.Kinds.{Asks}
+use Rattle.spin_world_core.specs.Kinds.{IsLock, Asks}
 use Rattle.std.specs.Prelude.{◌≡◌, ℕ, true, Option, Some, None, [], ◌∷◌, min}
 use Rattle.spin_step.specs.Plain.{reading, upgradable, to_read, to_read_upgradable, to_write, to_upgrade, fresh}
 use Rattle.spin_step_more.specs.Readers.{reader_limit}
@@ -20,11 +20,8 @@ abbrev pub RwMachine : Type 0 → Type 0
 RwMachine V = Machine ℕ V RwCall RwPoint (Answer V)
 
 pub record IsRw {V : Type 0} (given : V) (cap : ℕ) (m : RwMachine V) : Type 0 where
-  pub lock_kind : m.lock_kind ≡ rw
-  pub opens_free : m.words ≡ 0
-  pub number : (w : ℕ) → m.numbers w ≡ w ∷ []
-  pub value : m.value ≡ Some given
-  pub owned : m.owned ≡ true
+  pub is_lock : IsLock rw 0 (λ w. w ∷ []) (Some given) true m
+  pub open is_lock use *
   -- at first nobody holds; as many parties may hold as the cap says, but no more than the reader limit
   pub plain : opening_plain m ≡ fresh (min cap reader_limit) 0 0
   pub try_read : Asks m TryRead (looks_and_tries to_read)
@@ -42,7 +39,6 @@ pub record IsRw {V : Type 0} (given : V) (cap : ℕ) (m : RwMachine V) : Type 0 
   pub downgrade : (h : Option Hold) → m.asks Downgrade h ≡ turns_to is_above_read h reading
   pub downgrade_to_upgradeable : (h : Option Hold) → m.asks DowngradeToUpgradeable h ≡ turns_to is_write h upgradable
   pub release : (h : Option Hold) → m.asks Release h ≡ gives_back is_held_some h
-  pub says : (a : Answer V) → m.says a ≡ says_of a
   pub reads : BeginAt m ((TryRead, None) ∷ (Read, None) ∷ (TryUpgradeableRead, None) ∷ (UpgradeableRead, None) ∷ [])
   pub writes : BeginAt m ((TryWrite, None) ∷ (TryWriteWeak, None) ∷ (Write, None) ∷ (ReaderCount, None) ∷ (WriterCount, None) ∷ [])
   pub upgrades : BeginAt m ((TryUpgrade, Some hold.Upgradable) ∷ (TryUpgradeWeak, Some hold.Upgradable) ∷ (Upgrade, Some hold.Upgradable) ∷ [])

@@ -34,9 +34,7 @@ KeepsWritersOut p s = (q : ℕ) → (q ≡ p → ⊥) → (is_open_to s q to_wri
 
 -- what a party holds after its downgrade
 abbrev pub less : RwCall → Option Hold
-less Downgrade = Some hold.Read
-less DowngradeToUpgradeable = Some hold.Upgradable
-less _ = None
+less c = elim c [ Downgrade ↦ Some hold.Read | DowngradeToUpgradeable ↦ Some hold.Upgradable | _ ↦ None ]
 
 -- a downgrade is one step; in the states before it and after it no other party may become the writer
 pub record DowngradesAtOnce {V : Type 0} (m : RwMachine V) (n : ℕ) (past : Schedule RwCall V) (p : ℕ) (held : Hold) : Type 0 where
@@ -54,9 +52,9 @@ abbrev pub readers_gone : {W V C L A : Type 0} → Machine W V C L A → Seen W 
 readers_gone m seen es = steps_made reader_goes m seen es
 
 -- the party is the holder that asks to upgrade, before and after each of these entries
-abbrev pub StaysAsking : {W V C L A : Type 0} → ℕ → Machine W V C L A → Seen W V C L → Schedule C V → Type 0
-StaysAsking p m seen [] = is_holder p asking seen.plain.holders ≡ true
-StaysAsking p m seen (e ∷ es) = (is_holder p asking seen.plain.holders ≡ true) × StaysAsking p m (scene m seen e.0 e.1).after es
+abbrev pub KeepsAsking : {W V C L A : Type 0} → ℕ → Machine W V C L A → Seen W V C L → Schedule C V → Type 0
+KeepsAsking p m seen [] = is_holder p asking seen.plain.holders ≡ true
+KeepsAsking p m seen (e ∷ es) = (is_holder p asking seen.plain.holders ≡ true) × KeepsAsking p m (scene m seen e.0 e.1).after es
 
 -- all readers that held after `past` have released in `further`
 abbrev pub AllGone : {V : Type 0} → RwMachine V → ℕ → Schedule RwCall V → Schedule RwCall V → Type 0
@@ -75,7 +73,7 @@ pub record OpensByReleases {V : Type 0} (m : RwMachine V) (n : ℕ) (past furthe
       → (outcome_after m n (past ++ further) p Step ≡ Answered Granted None) ↔ AllGone m n past further
 
 abbrev pub Opens : {V : Type 0} → RwMachine V → ℕ → Schedule RwCall V → Schedule RwCall V → Type 0
-Opens m n past further = (p : ℕ) → StaysAsking p m (seen_at m n past) further → OpensByReleases m n past further p
+Opens m n past further = (p : ℕ) → KeepsAsking p m (seen_at m n past) further → OpensByReleases m n past further p
 
 -- the calls that change what a party holds, but keep its guard
 abbrev pub converts : RwCall → Bool

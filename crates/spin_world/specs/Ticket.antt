@@ -1,5 +1,5 @@
 -- What a ticket lock is: its first state, and what each of its calls promises. The promise also says what the party holds when the call begins.
-use Rattle.spin_world_core.specs.Kinds.{Asks}
+use Rattle.spin_world_core.specs.Kinds.{IsLock, Asks}
 use Rattle.std.specs.Prelude.{◌≡◌, ℕ, true, Option, Some, None, [], ◌∷◌}
 use Rattle.spin_step.specs.Plain.{to_take_and_enter}
 use Rattle.spin_step.specs.declared.place.Hold.{Hold}
@@ -19,16 +19,12 @@ abbrev pub TicketMachine : Type 0 → Type 0
 TicketMachine V = Machine TicketWords V TicketCall TicketPoint (Answer V)
 
 pub record IsTicketLock {V : Type 0} (given : V) (first : ℕ) (m : TicketMachine V) : Type 0 where
-  pub lock_kind : m.lock_kind ≡ ticket
+  pub is_lock : IsLock ticket (record { next = first; serving = first }) (λ w. w.next ∷ w.serving ∷ []) (Some given) true m
+  pub open is_lock use *
   pub first_ticket : m.first ≡ first
-  pub opens_empty : m.words ≡ record { next = first; serving = first }
-  pub numbers : (w : TicketWords) → m.numbers w ≡ w.next ∷ w.serving ∷ []
-  pub value : m.value ≡ Some given
-  pub owned : m.owned ≡ true
   pub lock : Asks m Lock waits_to_enter
   pub try_lock : Asks m TryLock (tries_in 3 to_take_and_enter)
   pub is_locked : Asks m IsLocked looks
   pub release : (h : Option Hold) → m.asks Release h ≡ gives_back is_ticket h
-  pub says : (a : Answer V) → m.says a ≡ says_of a
   pub calls : BeginAt m ((Lock, None) ∷ (TryLock, None) ∷ (IsLocked, None) ∷ [])
   pub releases : (t : ℕ) → BeginAt m ((Release, Some (Ticket t)) ∷ [])

@@ -7,7 +7,7 @@ use Rattle.spin_world_core.specs.Runs.{Schedule}
 use Rattle.std.specs.Prelude.{◌≡◌, ℕ, ◌+◌, ◌<◌, ◌↔◌, Bool, true, false, Option, Some, None, List, [], ◌∷◌, ◌++◌, slice_get}
 use Rattle.spin_step.specs.Plain.{Plain, ticket, ticket_limit, to_take_and_enter, Change, serves, next_word, serving_word}
 use Rattle.spin_step.specs.Parties.{Entries, entries, no_entries, first_alone_entered}
-use Rattle.spin_step.specs.Tickets.{Numbered}
+use Rattle.spin_step.specs.Tickets.{HasTicketNumbers}
 use Rattle.spin_step.specs.declared.answer.Answer.TheVariants.{Granted}
 use Rattle.spin_step.specs.declared.place.Hold.{Hold}
 use Rattle.spin_step.specs.declared.place.Hold.TheVariants as hold
@@ -33,10 +33,10 @@ tickets_gone m seen es = steps_made serves_one m seen es
 
 -- The words w and the plain lock s of a ticket lock agree. The tickets have all numbers from the served one to the
 -- last one taken, and only the first ticket may have entered.
-pub record InOrder (w : TicketWords) (s : Plain) : Type 0 where
+pub record TicketsInOrder (w : TicketWords) (s : Plain) : Type 0 where
   pub next : w.next ≡ next_word s
   pub serving : w.serving ≡ serving_word s
-  pub numbered : Numbered s
+  pub numbered : HasTicketNumbers s
   pub one_entered : first_alone_entered s.tickets ≡ true
 
 -- the entries, in the lists of the plain lock, of a party that waits with the ticket t: the ticket has not entered,

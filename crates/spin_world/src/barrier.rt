@@ -1,7 +1,7 @@
 //! The barrier, as a table of the steps of its call. Begin with [`BarrierObject::new`] and [`BarrierCall`].
 ghost use Rattle.std.specs.Prelude.{◌≡◌, true};
 ghost use Rattle.spin_step.specs.Acts.{step_by, can_by};
-ghost use Rattle.spin_world.specs.BarrierTable.{barrier_memory, word_of, act_of, barrier_machine};
+ghost use Rattle.spin_world.specs.BarrierTable.{barrier_memory, barrier_word, act_of, barrier_machine};
 ghost use Rattle.spin_world.specs.Barrier.{IsBarrierOf};
 
 mod laws;
@@ -117,8 +117,8 @@ impl Object for BarrierObject {
         local: BarrierPoint,
         holds: Option<Hold>,
     ) -> Stepped<BarrierWords, u64, BarrierPoint, Answer<u64>>
-        requires { can_by barrier_memory (word_of local) (act_of self.now.n local holds) words ≡ true }
-        ensures { result ≡ step_by barrier_memory (word_of local) (act_of self.now.n local holds) words }
+        requires { can_by barrier_memory (barrier_word local) (act_of self.now.n local holds) words ≡ true }
+        ensures { result ≡ step_by barrier_memory (barrier_word local) (act_of self.now.n local holds) words }
     {
         let _ = (value, call);
         let BarrierWords { count, generation } = words;

@@ -13,8 +13,8 @@ pub use laws::{
     a_word_is_zero_when_nobody_holds_or_starves, starvers_come_first,
 };
 use spin_step::Steps;
-use spin_step::stepping::{refused, stepped};
 use spin_step_more::{FairCall, FairPoint, FairTable, fair};
+use spin_world_core::stepping::{refused, stepped};
 use spin_world_core::{Answer, Hold, Next, Object, Stepped};
 
 /// The lock of a flag and a number of starvers, which go first.

@@ -2,13 +2,13 @@
 ghost use Rattle.std.specs.Prelude.{◌≡◌, true};
 ghost use Rattle.spin_step.specs.Acts.{step_by, can_by};
 ghost use Rattle.spin_step.specs.FlagCalls.{flag_memory, act_of, flag_machine};
-ghost use Rattle.spin_world.specs.Flag.{IsFlag};
+ghost use Rattle.spin_world.specs.Flag.{IsFlagMachine};
 
 mod laws;
 
 pub use laws::a_flag_is_clear_when_nobody_holds;
-use spin_step::stepping::{refused, stepped};
 use spin_step::{FlagCall, FlagPoint, FlagTable, Steps};
+use spin_world_core::stepping::{refused, stepped};
 use spin_world_core::{Answer, Hold, Next, Object, Stepped};
 
 /// The lock of one flag. The flag is set while a party holds the lock.
@@ -21,11 +21,11 @@ impl<V: Copy> Flag<V> {
     /// Creates a lock that no party holds, with this value.
     ///
     /// # Contract
-    /// The object has this value. Its machine is that of a flag (`IsFlag`): it opens clear with the value, and each
+    /// The object has this value. Its machine is that of a flag (`IsFlagMachine`): it opens clear with the value, and each
     /// call asks what [`FlagCall`] says.
     pub fn new(value: V) -> Flag<V>
         ensures fields { result ≡ record { value = value } }
-        ensures named { IsFlag value (⟦<Flag<V> as Object>⟧.machine result) }
+        ensures named { IsFlagMachine value (⟦<Flag<V> as Object>⟧.machine result) }
     {
         Flag { value }
     }

@@ -11,8 +11,8 @@ pub use laws::{
     a_value_is_answered_at_once, a_value_is_looked_at_where_it_is_complete, a_value_stays,
     one_closure_runs_at_a_time,
 };
-use spin_step::stepping::stepped_with;
 use spin_step::{OnceCall, OncePoint, OnceTable, Steps};
+use spin_world_core::stepping::stepped_with;
 use spin_world_core::{Answer, Hold, Next, Object, Stepped};
 
 /// The cell that is filled once, by the first closure that gives a value.

@@ -11,9 +11,9 @@ pub use laws::{
     looks_agree_across_conversions, readers_stand_beside_no_writer,
 };
 use spin_step::Steps;
-use spin_step::stepping::{refused, stepped};
 use spin_step_more::rw;
 use spin_step_more::rw_calls::{RwCall, RwPoint, RwTable};
+use spin_world_core::stepping::{refused, stepped};
 use spin_world_core::{Answer, Hold, Next, Object, Stepped};
 
 /// The lock of readers, one upgradable reader and one writer, in one word.

@@ -9,8 +9,8 @@ mod laws;
 pub use laws::{
     a_try_finds_its_number_by_two_loads, tickets_enter_by_releases, tickets_stand_in_order,
 };
-use spin_step::stepping::{refused, stepped};
 use spin_step::{Steps, TicketCall, TicketPoint, TicketTable, TicketWords};
+use spin_world_core::stepping::{refused, stepped};
 use spin_world_core::{Answer, Hold, Next, Object, Stepped};
 
 /// The ticket lock: parties take tickets, and enter in the order of their numbers.

@@ -18,9 +18,6 @@ module _ {W V C L A : Type 0} {t : Table W V C L A} {n : Notes t} (pays : Pays n
   no_completion : (p : ℕ) (c : C) (l : L) (h : Option Hold) (w : W) (q : ℕ) → change_by t.memory (t.word l) (t.act c l h) p w ≡ Some (completes q) → ⊥
   no_completion p c l h w q is = true≢false (sym (fits_change t pays.fits pays.operates p c l h _ w (completes q) is).0 ∙ no_value)
 
-  silent : (v : Option V) (next : Next L A) → NextGives (machine_of t) v next
-  silent v next = grind (arith, no_value)
-
   pub plays_of : Plays (machine_of t) n
   plays_of = record {
     pays = pays;
@@ -28,9 +25,9 @@ module _ {W V C L A : Type 0} {t : Table W V C L A} {n : Notes t} (pays : Pays n
     words = grind arith;
     continues = grind arith;
     refuses = λ c l h next is. (next, is, refl);
-    refusal_gives = grind (arith, silent);
+    refusal_gives = grind (arith, no_value);
     values = λ p c l h s v w encodes shape phase opens.
-        grind (arith, no_value, silent, uncompleted v, no_completion p c l h w);
+        grind (arith, no_value, uncompleted v, no_completion p c l h w);
     written = grind (arith, no_value);
   }
 

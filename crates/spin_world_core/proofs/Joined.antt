@@ -44,10 +44,6 @@ last_from start p k found here [] is = is
 last_from start p k found here (x ∷ xs) is = let b = (x.party == p) && is_begun x.outcome in
     grind (arith, last_from start p (k + 1) (if b then Some (start + k) else found) (if b then Some k else here) xs)
 
-begin_from : {W V A : Type 0} (p : ℕ) (xs ys : List (Event W V A)) → began_from (length xs) (last_begin p 0 None (xs ++ ys)) ≡ last_begin p 0 None ys
-begin_from p xs ys = let n = length xs in
-    grind (arith, last_begin-append p 0 None xs ys, last_from n p 0 (last_begin p 0 None xs) None ys, none_from n p 0 None xs)
-
 length-with_begins : {W V A : Type 0} (before xs : List (Event W V A)) → length (with_begins before xs) ≡ length xs
 length-with_begins before [] = refl
 length-with_begins before (x ∷ xs) = ap suc (length-with_begins (before ++ x ∷ []) xs)
@@ -55,7 +51,8 @@ length-with_begins before (x ∷ xs) = ap suc (length-with_begins (before ++ x �
 -- a run that starts after the events xs has the events of the longer run, with places counted from its own start
 with_begins_from : {W V A : Type 0} (xs before ys : List (Event W V A)) → with_begins before ys ≡ map (event_from (length xs)) (with_begins (xs ++ before) ys)
 with_begins_from xs before [] = refl
-with_begins_from xs before (y ∷ ys) = grind (arith, begin_from, with_begins_from xs (before ++ y ∷ []) ys, append_assoc)
+with_begins_from xs before (y ∷ ys) = let n = length xs in let p = y.party in
+    grind (arith, last_begin-append p 0 None xs before, last_from n p 0 (last_begin p 0 None xs) None before, none_from n p 0 None xs, with_begins_from xs (before ++ y ∷ []) ys, append_assoc)
 
 -- Two runs of one world: the second run starts in the state in which the first has stopped, on the same object. They
 -- end as one run does, their transcripts are its transcript, cut in two, and both together tell its scenes.

@@ -5,7 +5,6 @@ pub mod Stands
 pub mod Rows
 pub mod Operating
 pub mod Shapes
-pub mod Usual
 pub mod Steps
 pub mod Paid
 pub mod Undisturbed
@@ -26,3 +25,4 @@ pub mod Transcripts
 pub mod Otherwise
 pub mod Joined
 pub mod Begins
+pub mod Made

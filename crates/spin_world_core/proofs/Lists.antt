@@ -16,6 +16,5 @@ pub get-set : {X : Type 0} (P : Option X → Type 0) (xs : List X) (p q : ℕ) (
 get-set P xs p q x lt here away = grind (arith, get-set_within xs p x lt, get-set_other xs p q x, here, away)
 
 pub get-replicate : {X : Type 0} (P : Option X → Type 0) (x : X) (n i : ℕ) → P None → P (Some x) → P (slice_get (replicate n x) i)
-get-replicate P x (suc n) (suc i) none some = get-replicate P x n i none some
-get-replicate P x (suc n) zero none some = some
 get-replicate P x zero i none some = none
+get-replicate P x (suc n) i none some = grind (arith, get-replicate P x n (pred i), none, some)

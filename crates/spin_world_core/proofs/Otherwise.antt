@@ -1,16 +1,12 @@
--- Ways to show that a lock is wrong: a part of a claim is false, a party takes four undisturbed steps without an answer,
--- or a step is no single operation.
-use Rattle.std.proofs.Common.{◌≡◌, ℕ, ◌+◌, ◌<◌, ◌⊎◌, true, false, List, [], ◌∷◌, ◌++◌, slice_set, get_or, arith}
+-- Ways to show that a lock is wrong: a party takes four undisturbed steps without an answer, or a step is no single
+-- operation.
+use Rattle.std.proofs.Common.{◌≡◌, ℕ, ◌+◌, ◌<◌, true, false, List, [], ◌∷◌, ◌++◌, slice_set, get_or, arith}
 use Rattle.spin_step.specs.StepKinds.{is_weak}
 use Rattle.spin_step.specs.Calls.{LockKind, Asked, Mark}
 use Rattle.spin_world_core.specs.Spans.{own_count}
 use Rattle.spin_world_core.specs.Undisturbed.{is_open_now, Leaves, AllOf, UndisturbedTakes}
 use Rattle.spin_step.specs.Operations.{performed}
 use Rattle.spin_step.specs.declared.table.Operation.{Operation}
-
--- what is left of a claim if its first part is false
-pub otherwise : {X : Type 0} → (true ≡ false) ⊎ X → X
-otherwise claim = grind arith
 
 -- the step m is the party's own, and is no spurious failure
 pub record IsOwn (p : ℕ) (m : Mark) : Type 0 where

@@ -8,7 +8,7 @@ all-get test (y ∷ xs) q x all e = grind (arith, all-get test xs (pred q) x)
 
 all-from : {X : Type 0} (test : X → Bool) (xs : List X) → ((q : ℕ) (x : X) → slice_get xs q ≡ Some x → test x ≡ true) → list_all test xs ≡ true
 all-from test [] each = refl
-all-from test (x ∷ xs) each = and_from (test x) (list_all test xs) (each zero x refl) (all-from test xs (λ q y e. each (suc q) y e))
+all-from test (x ∷ xs) each = grind (arith, each zero x, all-from test xs (λ q. each (suc q)))
 
 pub yields_at : {C L : Type 0} (s : Plain) (q : ℕ) (span : List Mark) (o : Option (Seat C L)) → StandsFor s q span o
     → ((x : Seat C L) → o ≡ Some x → yields_to_owner x ≡ true) → YieldsToOwner s q o

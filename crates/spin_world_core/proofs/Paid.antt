@@ -3,8 +3,8 @@ use Rattle.spin_world_core.proofs.Names.{◌≤◌, if◌then◌else◌, LockKin
 use Rattle.spin_world_core.proofs.Steps.{Makes, told, played, GoesOnOpen, Continues, Moves, NextIs, AnswersWithin, AtStep, Plays}
 use Rattle.spin_world_core.proofs.Operating.{change_is, fits_made}
 use Rattle.spin_world_core.proofs.Stands.{stand_of, held_at, stand-mine}
-use Rattle.spin_world_core.proofs.Rows.{Known, Opened, OwesRight, Branch, goes, finds_open, loses, misses, Branched, need_of, Needs, needs-mine, goes_within, ends_within, any_map, moment_of, Row, IsSound, Expects, known-other}
-use Rattle.spin_world_core.proofs.Shapes.{AimsRow, SoonRow, Notes, OwesBy, is_answer, row_of, KnowsRow, Knows, AtPoint, InCall, FollowsRow, Follows, Owes, OwesRow, answers_by, BeginsRow, sure_by, aim_by, aimed, Aimed}
+use Rattle.spin_world_core.proofs.Rows.{sure_by, Known, Opened, OwesRight, Branch, goes, finds_open, loses, misses, Branched, need_of, Needs, needs-mine, goes_within, ends_within, any_map, moment_of, Row, IsSound, Expects, known-other}
+use Rattle.spin_world_core.proofs.Shapes.{AimsRow, SoonRow, Notes, OwesBy, is_answer, row_of, KnowsRow, Knows, AtPoint, InCall, FollowsRow, Follows, Owes, OwesRow, answers_by, BeginsRow, aim_by, aimed, Aimed}
 
 aims_try : {W L A : Type 0} (tries due : Option Ask) (act : Act W L A) (made : List Change) (ask : Ask) (p : ℕ) → tries ≡ Some ask → made ≡ [] → Aimed tries due act made p → aim_by (Some ask) act p ≡ aimed p (Some ask) (aim_by (Some ask) act p)
 aims_try tries due act made ask p is none aims = grind arith
@@ -95,9 +95,7 @@ module _ {W V C L A B : Type 0} {t : Table W V C L A} {m : Machine W V C L B} {n
 
   answers_within : (k : ℕ) (w : W) (c : C) (l : L) (h : Option Hold) → answers_by t k w c l h ≡ true → AnswersWithin (played t m) k w c l h
   answers_within zero w c l h soon = absurd (false≢true soon)
-  answers_within (suc k) w c l h soon = λ v j is.
-      let now = (step_by {V = V} t.memory (t.word l) (t.act c l h) w).words in
-      rw (f.words w v c l h) (answers_within k now c j h (rw (f.continues w v c l h j is) at soon))
+  answers_within (suc k) w c l h soon = λ v j is. grind (arith, f.words w v c l h, f.continues w v c l h j is, answers_within k, soon)
 
   -- a step of the call, at the row of its point
   module _ (p : ℕ) (c : C) (l : L) (h : Option Hold) (s : Plain) (w : W) (span : List Mark) (row : Row)

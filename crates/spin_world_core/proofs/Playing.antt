@@ -1,6 +1,6 @@
 -- What has been played of a schedule, at the beginning of a turn of the loop.
 use Rattle.std.proofs.Math.Bool.{Bool-set}
-use Rattle.spin_world_core.specs.Runs.{Always, CanGoOn, Schedule}
+use Rattle.spin_world_core.specs.Runs.{Always, state_at, Schedule}
 use Rattle.spin_world_core.proofs.Names.{slice_get-map, ◌≡◌, ℕ, map, ◌+◌, ◌<◌, ◌==◌, ◌&&◌, true, Option, Some, None, List, [], ◌∷◌, ◌++◌, length, if◌then◌else◌, ap, sym, ◌∙◌, arith, subst, length-set, take, get_or, length-take-le, zero-add, ∥∥₁_elim, ∥∥₁_map, CanStep, length-map, Move, Outcome, Event, Machine, State, Happened, happens, after, events_of, with_begins, last_begin, is_begun, at_first, IsReached}
 use Rattle.spin_step.specs.Schedules.{begin_of, begins_after, with_begin}
 use Rattle.spin_step.proofs.Lists.{get-set_within}
@@ -62,6 +62,6 @@ module _ {W V C L A : Type 0} (m : Machine W V C L A) where
   reached_next s t p move o is = further s t ((p, move) ∷ []) (ap (λ h. h.next) is)
 
   -- in a reached state each party in a call can take its next step
-  pub can_reached : (s : State W V C L) → Always m (CanGoOn m) → IsReached m s → CanStep m s
+  pub can_reached : (s : State W V C L) → Always m (λ n past. CanStep m (state_at m n past)) → IsReached m s → CanStep m s
   can_reached s can reached = λ p c l h there.
       ∥∥₁_elim reached (Bool-set _ _) (λ led. subst (CanStep m) led.2 (can led.0 led.1) p c l h there)

@@ -88,10 +88,7 @@ module _ {W V C L A B : Type 0} {t : Table W V C L A} {by : Machine W V C L B} {
   Kept s = Invariant s.after × StepKeeps s
 
   module _ (seen : Seen W V C L) (p : ℕ) (good : Invariant seen) where
-    -- the plain lock and the spans after a step of p
-    abbrev plain_by : Option Change → Plain
-    plain_by step = apply_some seen.plain step
-
+    -- the spans after a step of p
     abbrev longer : Option Change → StepKind → ℕ → List Mark
     longer step r q = mark_of p step r seen.plain ∷ seen.span q
 
@@ -105,12 +102,12 @@ module _ {W V C L A B : Type 0} {t : Table W V C L A} {by : Machine W V C L B} {
 
     -- the invariant holds after a step of p's call
     good_stepped : (x y : Seat C L) (step : Option Change) (r : StepKind) (w : W) (v wr : Option V) → seat_of seen p ≡ Some y
-        → Makes n p seen.plain (seen.span p) step r w → HasPhase t.lock_kind.makes_value (plain_by step).phase v → v ≡ wr
-        → OfParty w (plain_by step) p (longer step r p) (Some x)
+        → Makes n p seen.plain (seen.span p) step r w → HasPhase t.lock_kind.makes_value (apply_some seen.plain step).phase v → v ≡ wr
+        → OfParty w (apply_some seen.plain step) p (longer step r p) (Some x)
         → let after = seated (record seen.state { words = w; value = v }) p x in
-        Invariant (record { state = after; plain = plain_by step; span = longer step r; written = wr })
+        Invariant (record { state = after; plain = apply_some seen.plain step; span = longer step r; written = wr })
     good_stepped x y step r w v wr there makes phase written here =
-        let parties = at_seat (λ q o. OfParty w (plain_by step) q (longer step r q) o) seen.state.seats p x y there here
+        let parties = at_seat (λ q o. OfParty w (apply_some seen.plain step) q (longer step r q) o) seen.state.seats p x y there here
         (λ q ne.
         let is = good.parties q in
         let stays = λ (c : C) (l : L) (h : Option Hold).
@@ -145,7 +142,7 @@ module _ {W V C L A B : Type 0} {t : Table W V C L A} {by : Machine W V C L B} {
 
         record Goes (next : Next L B) : Type 0 where
           moves : Moves n move p c h seen.plain (seen.span p) step r w (told by.says next)
-          phase : HasPhase t.lock_kind.makes_value (plain_by step).phase v
+          phase : HasPhase t.lock_kind.makes_value (apply_some seen.plain step).phase v
           written : v ≡ if_completed seen.written stored step
           steps : is_weak r ≡ false → (j : ℕ) → AnswersWithin m (suc j) seen.state.words c l h → GoesWithin m j w c h next
           rules : StepRules (event next)

@@ -64,11 +64,8 @@ module _ {W V C L A B : Type 0} {t : Table W V C L A} {by : Machine W V C L B} {
   pub state_is : seen.state ≡ now
   state_is = state-seen_at m parties past
 
-  pub words_are : seen.state.words ≡ now.words
-  words_are = ap (λ (s : State W V C L). s.words) state_is
-
   pub numbers_are : m.numbers now.words ≡ encoded m.lock_kind seen.plain
-  numbers_are = ap m.numbers (sym words_are) ∙ good.encodes
+  numbers_are = ap (λ (s : State W V C L). m.numbers s.words) (sym state_is) ∙ good.encodes
 
   pub seat_is : (p : ℕ) (y : Option (Seat C L)) → slice_get now.seats p ≡ y → seat_of seen p ≡ y
   seat_is p y there = ap (λ (s : State W V C L). slice_get s.seats p) state_is ∙ there

@@ -1,10 +1,10 @@
 -- What a party in a call knows of its entries and of its span, and how each step of any party keeps this knowledge.
-use Rattle.spin_world_core.proofs.Names.{get_or, ◌≡◌, ℕ, suc, ◌+◌, ◌≤◌, ◌⊎◌, ◌==◌, Bool, true, false, not, ◌&&◌, ◌||◌, is_some, Option, Some, None, List, [], ◌∷◌, ◌++◌, option_to_list, nat_lt, if◌then◌else◌, refl, arith, inr, ⊎_elim, Plain, Ask, Change, gets, is_open, apply_some, IsOpenStep, entries, is_held, bit, entries-other, Hold, StepKind, is_again, is_look, LockKind, Asked, Said, Mark, AnyOf, first_word, Limit, registers_after, mark_of, own, own_count, failures, changes, EndsWithin, ContinuesWithin, is_due, Way, by_looks, past_looks, way_of, MayTryOn, Act, load, load_if, load_for, attempt, retry, ap, list_any, goes_of}
+use Rattle.spin_world_core.proofs.Names.{get_or, ◌≡◌, ℕ, suc, ◌+◌, ◌≤◌, ◌⊎◌, ◌==◌, Bool, true, false, not, ◌&&◌, ◌||◌, is_some, Option, Some, None, List, [], ◌∷◌, ◌++◌, option_to_list, nat_lt, if◌then◌else◌, refl, arith, inr, ⊎_elim, Plain, Ask, Change, gets, is_open, apply_some, IsOpenStep, entries, is_held, bit, entries-other, Hold, StepKind, is_again, is_look, LockKind, Asked, Said, Mark, AnyOf, first_word, Limit, registers_after, mark_of, own, own_count, failures, changes, EndsWithin, ContinuesWithin, is_due, Way, by_looks, past_looks, way_of, MayTryOn, Act, makes_by, load, load_if, load_for, attempt, retry, ap, list_any, goes_of}
 use Rattle.spin_world_core.proofs.Lists.{eqb_self}
 use Rattle.spin_world_core.proofs.Stands.{Stand, entries_at, stand_of}
 use Rattle.spin_world_core.proofs.Names.{ne_eqb, append-nil}
 use Rattle.std.proofs.lemmas.Bool.{or_right}
-use Rattle.spin_step.specs.Calls.{got_or_starved, moment, own_steps, limit, FindsClosed, changes_within, gets_within, within, within_changes, Meaning, got, grants}
+use Rattle.spin_step.specs.Calls.{got_or_starved, moment, own_steps, limit, FindsClosed, changes_within, gets_within, within, within_changes, Sense, got, grants}
 
 -- The count of the call's steps
 
@@ -105,8 +105,9 @@ pub any_passes : {X : Type 0} (P : X → Type 0) (test : X → Bool) (xs : List 
 any_passes P test [] f any = absurd any
 any_passes P test (x ∷ xs) f any = grind (arith, f, any_passes P test xs f)
 
-granted_here : (p : ℕ) (ask : Ask) (m : Mark) (b : Bool) (step : Option Change) → (m.party == p) ≡ b → m.change ≡ step → IsOpenStep m.before m.party step → AnyOf (λ c. c ≡ gets p ask) (if b then option_to_list step else []) → grants p ask m ≡ true
-granted_here p ask m b step mine is may any = grind arith
+granted_here : (p : ℕ) (ask : Ask) (m : Mark) (b : Bool) → (m.party == p) ≡ b → IsOpenStep m.before m.party m.change
+    → AnyOf (λ c. c ≡ gets p ask) (if b then option_to_list m.change else []) → grants p ask m ≡ true
+granted_here p ask m b mine may any = grind arith
 
 -- if the call has made the plain step that gets `ask`, its grant has a moment
 pub granted_at : (p : ℕ) (ask : Ask) (span : List Mark) → Opened span → AnyOf (λ c. c ≡ gets p ask) (own p span) → list_any (grants p ask) span ≡ true
@@ -114,16 +115,16 @@ granted_at p ask [] opened any = absurd any
 granted_at p ask (m ∷ ms) opened any =
     ⊎_elim
     (λ (earlier : AnyOf (λ c. c ≡ gets p ask) (own p ms)). or_right (grants p ask m) _ (granted_at p ask ms opened.1 earlier))
-    (λ here. ap (λ b. b || list_any (grants p ask) ms) (granted_here p ask m (m.party == p) m.change refl refl opened.0 here))
+    (λ here. ap (λ b. b || list_any (grants p ask) ms) (granted_here p ask m (m.party == p) refl opened.0 here))
     (any_split (λ c. c ≡ gets p ask) (own p ms) (if m.party == p then option_to_list m.change else []) any)
 
 -- what has to be shown of an answer's moment: nothing of a grant, whose moment follows from the call's plain steps
-abbrev pub OwesMoment : Meaning → ℕ → List Mark → Type 0
+abbrev pub OwesMoment : Sense → ℕ → List Mark → Type 0
 OwesMoment (got ask) p span = Unit {0}
 OwesMoment (got_or_starved a b) p span = Unit {0}
 OwesMoment meaning p span = moment meaning p span ≡ true
 
-pub moment_of : (meaning : Meaning) (p : ℕ) (span : List Mark) → Opened span → AnyOf (λ steps. own p span ≡ steps) (own_steps meaning p) → OwesMoment meaning p span → moment meaning p span ≡ true
+pub moment_of : (meaning : Sense) (p : ℕ) (span : List Mark) → Opened span → AnyOf (λ steps. own p span ≡ steps) (own_steps meaning p) → OwesMoment meaning p span → moment meaning p span ≡ true
 moment_of meaning p span opened is owed = grind (arith, λ (ask : Ask). granted_at p ask span opened)
 
 -- nothing has to be shown of a moment if the answer may be a spurious failure
@@ -178,56 +179,45 @@ RetryOwes _ n made = Unit {0}
 -- whether a try is due at a point (`free`: it may be due or not; `never`: an object may have no such point)
 pub data Need : Type 0 where
   free : Need
-  due : Need
-  undue : Need
+  due : Bool → Need
   never : Need
 
--- the step is a load, or an exchange that may fail although its plain step is open
-abbrev pub rests : {W L A : Type 0} → Act W L A → Bool
-rests (load next) = true
-rests (load_if test a b) = true
-rests (load_for f step found missed) = true
-rests (attempt k f step won lost) = true
-rests (retry k f step won found missed) = true
-rests _ = false
+-- the plain step that a step makes whenever this plain step is open
+abbrev pub sure_by : {W L A : Type 0} → Act W L A → ℕ → Option Change
+sure_by (attempt k f step won lost) p = None
+sure_by (retry k f step won found missed) p = None
+sure_by act p = makes_by act p
 
 abbrev pub peeks : {W L A : Type 0} → Act W L A → Bool
 peeks act = elim act [ load_if test a b ↦ true | _ ↦ false ]
 
--- the need of a point, by whether its next step is such a load or exchange (`rests`), and whether the step is a look
+-- the need of a point, by whether its next step is sure to make its plain step (`sure_by`), and whether it is a look
 abbrev pub need : Option Ask → Way → Bool → Bool → Need
-need None way resting peeking = free
-need (Some ask) by_looks true true = undue
-need (Some ask) by_looks false peeking = due
-need (Some ask) past_looks true peeking = undue
-need (Some ask) way false peeking = free
-need (Some ask) way resting peeking = never
+need None way sure peeking = free
+need (Some ask) by_looks true peeking = due true
+need (Some ask) by_looks false true = due false
+need (Some ask) past_looks false peeking = due false
+need (Some ask) way sure peeking = if sure then free else never
 
 abbrev pub need_of : {W L A : Type 0} → LockKind → Asked → List Change → Act W L A → Need
-need_of kind what made act = need (goes_of what made) (way_of kind what made) (rests act) (peeks act)
+need_of kind what made act = need (goes_of what made) (way_of kind what made) (is_some (sure_by act 0)) (peeks act)
 
 abbrev pub Needs : Need → ℕ → List Mark → Type 0
-Needs free p span = Unit {0}
-Needs due p span = is_due p span ≡ true
-Needs undue p span = is_due p span ≡ false
-Needs never p span = ⊥
+Needs needed p span = elim needed [ free ↦ Unit {0} | due b ↦ is_due p span ≡ b | never ↦ ⊥ ]
 
 -- after such a step a try is due: the step makes a plain step, or is a look that finds the lock free
 abbrev pub makes_due : Option Change → StepKind → Plain → Bool
 makes_due step r s = is_some step || (is_look r && not (is_held s))
 
 abbrev pub FoundBy : Need → Type 0 → Option Change → StepKind → Plain → Type 0
-FoundBy free Finds step r s = Finds
-FoundBy due Finds step r s = Finds × (makes_due step r s ≡ true)
-FoundBy undue Finds step r s = Finds × (makes_due step r s ≡ false)
-FoundBy never Finds step r s = ⊥
+FoundBy needed Finds step r s = elim needed [ free ↦ Finds | due b ↦ Finds × (makes_due step r s ≡ b) | never ↦ ⊥ ]
 
 -- a call does not begin with a retry
 abbrev pub NoRetry : {W L A : Type 0} → Act W L A → Type 0
 NoRetry act = elim act [ retry k f step won found missed ↦ ⊥ | _ ↦ Unit {0} ]
 
 abbrev pub BeginsBy : Need → Type 0 → Type 0
-BeginsBy needed Begins = elim needed [ undue ↦ ⊥ | never ↦ ⊥ | _ ↦ Begins ]
+BeginsBy needed Begins = elim needed [ free ↦ Begins | due b ↦ (b ≡ true) × Begins | never ↦ ⊥ ]
 
 pub record Known {W L A : Type 0} (kind : LockKind) (what : Asked) (act : Act W L A) (row : Row) (p : ℕ) (s : Plain) (span : List Mark) : Type 0 where
   pub stand : entries p s ≡ entries_at p row.stand
@@ -250,7 +240,11 @@ pub moved : (a b n x y : ℕ) → a + bit (not (x == n)) ≤ b → a + bit (not 
 moved a b n x y le = grind arith
 
 module _ (p q : ℕ) (s : Plain) (step : Option Change) (r : StepKind) (span : List Mark) (ne : q ≡ p → ⊥) where
+  needs-other : (needed : Need) → Needs needed p span → Needs needed p (now q s step r span)
+  needs-other needed needs = grind (arith, ne_eqb q p ne)
+
   pub known-other : {W L A : Type 0} (kind : LockKind) (what : Asked) (act : Act W L A) (row : Row) → IsOpenStep s q step → Known kind what act row p s span
       → Known kind what act row p (apply_some s step) (now q s step r span)
   known-other kind what act row may known =
-      grind (arith, entries-other s q p step ne may, ne_eqb q p ne, append-nil (own p span), moved, known)
+      let needs = needs-other (need_of kind what (row.made p) act) known.needs in
+      grind (arith, entries-other s q p step ne may, ne_eqb q p ne, append-nil (own p span), moved, known, needs)

@@ -2,22 +2,11 @@
 use Rattle.spin_world_core.proofs.Names.{own_steps, tries_of, goes_of, ◌≡◌, ℕ, zero, suc, ◌≤◌, Bool, true, false, ◌||◌, ◌==◌, is_some, Option, Some, None, List, [], ◌∷◌, ◌++◌, option_to_list, Plain, Ask, Change, gets, apply, is_open, is_empty, apply_some, IsOpenStep, IsExclusive, Hold, Next, Continue, Answers, StepKind, plain, again, weak, by_step, Asked, encoded, BelongsTo, Mark, AnyOf, Limit, registers_after, arrived, steps_alone, opening_plain, mark_of, failures, changes, number_at, Act, load, load_if, load_for, enter, exchange, weak_exchange, attempt, retry, store, section, swap, tried, guessed, passing, place_of, step_by, makes_by, look_kind, Table, begin_of, machine_of, performed, limit}
 use Rattle.spin_world_core.proofs.Operating.{fits_act, CallsFit, OwnFits, Operates}
 use Rattle.spin_world_core.proofs.Stands.{stand_of, stand_after}
-use Rattle.spin_world_core.proofs.Rows.{Branch, goes, finds_open, loses, misses, MaySpend, MayContinue, OwesRight, OwesEnd, Row, Point, row_at, IsSound, RetryOwes, need_of, FoundBy, NoRetry, BeginsBy, Known}
-
--- A retry that lost has found a number that the step function does not refuse. If the limit is `registers_after`, this
--- number also differs from the expected one.
-abbrev pub FindsAnother : Limit → Bool → Bool → Type 0
-FindsAnother k same some = elim k [ registers_after n i ↦ (same ≡ false) × (some ≡ true) | _ ↦ some ≡ true ]
+use Rattle.spin_world_core.proofs.Rows.{sure_by, Branch, goes, finds_open, loses, misses, MaySpend, MayContinue, OwesRight, OwesEnd, Row, Point, row_at, IsSound, RetryOwes, need_of, FoundBy, NoRetry, BeginsBy, Known}
 
 -- the call ends here
 abbrev pub is_answer : {L A : Type 0} → Next L A → Bool
 is_answer next = elim next [ Continue l ↦ false | Answers a after ↦ true ]
-
--- the plain step that a step makes whenever this plain step is open
-abbrev pub sure_by : {W L A : Type 0} → Act W L A → ℕ → Option Change
-sure_by (attempt k f step won lost) p = None
-sure_by (retry k f step won found missed) p = None
-sure_by act p = makes_by act p
 
 -- the plain step at which a step aims: for a try, also the plain step that a load only looks for
 abbrev pub aim_by : {W L A : Type 0} → Option Ask → Act W L A → ℕ → Option Change
@@ -38,10 +27,6 @@ aimed p _ step = step
 abbrev pub Aimed : {W L A : Type 0} → Option Ask → Option Ask → Act W L A → List Change → ℕ → Type 0
 Aimed tries due act made p = aim_by tries act p ≡ aimed p (aim_of tries due made) (aim_by tries act p)
 
--- the value of f at the next point, or x if the call ends
-abbrev pub goes_by : {L A X : Type 0} → Next L A → X → (L → X) → X
-goes_by next x f = elim next [ Continue l ↦ f l | Answers a after ↦ x ]
-
 module _ {W V C L A : Type 0} (t : Table W V C L A) where
   -- What an object notes beside its table: the shape of its plain lock, the row of each point, and what else a party
   -- knows at a point.
@@ -54,7 +39,7 @@ module _ {W V C L A : Type 0} (t : Table W V C L A) where
   abbrev pub answers_by : ℕ → W → C → L → Option Hold → Bool
   answers_by zero w c l h = false
   answers_by (suc k) w c l h = let st = step_by {V = V} t.memory (t.word l) (t.act c l h) w in
-      goes_by st.next true (λ l. answers_by k st.words c l h)
+      elim st.next [ Continue j ↦ answers_by k st.words c j h | Answers a after ↦ true ]
 
 module _ {W V C L A : Type 0} {t : Table W V C L A} (n : Notes t) where
   abbrev pub row_of : C → L → Option Hold → Option Row
@@ -87,10 +72,6 @@ module _ {W V C L A : Type 0} {t : Table W V C L A} (n : Notes t) where
   Means p s c put None = is_open s c ≡ false
   Means p s c put (Some x) = IsOpenStep s p (Some c) × (t.memory.numbers (put x) ≡ encoded t.lock_kind (apply s c)) × n.Shape (apply s c)
 
-  -- the same of an exchange whose failure says nothing of the plain step
-  abbrev pub MeansMade : {X : Type 0} → ℕ → Plain → Change → (X → W) → Option X → Type 0
-  MeansMade p s c put o = elim o [ None ↦ Unit {0} | Some x ↦ Means p s c put (Some x) ]
-
   -- What has to be shown of a step of a call that has made these plain steps. `Comes` says that the call continues or is
   -- answered correctly.
   module _ (p : ℕ) (what : Asked) (s : Plain) (w : W) (made : List Change) (Comes : Bool → Option Change → StepKind → Branch → Next L A → Type 0) where
@@ -112,11 +93,11 @@ module _ {W V C L A : Type 0} {t : Table W V C L A} (n : Notes t) where
         Tries (λ j. t.memory.put i j w) (tried (swap j f) n) (step p) plain won lost × Comes true None weak goes lost
         × (what.is_weak ≡ true) × (made ≡ what.before_weakly p)
     OwesOn i n (attempt j f step won lost) =
-        MeansMade p s (step p) (λ j. t.memory.put i j w) (guessed j f n) × (is_some (guessed j f n) ≡ true → Comes false (Some (step p)) plain goes won)
+        (is_some (guessed j f n) ≡ true → Means p s (step p) (λ j. t.memory.put i j w) (guessed j f n) × Comes false (Some (step p)) plain goes won)
         × (guessed j f n ≡ None → Comes false None plain goes lost) × (is_answer lost ≡ true)
     OwesOn i n (retry j f step won found missed) =
         Means p s (step p) (λ j. t.memory.put i j w) (f n) × (n ≡ j → Comes false (Some (step p)) again goes won)
-        × (FindsAnother (limit t.lock_kind what) (n == j) (is_some (f n)) → Comes false None again loses (found n))
+        × (is_some (f n) ≡ true → (n == j) ≡ false → Comes false None again loses (found n))
         × (is_open s (step p) ≡ false → Comes false None again (misses (step p)) missed)
     OwesOn i n (store can operation step next) =
         (can n ≡ true) × Means p s (step p) (λ j. t.memory.put i j w) (Some (performed operation n)) × Comes false (Some (step p)) plain goes next
@@ -157,14 +138,11 @@ module _ {W V C L A : Type 0} {t : Table W V C L A} (n : Notes t) where
   OwesRow p c l h s w span None = Unit {0}
   OwesRow p c l h s w span (Some row) = AtPoint p c l h s w span (Some row) → Owes p c h s w span row (t.word l) (t.act c l h)
 
-  -- if what a waiting call asks is open, `soon` is true: the call is answered in time if no other party steps in between
-  abbrev pub AnswersRow : ℕ → C → L → Option Hold → Plain → W → List Mark → Bool → Bool → Option Row → Type 0
-  AnswersRow p c l h s w span soon true (Some row) =
-      AtPoint p c l h s w span (Some row) → (t.asks c h).is_open_next (is_empty (row.made p)) (arrived p span) p s ≡ true → soon ≡ true
-  AnswersRow p c l h s w span soon _ _ = Unit {0}
-
+  -- if what a waiting call asks is open, the call is answered in time if no other party steps in between
   abbrev pub SoonRow : ℕ → C → L → Option Hold → Plain → W → List Mark → Option Row → Type 0
-  SoonRow p c l h s w span o = AnswersRow p c l h s w span (answers_by t (steps_alone (t.asks c h)) w c l h) (t.asks c h).waits o
+  SoonRow p c l h s w span None = Unit {0}
+  SoonRow p c l h s w span (Some row) = let what = t.asks c h in what.waits ≡ true → AtPoint p c l h s w span (Some row)
+      → what.is_open_next (is_empty (row.made p)) (arrived p span) p s ≡ true → answers_by t (steps_alone what) w c l h ≡ true
 
   -- what has to be shown of the row at which a call begins
   abbrev pub BeginsRow : C → L → Option Hold → ℕ → Plain → Option Row → Type 0
@@ -196,16 +174,16 @@ module _ {W V C L A : Type 0} {t : Table W V C L A} (n : Notes t) where
     pub aims : (p : ℕ) (c : C) (l : L) (h : Option Hold) → AimsRow p c l h (row_of c l h)
     pub first : t.memory.numbers t.words ≡ encoded t.lock_kind (opening_plain (machine_of t))
     pub numbers_tell : (v w : W) → t.memory.numbers v ≡ t.memory.numbers w → v ≡ w
+    pub operates : Operates t
+    pub begins : (p : ℕ) (c : C) (h : Option Hold) (s : Plain) → BeginsAt c h p s (begin_of t c h)
+    pub shape_first : n.Shape (opening_plain (machine_of t))
+    pub one_list : (s : Plain) → n.Shape s → (is_empty s.holders || is_empty s.tickets) ≡ true
 
   -- all that an object has to show of its table
   pub record Pays : Type 0 where
     pub computes : Computes
     pub open computes use *
-    pub operates : Operates t
     pub calls : CallsFit t
-    pub shape_first : n.Shape (opening_plain (machine_of t))
-    pub one_list : (s : Plain) → n.Shape s → (is_empty s.holders || is_empty s.tickets) ≡ true
-    pub begins : (p : ℕ) (c : C) (h : Option Hold) (s : Plain) → BeginsAt c h p s (begin_of t c h)
     pub others : (p q : ℕ) (c : C) (l : L) (h : Option Hold) (s : Plain) (step : Option Change) (r : StepKind) (span : List Mark) → (q ≡ p → ⊥) → n.Shape s
         → IsOpenStep s q step → BelongsTo t.lock_kind step
         → n.Knows c l h p s span → n.Knows c l h p (apply_some s step) (mark_of q step r s ∷ span)

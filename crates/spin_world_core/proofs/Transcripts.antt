@@ -28,10 +28,7 @@ module _ {W V C L A : Type 0} (m : Machine W V C L A) where
 -- The place
 
 abbrev stage_of : {C L : Type 0} → Option (Seat C L) → Stage
-stage_of (Some (Calling c l h)) = in_call
-stage_of (Some (Leaked h)) = has_leaked
-stage_of (Some (Gone h)) = is_gone
-stage_of _ = at_rest
+stage_of o = elim o [ Some (Calling c l h) ↦ in_call | Some (Leaked h) ↦ has_leaked | Some (Gone h) ↦ is_gone | _ ↦ at_rest ]
 
 module _ {W V C L A : Type 0} (m : Machine W V C L A) where
   -- after an event, the stage of p's seat is the stage that the event's outcome gives p
@@ -43,19 +40,10 @@ module _ {W V C L A : Type 0} (m : Machine W V C L A) where
     abbrev seats : List (Seat C L)
     seats = seen.state.seats
 
-    brought_mine : (move : Move C V) (o : Option (Seat C L)) → seat_of seen p ≡ o
-        → (let h = moves_at m seen.state p move o in stage_of (slice_get h.next.seats p) ≡ stage_by_owner h.outcome move (stage_by_own h.outcome (stage_of o)))
-    brought_mine move o there =
-        grind (arith, there, get-set_within seats p, slice_get_within seats p, slice_get-map seen_by_owner seats p)
-
-    brought_other : (move : Move C V) (o : Option (Seat C L)) → (q ≡ p → ⊥)
-        → (let h = moves_at m seen.state q move o in stage_of (slice_get h.next.seats p) ≡ stage_by_owner h.outcome move (stage_of (seat_of seen p)))
-    brought_other move o ne = grind (arith, get-set_other seats q p, slice_get-map seen_by_owner seats p)
-
     brought : (move : Move C V) → Brings p (scene m seen q move)
     brought move =
-        let other = brought_other move (seat_of seen q) in
-        grind (arith, cases_eq q p, eqb_self p, ne_eqb q p, brought_mine move (seat_of seen p), other)
+        let map = slice_get-map seen_by_owner seats p in
+        grind (arith, cases_eq q p, eqb_self p, ne_eqb q p, get-set_within seats p, slice_get_within seats p, get-set_other seats q p, map)
 
   stage-seen_after : (seen : Seen W V C L) (p : ℕ) (es : Schedule C V)
       → stage_of (seat_of (seen_after m seen es) p) ≡ stage_after p (stage_of (seat_of seen p)) (scenes m seen es)

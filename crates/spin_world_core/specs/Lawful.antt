@@ -1,7 +1,7 @@
 -- All that an object promises of every schedule, from the opening of every world.
 use Rattle.spin_step.specs.Machines.{Machine}
 use Rattle.spin_step.specs.Operations.{Stepwise}
-use Rattle.spin_world_core.specs.Runs.{Always, CanGoOn, KeepsAll, MomentsAll, CountsAll}
+use Rattle.spin_world_core.specs.Runs.{Always, CanStep, state_at, KeepsAll, MomentsAll, CountsAll}
 use Rattle.spin_world_core.specs.Users.{ReadsAgree}
 use Rattle.spin_world_core.specs.Values.{ValuesAll}
 
@@ -10,7 +10,7 @@ pub record Lawful {W V C L A : Type 0} (m : Machine W V C L A) : Type 0 where
   -- steps of this kind of lock are sections.
   pub stepwise : Stepwise m
   -- a party in a call can take its next step
-  pub can : Always m (CanGoOn m)
+  pub can : Always m (λ n past. CanStep m (state_at m n past))
   -- each event has the properties of `Keeps`
   pub keeps : Always m (KeepsAll m)
   -- each answer but a spurious failure is right at a moment of its call

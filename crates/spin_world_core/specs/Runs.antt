@@ -118,23 +118,23 @@ Every R m seen (e ∷ es) = R (scene m seen e.0 e.1) × Every R m (scene m seen 
 
 -- Which moves are open
 
-abbrev pub is_open_to : {W V C L A : Type 0} → Machine W V C L A → State W V C L → Move C V → Seat C L → Bool
-is_open_to m s (Begin c) Idle = is_some (m.begin c None)
-is_open_to m s (Begin c) (Holding h) = is_some (m.begin c (Some h))
-is_open_to m s Step (Calling c l h) = true
-is_open_to m s Weak (Calling c l h) = is_some (m.refuse c l h)
-is_open_to m s Read (Holding h) = may_read h
-is_open_to m s Read (Leaked h) = may_read h
-is_open_to m s (Write v) (Holding h) = may_write h
-is_open_to m s (Write v) (Leaked h) = may_write h
-is_open_to m s Leak (Holding h) = true
-is_open_to m s OwnerGet seat = is_owners m s
-is_open_to m s (OwnerSet v) seat = is_owners m s
-is_open_to _ _ _ _ = false
+abbrev pub is_open_at : {W V C L A : Type 0} → Machine W V C L A → State W V C L → Move C V → Seat C L → Bool
+is_open_at m s (Begin c) Idle = is_some (m.begin c None)
+is_open_at m s (Begin c) (Holding h) = is_some (m.begin c (Some h))
+is_open_at m s Step (Calling c l h) = true
+is_open_at m s Weak (Calling c l h) = is_some (m.refuse c l h)
+is_open_at m s Read (Holding h) = may_read h
+is_open_at m s Read (Leaked h) = may_read h
+is_open_at m s (Write v) (Holding h) = may_write h
+is_open_at m s (Write v) (Leaked h) = may_write h
+is_open_at m s Leak (Holding h) = true
+is_open_at m s OwnerGet seat = is_owners m s
+is_open_at m s (OwnerSet v) seat = is_owners m s
+is_open_at _ _ _ _ = false
 
 -- no move is open to a party that does not exist
 abbrev pub is_open_move : {W V C L A : Type 0} → Machine W V C L A → State W V C L → Move C V → Option (Seat C L) → Bool
-is_open_move m s move o = elim o [ None ↦ false | Some seat ↦ is_open_to m s move seat ]
+is_open_move m s move o = elim o [ None ↦ false | Some seat ↦ is_open_at m s move seat ]
 
 -- A party's entries in the plain lock: its holders, tickets and registrations
 
@@ -412,10 +412,6 @@ CountsAll m n entries = Every (IsInTime m) m (opening m n) entries
 abbrev pub CanStep : {W V C L A : Type 0} → Machine W V C L A → State W V C L → Type 0
 CanStep {W} {V} {C} {L} m s =
     (p : ℕ) (c : C) (l : L) (h : Option Hold) → slice_get s.seats p ≡ Some (Calling c l h) → m.can s.words c l h ≡ true
-
--- after the schedule each party in a call can take its next step
-abbrev pub CanGoOn : {W V C L A : Type 0} → Machine W V C L A → ℕ → Schedule C V → Type 0
-CanGoOn m n entries = CanStep m (state_at m n entries)
 
 -- after every beginning of the schedule each party in a call can take its next step
 abbrev pub CanAlways : {W V C L A : Type 0} → Machine W V C L A → State W V C L → Schedule C V → Type 0

@@ -54,10 +54,7 @@ pub data Stage : Type 0 where
 
 -- the party's stage after a move of its own
 abbrev pub stage_by_own : {V A : Type 0} → Outcome A V → Stage → Stage
-stage_by_own outcome.Begun stage = in_call
-stage_by_own (outcome.Answered a b) stage = at_rest
-stage_by_own outcome.Leaked stage = has_leaked
-stage_by_own _ stage = stage
+stage_by_own o old = elim o [ outcome.Begun ↦ in_call | outcome.Answered a b ↦ at_rest | outcome.Leaked ↦ has_leaked | _ ↦ old ]
 
 -- the owner's moves turn leaked parties into gone ones
 abbrev pub let_go_stage : Stage → Stage

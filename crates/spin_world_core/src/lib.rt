@@ -7,6 +7,7 @@
 mod laws;
 mod object;
 mod schedule;
+pub mod stepping;
 mod table;
 mod telling;
 mod world;

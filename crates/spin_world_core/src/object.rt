@@ -59,7 +59,7 @@ pub trait Object: Drop {
         ensures { result ≡ (machine self.now).begin call holds };
 
     /// Returns the outcome of the call's next step, for these words and this value. It depends only on the object and
-    /// the arguments. [`stepped`](spin_step::stepping::stepped) gives it for a lock whose table is written as code.
+    /// the arguments. [`stepped`](crate::stepping::stepped) gives it for a lock whose table is written as code.
     ///
     /// # Contract
     /// The step has to be possible (`can` of the machine). The outcome is that of `step` of the machine.

@@ -274,10 +274,10 @@ impl<O: Object, A: Allocator> Table<O, A> {
             }
             made.next
         };
-        self.go_on(party, call, holds, next)
+        self.follow(party, call, holds, next)
     }
 
-    fn go_on(
+    fn follow(
         &mut self,
         party: usize,
         call: O::Call,

@@ -1,8 +1,8 @@
 //! A world of one object, which plays a schedule or one move. Begin with [`World::new`] and [`World::run`].
 ghost use Rattle.std.specs.Prelude.{◌≡◌, ◌≤◌, [], length, IfOk, OnOk, OnErr, vec_capacity, slice_get, option_map};
 ghost use Rattle.spin_step.specs.Schedules.{at_first, after, events_of, with_begins, happens, place_of};
-ghost use Rattle.spin_world_core.specs.Runs.{IsReached, AfterAnyPast, CanAlways, KeepsAll, MomentsAll, CountsAll};
-ghost use Rattle.spin_world_core.specs.Values.{ValuesAll};
+ghost use Rattle.spin_world_core.specs.Runs.{IsReached, AfterAnyPast, CanAlways};
+ghost use Rattle.spin_world_core.specs.Joined.{Promised};
 ghost use Rattle.spin_world_core.specs.Transcripts.{TellsAfterAnyPast, SaysAfterAnyPast, TellsBegins};
 
 use crate::object::Object;
@@ -200,9 +200,9 @@ impl<O: Object, A: Allocator + Copy> World<O, A> {
     /// On `Ok` the new state is the one after the schedule (`after`). The transcript has its events (`events_of`). Each
     /// answer tells where in the transcript its call began, or `None` if the call began earlier (`TellsBegins`).
     ///
-    /// Take any schedule that led to the old state, and append this schedule to it. All promises hold of the result:
-    /// `KeepsAll`, `MomentsAll`, `CountsAll`, `ValuesAll`. The transcript tells what happens in the appended part
-    /// (`TellsAfterAnyPast`).
+    /// Take any schedule that led to the old state, and append this schedule to it. All promises hold of the result
+    /// (`Promised`): `KeepsAll`, `MomentsAll`, `CountsAll`, `ValuesAll`. The transcript tells what happens in the appended
+    /// part (`TellsAfterAnyPast`).
     ///
     /// # Examples
     /// ```
@@ -238,21 +238,15 @@ impl<O: Object, A: Allocator + Copy> World<O, A> {
 
         // Some schedule leads to the new state: any schedule that led to the old state, followed by this schedule.
         ensures reached { IsReached (O.machine self.new.object) self.new.state }
-        ensures keeps { let m = O.machine self.old.object in
-            AfterAnyPast m self.old.state schedule.now (KeepsAll m) }
-        ensures moments { let m = O.machine self.old.object in
-            AfterAnyPast m self.old.state schedule.now (MomentsAll m) }
-        ensures counts { let m = O.machine self.old.object in
-            AfterAnyPast m self.old.state schedule.now (CountsAll m) }
-        ensures values { let m = O.machine self.old.object in
-            AfterAnyPast m self.old.state schedule.now (ValuesAll m) }
+        ensures promised { let m = O.machine self.old.object in
+            AfterAnyPast m self.old.state schedule.now (Promised m) }
         ensures tells { let m = O.machine self.old.object in
             IfOk result (λ t. TellsAfterAnyPast m self.old.state schedule.now t.events.items) }
         ensures begins { IfOk result (λ t. TellsBegins t.events.items) }
     {
         O::laws();
         let mut events = Vec::with_capacity(self.alloc, schedule.len())?;
-        play(
+        play_into(
             &self.object,
             &mut self.table,
             &mut self.begins,
@@ -264,7 +258,7 @@ impl<O: Object, A: Allocator + Copy> World<O, A> {
 }
 
 /// Plays the schedule into a transcript that has room for it.
-fn play<O: Object, A: Allocator>(
+fn play_into<O: Object, A: Allocator>(
     object: &O,
     table: &mut Table<O, A>,
     begins: &mut [Option<usize>],

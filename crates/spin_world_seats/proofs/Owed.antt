@@ -1,11 +1,10 @@
 -- What the table of the seats has to show.
 use Rattle.std.proofs.Common.{◌≡◌, ℕ, ◌-◌, ◌≤◌, ◌⊎◌, true, Option, Some, None, List, [], ◌∷◌, length, nat_lt, refl, ap, arith, length-append}
 use Rattle.std.specs.List.{list_any}
-use Rattle.spin_step.specs.Plain.{Plain, Change, reading, holder, to_read, gets, releases, apply, may_come, is_holder}
+use Rattle.spin_step.specs.Plain.{Plain, reading, holder, to_read, gets, releases, apply, may_come, is_holder}
 use Rattle.spin_step.specs.Calls.{Mark}
-use Rattle.spin_step.specs.StepKinds.{StepKind}
 use Rattle.spin_seats.specs.Kind.{hinders}
-use Rattle.spin_step.specs.Parties.{Entries, entries, apply_some}
+use Rattle.spin_step.specs.Parties.{Entries, entries}
 use Rattle.spin_step.proofs.Sums.{one_of, sum-more, sum-less}
 use Rattle.spin_step.proofs.Holders.{is_holder-from_entries, length-without_holder}
 use Rattle.spin_step_more.proofs.Readers.{each_reads}
@@ -18,12 +17,10 @@ use Rattle.spin_seats.specs.declared.calls.SeatsPoint.{SeatsPoint}
 use Rattle.spin_seats.specs.declared.calls.SeatsPoint.TheVariants.{Exchange}
 use Rattle.spin_step.specs.Acts.{begin_of}
 use Rattle.spin_seats.specs.Table.{seats_table, seats_machine}
-use Rattle.spin_world_core.specs.Runs.{mark_of}
 use Rattle.spin_world_core.proofs.Steps.{Plays}
 use Rattle.spin_world_core.proofs.Stands.{holds, entries_at}
 use Rattle.spin_world_core.proofs.Rows.{Point, starts, looked}
-use Rattle.spin_world_core.proofs.Shapes.{Notes, Means, OwesAll, SoonAll, Pays}
-use Rattle.spin_world_core.proofs.Usual.{no_queue}
+use Rattle.spin_world_core.proofs.Shapes.{Notes, Means, Pays}
 use Rattle.spin_world_core.proofs.Filled.{plays_of}
 
 -- the row of a point: a call that has looked has made one step, and at any other point the row is that of the beginning
@@ -49,7 +46,7 @@ abbrev pub seats_notes : (n : ℕ) → Notes (seats_table n)
 seats_notes n = record { Shape = λ s. Seating n s; point = point_of n; Knows = λ c l h p s span. knows_of c l p s span }
 
 module _ (n : ℕ) where
-  sits : (p : ℕ) (s : Plain) → entries p s ≡ entries_at p (holds reading) → is_holder p reading s.holders ≡ true
+  pub sits : (p : ℕ) (s : Plain) → entries p s ≡ entries_at p (holds reading) → is_holder p reading s.holders ≡ true
   sits p s mine = is_holder-from_entries p reading s.holders (ap (λ (e : Entries). e.holders) mine)
 
   one_more : (s : Plain) (p w : ℕ) → Seating n s → seats_word s ≡ w → may_come reading s ≡ true → Seating n (apply s (gets p to_read))
@@ -63,38 +60,23 @@ module _ (n : ℕ) where
 
   -- what the step functions mean for the plain lock in such a state
   module _ (p : ℕ) (s : Plain) (w : ℕ) (shape : Seating n s) (is : seats_word s ≡ w) where
-    enter_means : Means (seats_notes n) p s (gets p to_read) (λ k. k) (entered n w)
+    pub enter_means : Means (seats_notes n) p s (gets p to_read) (λ k. k) (entered n w)
     enter_means = grind (arith, enter-grants s p n w shape.all_read shape.room is, one_more s p w shape is)
 
-    leave_means : is_holder p reading s.holders ≡ true
+    pub leave_means : is_holder p reading s.holders ≡ true
         → (nat_lt 0 w ≡ true) × Means (seats_notes n) p s (releases p reading) (λ k. k) (Some (w - 1))
     leave_means found = grind (arith, length-without_holder p reading s.holders found, leave-gives s p w is found, one_less s p shape found)
-
-  -- a step of another party leaves the word as it is, or hinders the try
-  stays : (p q : ℕ) (c : SeatsCall) (l : SeatsPoint) (s : Plain) (step : Option Change) (r : StepKind) (span : List Mark) → (q ≡ p → ⊥)
-      → knows_of c l p s span → knows_of c l p (apply_some s step) (mark_of q step r s ∷ span)
-  stays p q c l s step r span ne knows = grind (arith, ne, knows)
-
-  owes : OwesAll (seats_notes n)
-  owes p c l h s w span = grind (arith, enter_means p s w, leave_means p s w, sits p s, each_reads s.holders)
-
-  -- If nobody disturbs the call, its exchange succeeds on a word with a free seat, at once or after a look.
-
-  soon : SoonAll (seats_notes n)
-  soon p c l h s w span = grind (arith, open_is s n w)
 
   pub seats_pays : Pays (seats_notes n)
   seats_pays =
       record {
         computes = grind arith;
-        operates = grind arith;
-        shape_first = record { no_queue = refl; room = refl; all_read = refl; few = omega arith };
-        one_list = λ s shape. no_queue s shape.no_queue;
         calls = λ c h. (0, grind arith);
-        begins = λ p c h s. grind arith;
-        others = λ p q c l h s step r span ne shape may belongs knows. stays p q c l s step r span ne knows;
-        owes = owes;
-        soon = soon;
+        -- a step of another party leaves the word as it is, or hinders the try
+        others = λ p q c l h s step r span ne shape may belongs knows. grind (arith, ne, knows);
+        owes = λ p c l h s w span. grind (arith, enter_means p s w, leave_means p s w, sits p s, each_reads s.holders);
+        -- if nobody disturbs the call, its exchange succeeds on a word with a free seat, at once or after a look
+        soon = λ p c l h s w span. grind (arith, open_is s n w);
       }
 
 pub seats_facts : (n : ℕ) → Plays (seats_machine n) (seats_notes n)

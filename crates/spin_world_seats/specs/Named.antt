@@ -12,14 +12,11 @@ use Rattle.spin_step.specs.Asks.{counts_readers, gives_back, is_read, looks_and_
 use Rattle.spin_seats.specs.Kind as kind
 use Rattle.spin_step.specs.Machines.{opening_plain}
 use Rattle.spin_seats.specs.Table.{SeatsMachine}
-use Rattle.spin_world_core.specs.Kinds.{BeginAt, AnswersIn}
+use Rattle.spin_world_core.specs.Kinds.{IsLock, BeginAt, AnswersIn}
 
 pub record IsSeats (n : ℕ) (m : SeatsMachine) : Type 0 where
-  pub lock_kind : m.lock_kind ≡ kind.seats
-  pub opens_free : m.words ≡ 0
-  pub number : (w : ℕ) → m.numbers w ≡ w ∷ []
-  pub value : m.value ≡ Some tt
-  pub owned : m.owned ≡ true
+  pub is_lock : IsLock kind.seats 0 (λ w. w ∷ []) (Some tt) true m
+  pub open is_lock use *
   -- at first nobody has a seat; there are as many seats as asked for, but no more than the limit
   pub plain : opening_plain m ≡ fresh (seats n) 0 0
   pub try_enter : (h : Option Hold) → m.asks call.TryEnter h ≡ looks_and_tries to_read
@@ -27,6 +24,5 @@ pub record IsSeats (n : ℕ) (m : SeatsMachine) : Type 0 where
   pub enter : (h : Option Hold) → m.asks call.Enter h ≡ waits to_read
   pub count : (h : Option Hold) → m.asks call.Count h ≡ counts_readers
   pub leave : (h : Option Hold) → m.asks call.Leave h ≡ gives_back is_read h
-  pub says : (a : Answer (Unit {0})) → m.says a ≡ says_of a
   pub calls : BeginAt m ((call.TryEnter, None) ∷ (call.TryEnterWeak, None) ∷ (call.Enter, None) ∷ (call.Count, None) ∷ (call.Leave, Some Read) ∷ [])
   pub soon : AnswersIn m 2 call.Enter

@@ -6,7 +6,7 @@ ghost use Rattle.spin_world_seats.specs.Named.{IsSeats};
 
 use spin_seats::calls::{SeatsCall, SeatsPoint, SeatsTable};
 use spin_step::Steps;
-use spin_step::stepping::{refused, stepped};
+use spin_world_core::stepping::{refused, stepped};
 use spin_world_core::{Answer, Hold, Next, Object, Stepped};
 
 /// The lock with a number of seats. Its value is `()`.

@@ -11,11 +11,16 @@ use std::marker::{Brand, PhantomData};
 use std::sync::atomic::Ordering::SeqCst;
 use std::sync::atomic::raw;
 
-/// A kind of step: what the step appends to the trace, and what it tells its caller.
+/// A kind of step: what the step appends to the trace, and what it tells its caller. For the type `Brand` the proof of
+/// the step picks this.
 pub trait Play<K, V, E> {
-    // What the step tells. The arguments in order: the rule's key, the two operands (0 if absent), the view
-    // and the trace before, the appended entries, the number found, and the view after.
-    ghost told: { K → ℕ → ℕ → Option V → List E → List E → ℕ → V → Type 0 };
+    // What the step tells. The arguments in order: the rule's key, the view and the trace before, the appended entries,
+    // the number found, and the view after.
+    ghost told: { K → Option V → List E → List E → ℕ → V → Type 0 };
+}
+
+impl<K, V, E> Play<K, V, E> for Brand {
+    ghost told = { λ key before log es n after. Unit {0} };
 }
 
 /// Steps on the first word.
@@ -39,8 +44,8 @@ pub trait Play<K, V, E> {
 impl<'a, T, V, E, S, P: Rule<T, V, Second = Trace<E, S>>> Permit<'a, T, V, P> {
     /// Loads the first word.
     pub fn load<M: Play<P::Key, V, E>>(self, seen: Watch<E>) -> (u64, Permit<'a, T, V, P>, Watch<E>)
-        requires { MayKnow (P.holds self.key) (P.ways self.key) seen × Traces (P.holds self.key) (P.ways self.key) self.view self.value (λ n. n) (M.told self.key 0 0 self.view) }
-        ensures moved { Moved (Watches (Named (P.holds self.entry.key) (P.ways self.entry.key) seen.name) seen result.2 (M.told self.entry.key 0 0 self.entry.view) result.0) result.1.view }
+        requires { MayKnow (P.holds self.key) (P.ways self.key) seen × Traces (P.holds self.key) (P.ways self.key) self.view self.value (λ n. n) (M.told self.key self.view) }
+        ensures moved { Moved (Watches (Named (P.holds self.entry.key) (P.ways self.entry.key) seen.name) seen result.2 (M.told self.entry.key self.entry.view) result.0) result.1.view }
         ensures kept { Keeps (P.ways self.entry.key) self.entry.view result.1.view self.entry.value result.1.value }
         ensures found { Found (P.ways self.entry.key) self.entry.view result.1.view self.entry.value result.1.value result.2 }
         ensures key { result.1.key ≡ self.entry.key }
@@ -64,8 +69,8 @@ impl<'a, T, V, E, S, P: Rule<T, V, Second = Trace<E, S>>> Permit<'a, T, V, P> {
         new: u64,
         seen: Watch<E>,
     ) -> (u64, Permit<'a, T, V, P>, Watch<E>)
-        requires { MayKnow (P.holds self.key) (P.ways self.key) seen × Traces (P.holds self.key) (P.ways self.key) self.view self.value (λ n. either (n == old) new n) (M.told self.key old new self.view) }
-        ensures moved { Moved (Watches (Named (P.holds self.entry.key) (P.ways self.entry.key) seen.name) seen result.2 (M.told self.entry.key old new self.entry.view) result.0) result.1.view }
+        requires { MayKnow (P.holds self.key) (P.ways self.key) seen × Traces (P.holds self.key) (P.ways self.key) self.view self.value (λ n. either (n == old) new n) (M.told self.key self.view) }
+        ensures moved { Moved (Watches (Named (P.holds self.entry.key) (P.ways self.entry.key) seen.name) seen result.2 (M.told self.entry.key self.entry.view) result.0) result.1.view }
         ensures kept { Keeps (P.ways self.entry.key) self.entry.view result.1.view self.entry.value result.1.value }
         ensures found { Found (P.ways self.entry.key) self.entry.view result.1.view self.entry.value result.1.value result.2 }
         ensures key { result.1.key ≡ self.entry.key }
@@ -88,8 +93,8 @@ impl<'a, T, V, E, S, P: Rule<T, V, Second = Trace<E, S>>> Permit<'a, T, V, P> {
         new: u64,
         seen: Watch<E>,
     ) -> (Permit<'a, T, V, P>, Watch<E>)
-        requires { MayKnow (P.holds self.key) (P.ways self.key) seen × Traces (P.holds self.key) (P.ways self.key) self.view self.value (λ _. new) (λ log es _. M.told self.key 0 new self.view log es 0) }
-        ensures moved { Moved (Watches (Named (P.holds self.entry.key) (P.ways self.entry.key) seen.name) seen result.1 (λ log es _. M.told self.entry.key 0 new self.entry.view log es 0) 0) result.0.view }
+        requires { MayKnow (P.holds self.key) (P.ways self.key) seen × Traces (P.holds self.key) (P.ways self.key) self.view self.value (λ _. new) (λ log es _. M.told self.key self.view log es 0) }
+        ensures moved { Moved (Watches (Named (P.holds self.entry.key) (P.ways self.entry.key) seen.name) seen result.1 (λ log es _. M.told self.entry.key self.entry.view log es 0) 0) result.0.view }
         ensures kept { Keeps (P.ways self.entry.key) self.entry.view result.0.view self.entry.value result.0.value }
         ensures found { Found (P.ways self.entry.key) self.entry.view result.0.view self.entry.value result.0.value result.1 }
         ensures key { result.0.key ≡ self.entry.key }
@@ -111,8 +116,8 @@ impl<'a, T, V, E, S, P: Rule<T, V, Second = Trace<E, S>>> Permit<'a, T, V, P> {
         by: u64,
         seen: Watch<E>,
     ) -> (u64, Permit<'a, T, V, P>, Watch<E>)
-        requires { MayKnow (P.holds self.key) (P.ways self.key) seen × Traces (P.holds self.key) (P.ways self.key) self.view self.value (λ n. (n + by) % 2 ^ 64) (M.told self.key by 0 self.view) }
-        ensures moved { Moved (Watches (Named (P.holds self.entry.key) (P.ways self.entry.key) seen.name) seen result.2 (M.told self.entry.key by 0 self.entry.view) result.0) result.1.view }
+        requires { MayKnow (P.holds self.key) (P.ways self.key) seen × Traces (P.holds self.key) (P.ways self.key) self.view self.value (λ n. (n + by) % 2 ^ 64) (M.told self.key self.view) }
+        ensures moved { Moved (Watches (Named (P.holds self.entry.key) (P.ways self.entry.key) seen.name) seen result.2 (M.told self.entry.key self.entry.view) result.0) result.1.view }
         ensures kept { Keeps (P.ways self.entry.key) self.entry.view result.1.view self.entry.value result.1.value }
         ensures found { Found (P.ways self.entry.key) self.entry.view result.1.view self.entry.value result.1.value result.2 }
         ensures key { result.1.key ≡ self.entry.key }
@@ -135,8 +140,8 @@ impl<'a, T, V, E, S, P: Rule<T, V, Second = Trace<E, S>>> Permit<'a, T, V, P> {
         by: u64,
         seen: Watch<E>,
     ) -> (u64, Permit<'a, T, V, P>, Watch<E>)
-        requires { MayKnow (P.holds self.key) (P.ways self.key) seen × Traces (P.holds self.key) (P.ways self.key) self.view self.value (λ n. (n + (2 ^ 64 - by)) % 2 ^ 64) (M.told self.key by 0 self.view) }
-        ensures moved { Moved (Watches (Named (P.holds self.entry.key) (P.ways self.entry.key) seen.name) seen result.2 (M.told self.entry.key by 0 self.entry.view) result.0) result.1.view }
+        requires { MayKnow (P.holds self.key) (P.ways self.key) seen × Traces (P.holds self.key) (P.ways self.key) self.view self.value (λ n. (n + (2 ^ 64 - by)) % 2 ^ 64) (M.told self.key self.view) }
+        ensures moved { Moved (Watches (Named (P.holds self.entry.key) (P.ways self.entry.key) seen.name) seen result.2 (M.told self.entry.key self.entry.view) result.0) result.1.view }
         ensures kept { Keeps (P.ways self.entry.key) self.entry.view result.1.view self.entry.value result.1.value }
         ensures found { Found (P.ways self.entry.key) self.entry.view result.1.view self.entry.value result.1.value result.2 }
         ensures key { result.1.key ≡ self.entry.key }
@@ -159,8 +164,8 @@ impl<'a, T, V, E, S, P: Rule<T, V, Second = Trace<E, S>>> Permit<'a, T, V, P> {
         mask: u64,
         seen: Watch<E>,
     ) -> (u64, Permit<'a, T, V, P>, Watch<E>)
-        requires { MayKnow (P.holds self.key) (P.ways self.key) seen × Traces (P.holds self.key) (P.ways self.key) self.view self.value (λ n. bit_or n mask) (M.told self.key mask 0 self.view) }
-        ensures moved { Moved (Watches (Named (P.holds self.entry.key) (P.ways self.entry.key) seen.name) seen result.2 (M.told self.entry.key mask 0 self.entry.view) result.0) result.1.view }
+        requires { MayKnow (P.holds self.key) (P.ways self.key) seen × Traces (P.holds self.key) (P.ways self.key) self.view self.value (λ n. bit_or n mask) (M.told self.key self.view) }
+        ensures moved { Moved (Watches (Named (P.holds self.entry.key) (P.ways self.entry.key) seen.name) seen result.2 (M.told self.entry.key self.entry.view) result.0) result.1.view }
         ensures kept { Keeps (P.ways self.entry.key) self.entry.view result.1.view self.entry.value result.1.value }
         ensures found { Found (P.ways self.entry.key) self.entry.view result.1.view self.entry.value result.1.value result.2 }
         ensures key { result.1.key ≡ self.entry.key }
@@ -188,8 +193,8 @@ impl<'a, T, V, E, P: Rule<T, V, Second = Trace<E, u64>>> Permit<'a, T, V, P> {
         self,
         seen: Watch<E>,
     ) -> (u64, Permit<'a, T, V, P>, Watch<E>)
-        requires { MayKnow (P.holds self.key) (P.ways self.key) seen × TracesSecond (P.holds self.key) (P.ways self.key) self.view self.value (λ n. n) (M.told self.key 0 0 self.view) }
-        ensures moved { Moved (Watches (Named (P.holds self.entry.key) (P.ways self.entry.key) seen.name) seen result.2 (M.told self.entry.key 0 0 self.entry.view) result.0) result.1.view }
+        requires { MayKnow (P.holds self.key) (P.ways self.key) seen × TracesSecond (P.holds self.key) (P.ways self.key) self.view self.value (λ n. n) (M.told self.key self.view) }
+        ensures moved { Moved (Watches (Named (P.holds self.entry.key) (P.ways self.entry.key) seen.name) seen result.2 (M.told self.entry.key self.entry.view) result.0) result.1.view }
         ensures kept { Keeps (P.ways self.entry.key) self.entry.view result.1.view self.entry.value result.1.value }
         ensures found { Found (P.ways self.entry.key) self.entry.view result.1.view self.entry.value result.1.value result.2 }
         ensures key { result.1.key ≡ self.entry.key }
@@ -212,8 +217,8 @@ impl<'a, T, V, E, P: Rule<T, V, Second = Trace<E, u64>>> Permit<'a, T, V, P> {
         new: u64,
         seen: Watch<E>,
     ) -> (Permit<'a, T, V, P>, Watch<E>)
-        requires { MayKnow (P.holds self.key) (P.ways self.key) seen × TracesSecond (P.holds self.key) (P.ways self.key) self.view self.value (λ _. new) (λ log es _. M.told self.key 0 new self.view log es 0) }
-        ensures moved { Moved (Watches (Named (P.holds self.entry.key) (P.ways self.entry.key) seen.name) seen result.1 (λ log es _. M.told self.entry.key 0 new self.entry.view log es 0) 0) result.0.view }
+        requires { MayKnow (P.holds self.key) (P.ways self.key) seen × TracesSecond (P.holds self.key) (P.ways self.key) self.view self.value (λ _. new) (λ log es _. M.told self.key self.view log es 0) }
+        ensures moved { Moved (Watches (Named (P.holds self.entry.key) (P.ways self.entry.key) seen.name) seen result.1 (λ log es _. M.told self.entry.key self.entry.view log es 0) 0) result.0.view }
         ensures kept { Keeps (P.ways self.entry.key) self.entry.view result.0.view self.entry.value result.0.value }
         ensures found { Found (P.ways self.entry.key) self.entry.view result.0.view self.entry.value result.0.value result.1 }
         ensures key { result.0.key ≡ self.entry.key }

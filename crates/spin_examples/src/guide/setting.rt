@@ -26,6 +26,6 @@ impl Makes<Workers, ()> for Text<'_> {
 }
 
 /// Returns how much work each worker has. The number of workers is never 0.
-pub fn share<W: Wait>(rt: &W, workers: &LazyLock<Workers, Text<'_>>, work: u64) -> u64 {
+pub fn share_of_work<W: Wait>(rt: &W, workers: &LazyLock<Workers, Text<'_>>, work: u64) -> u64 {
     work / LazyLock::force(workers, rt).number
 }

@@ -1,10 +1,10 @@
 //! The calls of a [`FairMutex`] by a thread that keeps track of them. Begin at [`FairMutex::pass`].
 ghost use Rattle.std.specs.Prelude.{◌≡◌, None, IfOk, IfErr};
 ghost use Rattle.spin_core.specs.Logs.{OneIsPrefix};
-ghost use Rattle.spin_session.specs.Turns.{Stands, history, lock_of, spot};
+ghost use Rattle.spin_session.specs.Turns.{Stands, history, lock_of, spot_of};
 ghost use Rattle.spin_step.specs.declared.answer.Answer.TheVariants.{Granted, Refused, Is};
 ghost use Rattle.spin_step_more.specs.declared.fair_calls.FairCall.TheVariants.{Lock, TryLock, TryLockStarver, IsLocked, Starve};
-ghost use Rattle.spin_fair.specs.Fair.{answer_of};
+ghost use Rattle.spin_fair.specs.Fair.{reason_answer};
 ghost use Rattle.spin_fair.specs.FairPasses.{After, Calls, FairSpot, Grants, Holds, Recalls, Unlocks, new_in, opening};
 
 use super::rule::{Entry, FairRule};
@@ -54,7 +54,7 @@ pub struct Pass<'a, T, R> {
 impl<'a, T, R> Model for Pass<'a, T, R> {
     ghost Value = { FairSpot T };
 
-    ghost view = { λ pass. spot pass.session };
+    ghost view = { λ pass. spot_of pass.session };
 
     ghost invariant = { λ pass. Stands None pass.session };
 }
@@ -168,7 +168,7 @@ impl<'a, T, R> Pass<'a, T, R> {
         self,
     ) -> Result<FairMutexGuard<'a, T, R>, (LockRejectReason, Pass<'a, T, R>)>
         ensures granted { IfOk result (Grants TryLockStarver self.entry) }
-        ensures refused { IfErr result (λ e. Calls TryLockStarver (answer_of e.0) self.entry e.1) }
+        ensures refused { IfErr result (λ e. Calls TryLockStarver (reason_answer e.0) self.entry e.1) }
     {
         let Self { session, strategy } = self;
         let (answer, _, session, _) = in_three(session, FairCall::TryLockStarver, None);

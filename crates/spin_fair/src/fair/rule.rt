@@ -2,9 +2,9 @@
 ghost use Rattle.std.specs.Prelude.{◌≡◌, refl};
 ghost use Rattle.spin_core.specs.Cell.{use_of};
 ghost use Rattle.spin_core.specs.Values.{untold};
-ghost use Rattle.spin_session.specs.Meaning.{ways_of};
+ghost use Rattle.spin_session.specs.Meaning.{use_of_party, ways_of};
 ghost use Rattle.spin_step_more.specs.declared.fair_calls.FairPoint.TheVariants.{Unregister};
-ghost use Rattle.spin_fair.specs.Fair.{IsFair, fair_meaning, fair_tables, use_of_party};
+ghost use Rattle.spin_fair.specs.Fair.{IsFair, fair_meaning, fair_tables};
 
 use super::STARVATION_SPINS;
 use spin_core::cell::{Left, Rule, WritePermit};
@@ -122,7 +122,7 @@ fn alone(looks: bool) -> Ahead<FairPoint>
 }
 
 impl Uses<Party> for FairRule {
-    ghost use_at = { use_of use_of_party };
+    ghost use_at = { use_of (use_of_party fair_meaning) };
 }
 
 impl<T> guard::Release<T, Party> for FairRule {

@@ -1,7 +1,7 @@
 //! A registered starver of a `FairMutex`. The starver goes before newcomers until it has the lock or gives up. Begin at
 //! [`Starvation::lock`].
 ghost use Rattle.std.specs.Prelude.{Some, IfOk, IfErr};
-ghost use Rattle.spin_session.specs.Turns.{Stands, spot};
+ghost use Rattle.spin_session.specs.Turns.{Stands, spot_of};
 ghost use Rattle.spin_step.specs.declared.answer.Answer.TheVariants.{Refused, Done};
 ghost use Rattle.spin_step.specs.declared.place.Hold.TheVariants.{Starver};
 ghost use Rattle.spin_step_more.specs.declared.fair_calls.FairCall.TheVariants.{StarverTryLock, StarverTryLockFair, StarverLock, StarverDrop};
@@ -34,7 +34,7 @@ pub struct Starvation<'a, T, R = Spin> {
 impl<'a, T, R> Model for Starvation<'a, T, R> {
     ghost Value = { FairSpot T };
 
-    ghost view = { λ starver. spot starver.session };
+    ghost view = { λ starver. spot_of starver.session };
 
     ghost invariant = { λ starver. Stands (Some Starver) starver.session };
 }

@@ -1,7 +1,7 @@
 //! The calls of a [`SpinMutex`] by a thread that keeps track of them. Begin at [`SpinMutex::pass`].
 ghost use Rattle.std.specs.Prelude.{◌≡◌, None, IfOk, IfErr};
 ghost use Rattle.spin_core.specs.Logs.{OneIsPrefix};
-ghost use Rattle.spin_session.specs.Turns.{Stands, history, lock_of, spot};
+ghost use Rattle.spin_session.specs.Turns.{Stands, history, lock_of, spot_of};
 ghost use Rattle.spin_flag.specs.Passes.{After, Calls, FlagSpot, Grants, Holds, Recalls, Unlocks, new_in, opening};
 ghost use Rattle.spin_step.specs.declared.answer.Answer.TheVariants.{Refused, Is};
 ghost use Rattle.spin_step.specs.declared.flag_calls.FlagCall.TheVariants.{Lock, TryLock, IsLocked};
@@ -49,7 +49,7 @@ pub struct Pass<'a, T, R> {
 impl<'a, T, R> Model for Pass<'a, T, R> {
     ghost Value = { FlagSpot T };
 
-    ghost view = { λ pass. spot pass.session };
+    ghost view = { λ pass. spot_of pass.session };
 
     ghost invariant = { λ pass. Stands None pass.session };
 }

@@ -2,8 +2,8 @@
 ghost use Rattle.std.specs.Prelude.{refl};
 ghost use Rattle.spin_core.specs.Cell.{use_of};
 ghost use Rattle.spin_core.specs.Values.{untold};
-ghost use Rattle.spin_session.specs.Meaning.{ways_of};
-ghost use Rattle.spin_flag.specs.Flag.{IsFlag, flag_meaning, flag_tables, use_of_party};
+ghost use Rattle.spin_session.specs.Meaning.{use_of_party, ways_of};
+ghost use Rattle.spin_flag.specs.Flag.{IsFlag, flag_meaning, flag_tables};
 
 use spin_core::cell::{Left, Rule, WritePermit};
 use spin_core::guard::{self, Uses};
@@ -65,7 +65,7 @@ impl<T> Runs<T> for FlagRule {
 }
 
 impl Uses<Party> for FlagRule {
-    ghost use_at = { use_of use_of_party };
+    ghost use_at = { use_of (use_of_party flag_meaning) };
 }
 
 impl<T> guard::Release<T, Party> for FlagRule {

@@ -13,15 +13,15 @@ ghost use Rattle.spin_step.specs.declared.answer.Answer.TheVariants.{Value, NoVa
 ghost use Rattle.spin_step.specs.declared.stepped.Next.TheVariants.{Answers};
 ghost use Rattle.spin_step.specs.declared.once_calls.OnceCall.TheVariants.{Get, IsCompleted, Wait as WaitCall, Poll};
 ghost use Rattle.spin_step.specs.declared.once_calls.OncePoint.TheVariants.{TryBegin};
-ghost use Rattle.spin_once.specs.Once.{IsOnce, Told, once_ways, use_of_party, next_at, view_of, turn_by, in_call, reader, Call, HasClosure, is_run, stops, IsAt, IsStepOf, IsTold};
+ghost use Rattle.spin_once.specs.Once.{IsOnce, once_ways, use_of_party, next_at, view_of, in_call, reader, Call, HasClosure, is_run, stops, IsAt, IsStepOf, IsTold};
 ghost use Rattle.spin_once.specs.OnceValues.{made, Sees};
 
 use super::init_permit::InitPermit;
 use super::known::known;
-use super::rule::{Caller, Entry, Seed, Stage, Turn};
+use super::rule::{Caller, Entry, Key, Party, Seed, Stage};
+use spin_core::cell::Play;
 use spin_core::relax::RelaxStrategy;
 use spin_core::trace::Watch;
-use spin_session::table::CallOf;
 use spin_step::{Answer, Next, OnceCall, OncePoint, OnceTable, Operation, Steps};
 use std::marker::Brand;
 use std::sync::Wait;
@@ -109,7 +109,7 @@ impl<'a, T, S: Seed<T>> Account<'a, T, S> {
     {
         let Self { party, seen } = self;
         let operation = OnceTable.operation(call, point, None);
-        let (found, party, seen) = operate::<T, S, Brand>(party, operation, seen, call);
+        let (found, party, seen) = operate::<T, S, Brand>(party, operation, seen, call, point);
         (
             OnceTable.next(call, point, None, found),
             Account { party, seen },
@@ -215,7 +215,30 @@ impl<'a, T, S: Seed<T>> Account<'a, T, S> {
         ensures claims { (p : Place T S) → Entered call p (here self.entry) → Claims call p result }
         ensures runs { IfErr result (λ permit. MayRun call self.entry permit.account) }
     {
-        let (next, account) = self.go_on::<R, W>(call, OncePoint::TryBegin, rt);
+        let (next, account) = self.step(call, OncePoint::TryBegin);
+        match next {
+            Next::Answers(_, _) => Ok(Found { account }),
+            Next::Continue(OncePoint::Run) => Err(InitPermit { account }),
+            Next::Continue(point) => account.claim_later::<R, W>(call, point, rt),
+        }
+    }
+
+    // Goes on with a claim that has met another thread's closure. It is not inlined, since a first caller meets none.
+    #[cold]
+    #[inline(never)]
+    fn claim_later<R: RelaxStrategy, W: Wait>(
+        self,
+        call: OnceCall<()>,
+        point: OncePoint,
+        rt: &W,
+    ) -> Result<Found<'a, T, S>, InitPermit<'a, T, S>>
+        requires at { what self.party.view ≡ Some (in_call call point) }
+        requires quiet { is_run point ≡ false }
+        requires closure { HasClosure call }
+        ensures claims { (p : Place T S) → Entered call p (here self.entry) → Claims call p result }
+        ensures runs { IfErr result (λ permit. MayRun call self.entry permit.account) }
+    {
+        let (next, account) = self.go_on::<R, W>(call, point, rt);
         match next {
             Next::Answers(_, _) => Ok(Found { account }),
             Next::Continue(_) => Err(InitPermit { account }),
@@ -264,29 +287,30 @@ fn is_value(next: Next<OncePoint, Answer<()>>) -> bool
 
 /// Makes an operation of the call's table. Returns the number found; a store finds 0.
 #[inline(always)]
-pub(super) fn operate<'a, T, S: Seed<T>, K: CallOf<OnceCall<()>>>(
+pub(super) fn operate<'a, T, S: Seed<T>, M: Play<Key<T, S>, Party, Entry<T>>>(
     party: Caller<'a, T, S>,
     operation: Operation,
     seen: Watch<Entry<T>>,
     call: OnceCall<()>,
+    point: OncePoint,
 ) -> (u64, Caller<'a, T, S>, Watch<Entry<T>>)
     requires knows { MayKnow (IsOnce party.key.opening) (once_ways S.makes party.key) seen }
-    requires keeps { Operates just_one (IsOnce party.key.opening) (once_ways S.makes party.key) party.view party.value 0 operation (Told party.key.opening (turn_by K.call (what party.view)) party.view) }
-    ensures moved { Moved (Watches (Named (IsOnce party.entry.key.opening) (once_ways S.makes party.entry.key) seen.name) seen result.2 (Told party.entry.key.opening (turn_by K.call (what party.entry.view)) party.entry.view) result.0) result.1.view }
+    requires keeps { Operates just_one (IsOnce party.key.opening) (once_ways S.makes party.key) party.view party.value 0 operation (M.told party.key party.view) }
+    ensures moved { Moved (Watches (Named (IsOnce party.entry.key.opening) (once_ways S.makes party.entry.key) seen.name) seen result.2 (M.told party.entry.key party.entry.view) result.0) result.1.view }
     ensures kept { Keeps (once_ways S.makes party.entry.key) party.entry.view result.1.view party.entry.value result.1.value }
     ensures found { FoundIn (once_ways S.makes party.entry.key) party.entry.view result.1.view party.entry.value result.1.value result.2 }
     ensures key { result.1.key ≡ party.entry.key }
 {
-    let _ = call;
+    let _ = (call, point);
     match operation {
-        Operation::Load => party.load::<Turn<K>>(seen),
-        Operation::Exchange(old, new) => party.exchange::<Turn<K>>(old, new, seen),
+        Operation::Load => party.load::<M>(seen),
+        Operation::Exchange(old, new) => party.exchange::<M>(old, new, seen),
         Operation::Store(to) => {
-            let (party, seen) = party.store::<Turn<K>>(to, seen);
+            let (party, seen) = party.store::<M>(to, seen);
             (0, party, seen)
         }
-        Operation::Add(by) => party.add::<Turn<K>>(by, seen),
-        Operation::Subtract(by) => party.subtract::<Turn<K>>(by, seen),
-        Operation::SetLowestBit => party.set_bits::<Turn<K>>(1, seen),
+        Operation::Add(by) => party.add::<M>(by, seen),
+        Operation::Subtract(by) => party.subtract::<M>(by, seen),
+        Operation::SetLowestBit => party.set_bits::<M>(1, seen),
     }
 }

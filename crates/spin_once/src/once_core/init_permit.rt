@@ -9,7 +9,7 @@ ghost use Rattle.spin_session.specs.Turns.{has_begun};
 ghost use Rattle.spin_step.specs.declared.answer.Answer.TheVariants.{Value};
 ghost use Rattle.spin_step.specs.declared.once_calls.OnceCall.TheVariants.{TryCallOnceOk};
 ghost use Rattle.spin_step.specs.declared.once_calls.OncePoint.TheVariants.{Run};
-ghost use Rattle.spin_once.specs.Once.{use_of_party, in_call, Call, is_running, IsFailedCall};
+ghost use Rattle.spin_once.specs.Once.{use_of_party, in_call, Call, runs_closure, IsFailedCall};
 
 use super::account::{Account, Found, operate};
 use super::rule::{Caller, Fail, Seed, Stage};
@@ -20,7 +20,7 @@ use std::mem::{self, ManuallyDrop};
 /// The right of the party that began to make the value: this party has the cell's content to itself.
 pub(crate) struct InitPermit<'a, T, S: Seed<T>> {
     pub(super) account: Account<'a, T, S>,
-    ghost runs: { is_running (what account.party.view) ≡ true },
+    ghost runs: { runs_closure (what account.party.view) ≡ true },
 }
 
 impl<'a, T, S: Seed<T>> InitPermit<'a, T, S> {
@@ -60,7 +60,7 @@ impl<'a, T, S: Seed<T>> InitPermit<'a, T, S> {
         let party = put(party, Stage::Done(value));
         let call = OnceCall::CallOnce(());
         let store = OnceTable.operation(call, OncePoint::Run, None);
-        let (_, party, seen) = operate::<T, S, Brand>(party, store, seen, call);
+        let (_, party, seen) = operate::<T, S, Brand>(party, store, seen, call, OncePoint::Run);
         Found {
             account: Account { party, seen },
         }

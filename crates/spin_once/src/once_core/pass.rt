@@ -6,10 +6,11 @@ ghost use Rattle.spin_session.specs.Turns.{has_begun};
 ghost use Rattle.spin_step.specs.declared.answer.Answer.TheVariants.{Is};
 ghost use Rattle.spin_step.specs.declared.once_calls.OnceCall.TheVariants.{Get, IsCompleted};
 ghost use Rattle.spin_once.specs.Accounts.{Place, here};
-ghost use Rattle.spin_once.specs.Passes.{After, AreOfOne, Calls, Gets, Has, Never, TellsValue, found_or_none, history, lock_of};
+ghost use Rattle.spin_once.specs.Passes.{After, AreOfOne, Calls, Gets, Has, Never, Recalls, TellsValue, found_or_none, history, lock_of};
 
 use super::account::Account;
-use super::rule::Seed;
+use super::rule::{Entry, Seed};
+use spin_core::trace::Watch;
 use std::marker::{Model, PhantomData};
 
 /// A thread's record of its calls of a [`Once`](crate::once::Once) or a [`LazyLock`](crate::lazylock::LazyLock).
@@ -85,6 +86,16 @@ impl<'a, T, S: Seed<T>, R> Pass<'a, T, S, R> {
     {
         let (there, account) = self.into_account().is_completed();
         (there, Pass::of(account))
+    }
+
+    /// Returns what this pass knows of the history. It outlives the borrow of the `Once` or `LazyLock`.
+    ///
+    /// # Contract
+    /// It is what the pass knows (`Recalls`).
+    pub fn seen(&self) -> Watch<Entry<T>>
+        ensures { Recalls self.now result }
+    {
+        self.account.seen.copy()
     }
 
     /// Compares what two passes of one `Once` or `LazyLock` know. It does nothing when it runs.

@@ -1,14 +1,14 @@
 //! The rule of a [`OnceCore`](super::OnceCore): what the word says of all parties, and what a step tells.
-ghost use Rattle.spin_core.specs.Own.{what};
-ghost use Rattle.spin_once.specs.Once.{Told, turn_by, fails_by};
+ghost use Rattle.std.specs.Prelude.{◌≡◌};
+ghost use Rattle.spin_once.specs.OnceValues.{value_in};
+ghost use Rattle.spin_once.specs.Once.{Told, fails_by};
 
 use spin_core::cell::stable::{MaybeStable, Stabilizes, Stable};
 use spin_core::cell::{Cell, Permit, Play, Rule, WritePermit};
 use spin_core::tie::{self, Opening};
 use spin_core::trace::Trace;
-use spin_session::table::{self, CallOf};
+use spin_session::table;
 use spin_step::{OnceCall, OncePoint};
-use std::marker::PhantomData;
 use std::snapshot::Snapshot;
 
 // The word where there is no value and no closure runs.
@@ -29,6 +29,9 @@ pub type Party = table::Party<OnceCall<()>, OncePoint>;
 
 /// An entry of the trace of a cell of values of type `T`.
 pub type Entry<T> = tie::Entry<OnceCall<()>, T>;
+
+/// The whole history of a cell of values of type `T`, at its end.
+pub type History<T> = Trace<Entry<T>>;
 
 /// What is fixed when the cell is made.
 #[derive(Drop)]
@@ -65,6 +68,18 @@ impl<T, S> Stage<T, S> {
     }
 }
 
+impl<T, S: Drop> Stage<T, S> {
+    /// Returns the value, if this is one.
+    pub(super) fn into_value(self) -> Option<T>
+        ensures { result ≡ value_in self }
+    {
+        match self {
+            Stage::Done(value) => Some(value),
+            _ => None,
+        }
+    }
+}
+
 /// A value that was made stays made.
 impl<T, S> Stabilizes for Stage<T, S> {
     ghost use Rattle.spin_once.specs.Once.{is_done};
@@ -82,7 +97,7 @@ impl<T, S: Seed<T>> Rule<Slot<T, S>, Party> for Stage<T, S> {
 
     type Key = Key<T, S>;
 
-    type Second = Trace<Entry<T>>;
+    type Second = History<T>;
 
     ghost holds = { λ key. IsOnce key.opening };
 
@@ -97,19 +112,9 @@ pub(super) type Caller<'a, T, S> = Permit<'a, Slot<T, S>, Party, Stage<T, S>>;
 
 pub(super) type Writer<'a, T, S> = WritePermit<'a, Slot<T, S>, Party, Stage<T, S>>;
 
-/// The next step of the party's call. A party in no call begins the call `K`. If a closure gave a value, the store
-/// after the closure is a write of that value in the history.
-pub(super) struct Turn<K> {
-    call: PhantomData<K>,
-}
-
-impl<K: CallOf<OnceCall<()>>, T, S> Play<Key<T, S>, Party, Entry<T>> for Turn<K> {
-    ghost told = { λ key old new before. Told key.opening (turn_by K.call (what before)) before };
-}
-
 /// The store after a closure that failed.
 pub(super) struct Fail;
 
 impl<T, S> Play<Key<T, S>, Party, Entry<T>> for Fail {
-    ghost told = { λ key old new before. Told key.opening fails_by before };
+    ghost told = { λ key before. Told key.opening fails_by before };
 }

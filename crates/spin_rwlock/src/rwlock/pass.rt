@@ -1,16 +1,16 @@
 //! The calls of an [`RwLock`] by a thread that keeps track of them. Begin at [`RwLock::pass`].
-ghost use Rattle.std.specs.Prelude.{◌≡◌, ◌≤◌, true, false, None, IfOk, IfErr};
-ghost use Rattle.std.specs.Option.{IfSome};
+ghost use Rattle.std.specs.Prelude.{◌≡◌, ◌≤◌, true, false, None, Some, Option, IfOk, IfErr};
 ghost use Rattle.spin_core.specs.Logs.{OneIsPrefix};
 ghost use Rattle.spin_core.specs.Calls.{AnswersOf, AnswersOfShared};
-ghost use Rattle.spin_core.specs.Values.{IsLast};
+ghost use Rattle.spin_core.specs.Own.{what};
+ghost use Rattle.spin_step.specs.declared.answer.Answer.{Answer as AnAnswer};
 ghost use Rattle.spin_step.specs.declared.answer.Answer.TheVariants.{Granted, Refused, Count, Done};
+ghost use Rattle.spin_step.specs.declared.place.Hold.{Hold as AHold};
 ghost use Rattle.spin_step_more.specs.Readers.{reader_limit};
 ghost use Rattle.spin_step_more.specs.declared.rw_calls.RwCall.TheVariants.{TryRead, Read, TryUpgradeableRead, UpgradeableRead, TryWrite, Write, ReaderCount, WriterCount, Release};
-ghost use Rattle.spin_session.specs.Turns.{Stands, spot};
-ghost use Rattle.spin_rwlock.specs.Guards.{shared_value};
-ghost use Rattle.spin_rwlock.specs.Rw.{call_of};
-ghost use Rattle.spin_rwlock.specs.RwPasses.{◌⨾◌, After, Calls, Grants, Holds, Lends, Recalls, RwSpot, Unlocks, WroteSome, history, lock_of, new_in, opening, opening_of, shared_spot};
+ghost use Rattle.spin_session.specs.Turns.{Ended, GoesOn, IsAnsweredBy, Knows, MayBegin, SeesLast, SeesOn, Stands, StaysQuiet, Under, spot_of};
+ghost use Rattle.spin_rwlock.specs.Rw.{call_of, rw_meaning, rw_tables};
+ghost use Rattle.spin_rwlock.specs.RwPasses.{◌⨾◌, After, Calls, Grants, Holds, Lends, Recalls, RwSpot, ShowsLast, Unlocks, WroteSome, history, lock_of, new_in, opening, opening_of, shared_spot};
 
 use super::RwLock;
 use super::reader::{RwLockReadGuard, SharedGuard};
@@ -19,11 +19,11 @@ use super::upgradable::RwLockUpgradableGuard;
 use super::writer::RwLockWriteGuard;
 use spin_core::relax::RelaxStrategy;
 use spin_core::trace::Watch;
-use spin_session::calls::{after, ask, begin, enter, finish, wait};
+use spin_session::calls::{self, after, ask, begin, enter, finish};
 use spin_session::session::Session;
 use spin_session_more::calls::{attempt, try_for};
 use spin_step::{Answer, Hold, Next};
-use spin_step_more::rw_calls::RwCall;
+use spin_step_more::rw_calls::{RwCall, RwPoint};
 use std::marker::{Model, PhantomData};
 use std::sync::Wait;
 
@@ -63,7 +63,7 @@ pub struct Pass<'a, T, R> {
 impl<'a, T, R> Model for Pass<'a, T, R> {
     ghost Value = { RwSpot T };
 
-    ghost view = { λ pass. spot pass.session };
+    ghost view = { λ pass. spot_of pass.session };
 
     ghost invariant = { λ pass. Stands None pass.session };
 }
@@ -90,7 +90,7 @@ impl<T, R> RwLock<T, R> {
     /// The release is the next call of the party that acquired the guard, with or without a pass (`made`). The guard's
     /// value is still the one written last in the history (`still`).
     pub fn unlock_shared<'a, K: Kind>(guard: SharedGuard<'a, T, K, R>) -> Pass<'a, T, R>
-        ensures still { IfSome (shared_value guard.entry) (IsLast (opening_of result) (history result)) }
+        ensures still { ShowsLast guard.entry result }
         ensures made { Calls Release Done (shared_spot guard.entry) result }
     {
         Pass {
@@ -107,7 +107,6 @@ impl<T, R> RwLock<T, R> {
     /// The guard has to be one that a call of this lock returned (`Holds`), with or without a pass. The release is the
     /// next call of its party. Just before the release the party writes the guard's value into the history, so this
     /// value is the one written last (`Unlocks`).
-    #[tactic(auto, using(crate::proofs::RwCalls::may_release))]
     pub fn unlock<'a>(guard: RwLockWriteGuard<'a, T, R>) -> Pass<'a, T, R>
         requires { Holds guard }
         ensures { Unlocks Release guard.entry result }
@@ -216,7 +215,7 @@ impl<'a, T, R: RelaxStrategy> Pass<'a, T, R> {
 
 impl<'a, T, R> Pass<'a, T, R> {
     fn into_session(self) -> RwSession<'a, T>
-        ensures { (spot result ≡ self.entry) × Stands None result }
+        ensures { (spot_of result ≡ self.entry) × Stands None result }
     {
         let Self {
             session,
@@ -391,17 +390,10 @@ pub(super) fn lend<'a, T, K: Kind, R: RelaxStrategy, W: Wait>(
     rt: &W,
 ) -> SharedGuard<'a, T, K, R>
     requires { Stands None session }
-    ensures { Lends (call_of K.hold true) Granted (spot session.entry) result }
+    ensures { Lends (call_of K.hold true) Granted (spot_of session.entry) result }
 {
-    let call = call_of(K::hold(), true);
-    let (next, point, found, session) = begin(session, call, None);
-    match next {
-        Next::Answers(_, _) => SharedGuard::lent(session),
-        Next::Continue(_) => {
-            let session = wait::<T, RwRule<T>, R, W>(session, call, point, None, found, rt);
-            SharedGuard::lent(session)
-        }
-    }
+    let (call, after) = (call_of(K::hold(), true), K::hold());
+    SharedGuard::lent(come::<T, R, W>(session, call, after, rt))
 }
 
 // Waits until the lock admits a writer.
@@ -411,23 +403,55 @@ pub(super) fn grant<'a, T, R: RelaxStrategy, W: Wait>(
     rt: &W,
 ) -> RwLockWriteGuard<'a, T, R>
     requires { Stands None session }
-    ensures { Grants Write (spot session.entry) result }
+    ensures { Grants Write (spot_of session.entry) result }
 {
-    let (next, point, found, session) = begin(session, RwCall::Write, None);
+    RwLockWriteGuard::written(come::<T, R, W>(session, RwCall::Write, Hold::Write, rt))
+}
+
+// Waits until the lock admits a holder of this kind.
+#[inline(always)]
+fn come<'a, T, R: RelaxStrategy, W: Wait>(
+    session: RwSession<'a, T>,
+    call: RwCall,
+    after: Hold,
+    rt: &W,
+) -> RwSession<'a, T>
+    requires stands { Stands None session }
+    requires may { MayBegin rw_tables rw_meaning call None session.permit.key }
+    requires answers { IsAnsweredBy rw_tables rw_meaning call None Granted (Some after) session.permit.key }
+    ensures stands { Stands (Some after) result }
+    ensures calls { Calls call Granted (spot_of session.entry) (spot_of result) }
+    ensures last { SeesLast result }
+    ensures sees { SeesOn rw_meaning call None session.entry.permit.value result }
+{
+    let _ = after;
+    let (next, point, found, session) = begin(session, call, None);
     match next {
-        Next::Answers(_, _) => RwLockWriteGuard::written(session),
-        Next::Continue(_) => {
-            let session = wait::<T, RwRule<T>, R, W>(
-                session,
-                RwCall::Write,
-                point,
-                None,
-                found,
-                rt,
-            );
-            RwLockWriteGuard::written(session)
-        }
+        Next::Answers(_, _) => session,
+        Next::Continue(_) => wait::<T, R, W>(session, call, point, found, rt),
     }
+}
+
+// Goes on with the call of a party that holds nothing. `calls::wait` takes what a party holds through memory: here a
+// caller that is admitted at once does not write it.
+#[cold]
+#[inline(never)]
+fn wait<'a, T, R: RelaxStrategy, W: Wait>(
+    session: RwSession<'a, T>,
+    call: RwCall,
+    point: RwPoint,
+    found: u64,
+    rt: &W,
+) -> RwSession<'a, T>
+    requires knows { Knows rw_meaning (spot_of session) }
+    requires goes { GoesOn rw_tables call point None found session.permit.key (what session.permit.view) }
+    requires quiet { StaysQuiet rw_meaning call None }
+    ensures knows { Knows rw_meaning (spot_of result) }
+    ensures ended { (p : RwSpot T) → Under rw_tables rw_meaning call p (spot_of session.entry) → (a : AnAnswer (Unit {0})) × (after : Option AHold) × Ended rw_tables rw_meaning call None a after p (spot_of result) }
+    ensures last { SeesLast result }
+    ensures sees { (v : Option T) → SeesOn rw_meaning call None v session.entry → SeesOn rw_meaning call None v result }
+{
+    calls::wait::<T, RwRule<T>, R, W>(session, call, point, None, found, rt)
 }
 
 impl<T, R> Drop for Pass<'_, T, R> {

@@ -7,7 +7,7 @@ ghost use Rattle.spin_step.specs.declared.answer.Answer.TheVariants.{Done};
 ghost use Rattle.spin_step.specs.declared.place.Hold.TheVariants.{Read as Reads};
 ghost use Rattle.spin_step_more.specs.declared.rw_calls.RwCall.{RwCall as ACall};
 ghost use Rattle.spin_step_more.specs.declared.rw_calls.RwCall.TheVariants.{Release};
-ghost use Rattle.spin_session.specs.Turns.{Calls, SeesLast, Stands, spot};
+ghost use Rattle.spin_session.specs.Turns.{Calls, SeesLast, Stands, spot_of};
 ghost use Rattle.spin_rwlock.specs.Rw.{IsLent, rw_tables};
 
 use super::rule::{Entry, Kind, Party, Reader, RwRule, RwSession};
@@ -62,7 +62,7 @@ impl<'a, T, K: Kind, R> SharedGuard<'a, T, K, R> {
     pub(super) fn lent(session: RwSession<'a, T>) -> Self
         requires { IsLent K.hold session }
         ensures same { result.session ≡ session.entry }
-        ensures lends { SeesLast session.entry → (call : ACall) (answer : AnAnswer (Unit {0})) (before : RwSpot T) → Calls rw_tables call answer before (spot session.entry) → Lends call answer before result }
+        ensures lends { SeesLast session.entry → (call : ACall) (answer : AnAnswer (Unit {0})) (before : RwSpot T) → Calls rw_tables call answer before (spot_of session.entry) → Lends call answer before result }
     {
         SharedGuard {
             session,
@@ -103,10 +103,9 @@ impl<'a, T, K: Kind, R> SharedGuard<'a, T, K, R> {
     }
 
     // Releases the shared access. The party is then in no call, and holds nothing.
-    #[tactic(auto, using(crate::proofs::RwCalls::leaves, crate::proofs::RwCalls::may_leave))]
     pub(super) fn release(self) -> RwSession<'a, T>
         ensures stands { Stands None result }
-        ensures made { Calls rw_tables Release Done (shared_spot self.entry) (spot result) }
+        ensures made { Calls rw_tables Release Done (shared_spot self.entry) (spot_of result) }
         ensures still { IfSome (shared_value self.entry) (IsLast result.permit.key result.seen.entries) }
     {
         let (call, held) = (RwCall::Release, Some(K::hold()));

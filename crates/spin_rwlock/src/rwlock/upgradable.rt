@@ -45,7 +45,6 @@ impl<'a, T, R> SharedGuard<'a, T, Upgrader, R> {
     /// drop(reader);
     /// assert!(rt; guard.try_upgrade().is_ok());
     /// ```
-    #[tactic(auto, using(crate::proofs::RwCalls::tries_to_upgrade, crate::proofs::RwCalls::upgrade_at_once, crate::proofs::RwCalls::may_raise))]
     pub fn try_upgrade(self) -> Result<RwLockWriteGuard<'a, T, R>, Self>
         ensures granted_value { IfOk result (λ g. Some (write_value g) ≡ shared_value self.entry) }
         ensures refused_value { IfErr result (λ g. shared_value g ≡ shared_value self.entry) }
@@ -92,7 +91,7 @@ impl<'a, T, R> SharedGuard<'a, T, Upgrader, R> {
     /// assert!(rt; limit.try_upgradeable_read(&rt).is_some());
     /// assert_eq!(rt; *reader, 3);
     /// ```
-    #[tactic(auto, using(crate::proofs::RwCalls::lower_at_once, crate::proofs::RwCalls::may_lower_on))]
+    #[tactic(auto, using(crate::proofs::RwCalls::lower_at_once))]
     pub fn downgrade(self) -> RwLockReadGuard<'a, T, R>
         ensures value { shared_value result ≡ shared_value self.entry }
         ensures made { Lends Downgrade Done (shared_spot self.entry) result }
@@ -127,7 +126,6 @@ impl<'a, T, R: RelaxStrategy> SharedGuard<'a, T, Upgrader, R> {
     /// }
     /// assert_eq!(rt; *limit.read(&rt), 4);
     /// ```
-    #[tactic(auto, using(crate::proofs::RwCalls::upgrades, crate::proofs::RwCalls::may_raise))]
     pub fn upgrade<W: Wait>(self, rt: &W) -> RwLockWriteGuard<'a, T, R>
         ensures value { Some (write_value result) ≡ shared_value self.entry }
         ensures made { Grants Upgrade (shared_spot self.entry) result }

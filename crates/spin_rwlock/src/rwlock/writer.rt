@@ -6,9 +6,9 @@ ghost use Rattle.spin_step.specs.declared.place.Hold.TheVariants.{Write};
 ghost use Rattle.spin_step.specs.Schedules.{resting};
 ghost use Rattle.spin_step_more.specs.declared.rw_calls.RwCall.{RwCall as ACall};
 ghost use Rattle.spin_step_more.specs.declared.rw_calls.RwCall.TheVariants.{Downgrade, DowngradeToUpgradeable};
-ghost use Rattle.spin_session.specs.Meaning.{use_at};
-ghost use Rattle.spin_session.specs.Turns.{SeesLast, Stands, spot};
-ghost use Rattle.spin_rwlock.specs.Rw.{MayLeave, downgrade_to, rw_meaning, use_of_party};
+ghost use Rattle.spin_session.specs.Meaning.{use_at, use_of_party};
+ghost use Rattle.spin_session.specs.Turns.{SeesLast, Stands, spot_of};
+ghost use Rattle.spin_rwlock.specs.Rw.{MayLeave, downgrade_to, rw_meaning};
 
 use super::reader::{RwLockReadGuard, SharedGuard};
 use super::rule::{Entry, Kind, Party, RwRule, RwSession, Writer, downgrade_to};
@@ -48,7 +48,7 @@ pub struct WriteHeld<'a, T, R = Spin> {
     permit: Permit<'a, T, Party, RwRule<T>>,
     seen: Watch<Entry<T>>,
     strategy: PhantomData<R>,
-    ghost writing: { use_of use_of_party permit.view ≡ writes },
+    ghost writing: { use_of (use_of_party rw_meaning) permit.view ≡ writes },
 }
 
 impl<'a, T, R> RwLockWriteGuard<'a, T, R> {
@@ -69,7 +69,7 @@ impl<'a, T, R> RwLockWriteGuard<'a, T, R> {
     pub(super) fn written(session: RwSession<'a, T>) -> Self
         requires { Stands (Some Write) session }
         ensures value { Some (write_value result) ≡ session.entry.permit.value }
-        ensures grants { SeesLast session.entry → (call : ACall) (before : RwSpot T) → Calls call Granted before (spot session.entry) → Grants call before result }
+        ensures grants { SeesLast session.entry → (call : ACall) (before : RwSpot T) → Calls call Granted before (spot_of session.entry) → Grants call before result }
     {
         let Session { permit, seen } = session;
         Self::new(permit.into_writer(), seen)
@@ -128,7 +128,6 @@ impl<'a, T, R> RwLockWriteGuard<'a, T, R> {
     }
 
     // Becomes a reader of kind `K`.
-    #[tactic(auto, using(crate::proofs::RwCalls::may_lower))]
     fn lend<K: Kind>(self) -> SharedGuard<'a, T, K, R>
         ensures value { shared_value result ≡ Some (write_value self.entry) }
         ensures made { Lowers (downgrade_to K.hold) self.entry result }
@@ -141,7 +140,7 @@ impl<'a, T, R> RwLockWriteGuard<'a, T, R> {
     pub(super) fn leave(self, call: RwCall, after: Option<Hold>) -> RwSession<'a, T>
         requires { MayLeave call after self.writer.key }
         ensures stands { Stands after result }
-        ensures made { Holds self.entry → Unlocks call self.entry (spot result) }
+        ensures made { Holds self.entry → Unlocks call self.entry (spot_of result) }
         ensures same { use_at rw_meaning (resting after) ≢ off → result.permit.value ≡ Some (write_value self.entry) }
     {
         let (writer, seen) = self.into_parts();
@@ -266,7 +265,6 @@ impl<T, R> DerefMut for RwLockWriteGuard<'_, T, R> {
 }
 
 impl<T, R> Drop for RwLockWriteGuard<'_, T, R> {
-    #[tactic(auto, using(crate::proofs::RwCalls::may_release))]
     fn drop(self) {
         let _left = finish(self.leave(RwCall::Release, None));
     }

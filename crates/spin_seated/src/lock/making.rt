@@ -1,6 +1,6 @@
 //! How a lock and its passes are made: [`SeatedLock::new`].
-ghost use Rattle.std.specs.Prelude.{◌≡◌, ◌<◌, IfOk};
-ghost use Rattle.spin_seated.specs.Passes.{opening_of, all_passes_of};
+ghost use Rattle.std.specs.Prelude.{◌≡◌, ◌<◌, IfOk, vec_items};
+ghost use Rattle.spin_seated.specs.Passes.{opening_with, opening_of, all_passes_of};
 
 use super::{Calls, Opening, Pass, Place, SeatedLock};
 use crate::history::First;
@@ -21,8 +21,8 @@ impl<C: Calls, A: Allocator> SeatedLock<C, A> {
     where
         A: Clone,
         requires { 0 < passes }
-        ensures opening { IfOk result (λ r. opening_of r.0 ≡ record { value = value; passes = passes }) }
-        ensures passes { IfOk result (λ r. r.1.items ≡ all_passes_of r.0) }
+        ensures opening { IfOk result (λ r. opening_of r.0 ≡ opening_with value passes) }
+        ensures passes { IfOk result (λ r. vec_items r.1 ≡ all_passes_of r.0) }
     {
         C::laws();
         let opening = Opening { value, passes };
@@ -32,7 +32,7 @@ impl<C: Calls, A: Allocator> SeatedLock<C, A> {
             let own = table.shared.split_seat::<First>(&mut seat);
             all.push(Pass {
                 place: Place { seat: Some(own) },
-                holding: C::nothing(),
+                holding: C::holds_at_first(),
             })?;
         }
         Ok((SeatedLock { table }, all))

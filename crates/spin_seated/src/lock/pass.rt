@@ -1,7 +1,6 @@
 //! Passes, by which callers make calls. Begin with [`Pass`].
 ghost use Rattle.std.specs.Prelude.{◌≡◌};
-ghost use Rattle.spin_seated.specs.Histories.{holds};
-ghost use Rattle.spin_seated.specs.Passes.{Seated, seated_of, IsOneSeat};
+ghost use Rattle.spin_seated.specs.Passes.{Seated, seated_of, IsOneSeat, pass_holds};
 
 use super::{Answer, Calls, Opening};
 use crate::history::View;
@@ -30,7 +29,7 @@ impl<C> Model for Place<C> {
 #[must_use = "only a pass makes calls: bind it"]
 pub struct Pass<C: Calls> {
     pub(crate) place: Place<C>,
-    pub(crate) holding: C::Hold,
+    pub(crate) holding: C::PassHold,
 }
 
 impl<C: Calls> Model for Pass<C> {
@@ -38,7 +37,7 @@ impl<C: Calls> Model for Pass<C> {
 
     ghost view = { λ p. p.place };
 
-    ghost invariant = { λ p. p.holding ≡ holds C.machine p.place.known };
+    ghost invariant = { λ p. p.holding ≡ pass_holds C.machine p.place };
 }
 
 impl<C: Calls> Pass<C> {
@@ -46,8 +45,8 @@ impl<C: Calls> Pass<C> {
     ///
     /// # Contract
     /// The result is what the pass holds at the end of the history that it knows.
-    pub fn holds(&self) -> C::Hold
-        ensures { result ≡ holds C.machine self.now.known }
+    pub fn holds(&self) -> C::PassHold
+        ensures { result ≡ pass_holds C.machine self.now }
     {
         self.holding
     }

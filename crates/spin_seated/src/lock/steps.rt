@@ -4,8 +4,8 @@
 //! may make the call, the words become those of the machine's next state, and the answer is the machine's.
 ghost use Rattle.std.specs.Prelude.{◌≡◌, ℕ, ◌<◌, ◌+◌, ◌-◌, ◌%◌, ◌^◌, ◌==◌, Option};
 ghost use prog.Atomic.{either};
-ghost use Rattle.spin_seated.specs.Histories.{Owes, Turned, Met, holds, held_then};
-ghost use Rattle.spin_seated.specs.Passes.{IsPassOf};
+ghost use Rattle.spin_seated.specs.Histories.{Owes, Turned, holds, held_then};
+ghost use Rattle.spin_seated.specs.Passes.{IsPassOf, pass_holds, PassMet};
 
 use super::{Answer, Calls, Opening, Pass, Place, SeatedLock};
 use crate::history::{Both, First, View};
@@ -44,6 +44,7 @@ impl<C: Calls> Play<u64, View<Opening, C, Answer>> for Meets<C> {
 
 impl<C: Calls, A: Allocator> SeatedLock<C, A> {
     /// Loads a word.
+    #[tactic(auto, using(crate::proofs::Passes::turned))]
     pub(crate) fn load<T: Tells<C>>(&self, place: &mut Place<C>, word: usize) -> u64
         requires own { IsPassOf self.now place.old }
         requires word { word < 2 }
@@ -60,6 +61,7 @@ impl<C: Calls, A: Allocator> SeatedLock<C, A> {
     }
 
     /// Stores `new` in a word.
+    #[tactic(auto, using(crate::proofs::Passes::turned))]
     pub(crate) fn store<T: Tells<C>>(&self, place: &mut Place<C>, word: usize, new: u64)
         requires own { IsPassOf self.now place.old }
         requires word { word < 2 }
@@ -76,6 +78,7 @@ impl<C: Calls, A: Allocator> SeatedLock<C, A> {
     }
 
     /// Stores `new` in a word if the word is `old`. Returns the word found.
+    #[tactic(auto, using(crate::proofs::Passes::turned))]
     pub(crate) fn exchange<T: Tells<C>>(
         &self,
         place: &mut Place<C>,
@@ -100,6 +103,7 @@ impl<C: Calls, A: Allocator> SeatedLock<C, A> {
     }
 
     /// Adds `by` to a word, modulo 2^64. Returns the word found.
+    #[tactic(auto, using(crate::proofs::Passes::turned))]
     pub(crate) fn add<T: Tells<C>>(&self, place: &mut Place<C>, word: usize, by: u64) -> u64
         requires own { IsPassOf self.now place.old }
         requires word { word < 2 }
@@ -116,6 +120,7 @@ impl<C: Calls, A: Allocator> SeatedLock<C, A> {
     }
 
     /// Subtracts `by` from a word, modulo 2^64. Returns the word found.
+    #[tactic(auto, using(crate::proofs::Passes::turned))]
     pub(crate) fn subtract<T: Tells<C>>(&self, place: &mut Place<C>, word: usize, by: u64) -> u64
         requires own { IsPassOf self.now place.old }
         requires word { word < 2 }
@@ -141,9 +146,10 @@ impl<C: Calls, A: Allocator> SeatedLock<C, A> {
         requires first { IsPassOf self.now a.old }
         requires second { IsPassOf self.now b.old }
         ensures own { IsPassOf self.now a.new × IsPassOf self.now b.new }
-        ensures first { Met C.machine a.old.known a.new.known.seen a.new.known }
-        ensures second { Met C.machine b.old.known a.new.known.seen b.new.known }
-        ensures holds { (holds C.machine a.new.known ≡ holds C.machine a.old.known) × (holds C.machine b.new.known ≡ holds C.machine b.old.known) }
+        ensures first { PassMet C.machine a.old a.new a.new }
+        ensures second { PassMet C.machine b.old a.new b.new }
+        ensures first_holds { pass_holds C.machine a.new ≡ pass_holds C.machine a.old }
+        ensures second_holds { pass_holds C.machine b.new ≡ pass_holds C.machine b.old }
     {
         C::laws();
         self.meet_at(&mut a.place, &mut b.place);
@@ -153,8 +159,8 @@ impl<C: Calls, A: Allocator> SeatedLock<C, A> {
         requires first { IsPassOf self.now a.old }
         requires second { IsPassOf self.now b.old }
         ensures own { IsPassOf self.now a.new × IsPassOf self.now b.new }
-        ensures first { Met C.machine a.old.known a.new.known.seen a.new.known }
-        ensures second { Met C.machine b.old.known a.new.known.seen b.new.known }
+        ensures first { PassMet C.machine a.old a.new a.new }
+        ensures second { PassMet C.machine b.old a.new b.new }
     {
         let Some(other) = b.seat.take() else {
             unreachable!()

@@ -1,13 +1,12 @@
 //! The calls of a `SeatedMutex`. Each is one step on the table.
 ghost use Rattle.std.specs.Prelude.{◌≡◌, ◌||◌, IsTrue, IsFalse};
 ghost use Rattle.spin_step.specs.Steps.{bit};
-ghost use Rattle.spin_seated.specs.Histories.{Made};
 ghost use Rattle.spin_seated.specs.declared.mutex.Call.TheVariants.{TryLock, IsLocked, Read, Write, Unlock};
 ghost use Rattle.spin_seated.specs.declared.lock.Answer.TheVariants.{Truth, Value, Done};
-ghost use Rattle.spin_seated.specs.Mutex.{mutex, holds};
-ghost use Rattle.spin_seated.specs.Passes.{IsPassOf};
+ghost use Rattle.spin_seated.specs.Mutex.{mutex};
+ghost use Rattle.spin_seated.specs.Passes.{IsPassOf, pass_holds, PassMade};
 
-use super::plays::{Acquire, Load, ReadValue, Release, WriteValue};
+use super::plays::{Acquire, FreeFlag, Load, ReadValue, WriteValue};
 use super::{Call, Pass};
 use crate::lock::SeatedLock;
 use spin_step::flag;
@@ -18,7 +17,7 @@ const FLAG: usize = 0;
 const VALUE: usize = 1;
 
 // The word of a flag.
-fn word(flag: bool) -> u64
+fn flag_number(flag: bool) -> u64
     ensures { result ≡ bit flag }
 {
     flag as u64
@@ -34,13 +33,13 @@ impl<A: Allocator> SeatedLock<Call, A> {
     pub fn try_lock(&self, pass: &mut Pass) -> bool
         requires { IsPassOf self.now pass.old }
         ensures own { IsPassOf self.now pass.new }
-        ensures made { Made mutex pass.old.known TryLock (Truth result) pass.new.known }
-        ensures holds { holds pass.new.known ≡ (holds pass.old.known || result) }
+        ensures made { PassMade mutex pass.old TryLock (Truth result) pass.new }
+        ensures holds { pass_holds mutex pass.new ≡ (pass_holds mutex pass.old || result) }
     {
         let Some(taken) = flag::lock(false) else {
             unreachable!()
         };
-        let (free, taken) = (word(false), word(taken));
+        let (free, taken) = (flag_number(false), flag_number(taken));
         let found = self.exchange::<Acquire>(&mut pass.place, FLAG, free, taken);
         let granted = found == free;
         pass.holding |= granted;
@@ -55,8 +54,8 @@ impl<A: Allocator> SeatedLock<Call, A> {
     pub fn is_locked(&self, pass: &mut Pass) -> bool
         requires { IsPassOf self.now pass.old }
         ensures own { IsPassOf self.now pass.new }
-        ensures made { Made mutex pass.old.known IsLocked (Truth result) pass.new.known }
-        ensures holds { holds pass.new.known ≡ holds pass.old.known }
+        ensures made { PassMade mutex pass.old IsLocked (Truth result) pass.new }
+        ensures holds { pass_holds mutex pass.new ≡ pass_holds mutex pass.old }
     {
         self.load::<Load>(&mut pass.place, FLAG) != 0
     }
@@ -68,10 +67,10 @@ impl<A: Allocator> SeatedLock<Call, A> {
     /// answer (`Made`).
     pub fn read(&self, pass: &mut Pass) -> u64
         requires own { IsPassOf self.now pass.old }
-        requires holder { IsTrue (holds pass.old.known) }
+        requires holder { IsTrue (pass_holds mutex pass.old) }
         ensures own { IsPassOf self.now pass.new }
-        ensures made { Made mutex pass.old.known Read (Value result) pass.new.known }
-        ensures holds { IsTrue (holds pass.new.known) }
+        ensures made { PassMade mutex pass.old Read (Value result) pass.new }
+        ensures holds { IsTrue (pass_holds mutex pass.new) }
     {
         self.load::<ReadValue>(&mut pass.place, VALUE)
     }
@@ -83,10 +82,10 @@ impl<A: Allocator> SeatedLock<Call, A> {
     /// answer (`Made`).
     pub fn write(&self, pass: &mut Pass, value: u64)
         requires own { IsPassOf self.now pass.old }
-        requires holder { IsTrue (holds pass.old.known) }
+        requires holder { IsTrue (pass_holds mutex pass.old) }
         ensures own { IsPassOf self.now pass.new }
-        ensures made { Made mutex pass.old.known (Write value) Done pass.new.known }
-        ensures holds { IsTrue (holds pass.new.known) }
+        ensures made { PassMade mutex pass.old (Write value) Done pass.new }
+        ensures holds { IsTrue (pass_holds mutex pass.new) }
     {
         self.store::<WriteValue>(&mut pass.place, VALUE, value);
     }
@@ -98,13 +97,13 @@ impl<A: Allocator> SeatedLock<Call, A> {
     /// answer (`Made`). The pass then does not hold the lock.
     pub fn unlock(&self, pass: &mut Pass)
         requires own { IsPassOf self.now pass.old }
-        requires holder { IsTrue (holds pass.old.known) }
+        requires holder { IsTrue (pass_holds mutex pass.old) }
         ensures own { IsPassOf self.now pass.new }
-        ensures made { Made mutex pass.old.known Unlock Done pass.new.known }
-        ensures holds { IsFalse (holds pass.new.known) }
+        ensures made { PassMade mutex pass.old Unlock Done pass.new }
+        ensures holds { IsFalse (pass_holds mutex pass.new) }
     {
-        let free = word(flag::unlock(true));
-        self.store::<Release>(&mut pass.place, FLAG, free);
+        let free = flag_number(flag::unlock(true));
+        self.store::<FreeFlag>(&mut pass.place, FLAG, free);
         pass.holding = false;
     }
 }

@@ -1,11 +1,10 @@
 //! The calls of a `SeatedRwLock`. Each but `try_read` is one step on the table.
 ghost use Rattle.std.specs.Prelude.{◌≡◌, Some, None, true, if◌then◌else◌};
-ghost use Rattle.spin_seated.specs.Histories.{Made};
 ghost use Rattle.spin_seated.specs.declared.rwlock.Call.TheVariants.{TryRead, TryWrite, ReaderCount, WriterCount, Read, Write, UnlockRead, UnlockWrite, Downgrade};
 ghost use Rattle.spin_seated.specs.declared.rwlock.SeatedHold.TheVariants as hold;
 ghost use Rattle.spin_seated.specs.declared.lock.Answer.TheVariants.{Truth, Value, Done};
-ghost use Rattle.spin_seated.specs.Rw.{rw, holds, may_with};
-ghost use Rattle.spin_seated.specs.Passes.{IsPassOf};
+ghost use Rattle.spin_seated.specs.Rw.{rw, may_with};
+ghost use Rattle.spin_seated.specs.Passes.{IsPassOf, pass_holds, PassMade};
 
 use super::plays::{
     AcquireRead, AcquireWrite, CountReaders, CountWriters, DowngradeWrite, Load, ReadValue,
@@ -35,10 +34,10 @@ impl<A: Allocator> SeatedLock<Call, A> {
     #[must_use = "the answer tells whether the pass holds the lock"]
     pub fn try_read<W: Wait>(&self, rt: &W, pass: &mut RwPass) -> bool
         requires own { IsPassOf self.now pass.old }
-        requires free { holds pass.old.known ≡ None }
+        requires free { pass_holds rw pass.old ≡ None }
         ensures own { IsPassOf self.now pass.new }
-        ensures made { Made rw pass.old.known TryRead (Truth result) pass.new.known }
-        ensures holds { holds pass.new.known ≡ (if result then Some hold.Read else None) }
+        ensures made { PassMade rw pass.old TryRead (Truth result) pass.new }
+        ensures holds { pass_holds rw pass.new ≡ (if result then Some hold.Read else None) }
     {
         let granted = self.acquire_read(rt, &mut pass.place);
         if granted {
@@ -47,12 +46,13 @@ impl<A: Allocator> SeatedLock<Call, A> {
         granted
     }
 
+    #[tactic(auto, using(crate::proofs::RwDebts::loads_owed, crate::proofs::RwDebts::held_still))]
     fn acquire_read<W: Wait>(&self, rt: &W, place: &mut Place<Call>) -> bool
         requires own { IsPassOf self.now place.old }
-        requires free { holds place.old.known ≡ None }
+        requires free { pass_holds rw place.old ≡ None }
         ensures own { IsPassOf self.now place.new }
-        ensures made { Made rw place.old.known TryRead (Truth result) place.new.known }
-        ensures holds { holds place.new.known ≡ (if result then Some hold.Read else None) }
+        ensures made { PassMade rw place.old TryRead (Truth result) place.new }
+        ensures holds { pass_holds rw place.new ≡ (if result then Some hold.Read else None) }
     {
         let mut found = self.load::<Load>(place, WORD);
         for _ in rt.forever() {
@@ -76,10 +76,10 @@ impl<A: Allocator> SeatedLock<Call, A> {
     #[must_use = "the answer tells whether the pass holds the lock"]
     pub fn try_write(&self, pass: &mut RwPass) -> bool
         requires own { IsPassOf self.now pass.old }
-        requires free { holds pass.old.known ≡ None }
+        requires free { pass_holds rw pass.old ≡ None }
         ensures own { IsPassOf self.now pass.new }
-        ensures made { Made rw pass.old.known TryWrite (Truth result) pass.new.known }
-        ensures holds { holds pass.new.known ≡ (if result then Some hold.Write else None) }
+        ensures made { PassMade rw pass.old TryWrite (Truth result) pass.new }
+        ensures holds { pass_holds rw pass.new ≡ (if result then Some hold.Write else None) }
     {
         let Some(taken) = rw::write(0) else {
             unreachable!()
@@ -96,11 +96,12 @@ impl<A: Allocator> SeatedLock<Call, A> {
     ///
     /// # Contract
     /// The pass has to be one of this lock. The history that it then knows ends with the call and its answer (`Made`).
+    #[tactic(auto, using(crate::proofs::RwDebts::counts_readers_owed))]
     pub fn reader_count(&self, pass: &mut RwPass) -> u64
         requires { IsPassOf self.now pass.old }
         ensures own { IsPassOf self.now pass.new }
-        ensures made { Made rw pass.old.known ReaderCount (Value result) pass.new.known }
-        ensures holds { holds pass.new.known ≡ holds pass.old.known }
+        ensures made { PassMade rw pass.old ReaderCount (Value result) pass.new }
+        ensures holds { pass_holds rw pass.new ≡ pass_holds rw pass.old }
     {
         rw::readers(self.load::<CountReaders>(&mut pass.place, WORD) as usize) as u64
     }
@@ -109,11 +110,12 @@ impl<A: Allocator> SeatedLock<Call, A> {
     ///
     /// # Contract
     /// The pass has to be one of this lock. The history that it then knows ends with the call and its answer (`Made`).
+    #[tactic(auto, using(crate::proofs::RwDebts::counts_writers_owed))]
     pub fn writer_count(&self, pass: &mut RwPass) -> u64
         requires { IsPassOf self.now pass.old }
         ensures own { IsPassOf self.now pass.new }
-        ensures made { Made rw pass.old.known WriterCount (Value result) pass.new.known }
-        ensures holds { holds pass.new.known ≡ holds pass.old.known }
+        ensures made { PassMade rw pass.old WriterCount (Value result) pass.new }
+        ensures holds { pass_holds rw pass.new ≡ pass_holds rw pass.old }
     {
         rw::writers(self.load::<CountWriters>(&mut pass.place, WORD) as usize) as u64
     }
@@ -125,10 +127,10 @@ impl<A: Allocator> SeatedLock<Call, A> {
     /// ends with the call and its answer (`Made`).
     pub fn read(&self, pass: &mut RwPass) -> u64
         requires own { IsPassOf self.now pass.old }
-        requires holder { may_with Read (holds pass.old.known) ≡ true }
+        requires holder { may_with Read (pass_holds rw pass.old) ≡ true }
         ensures own { IsPassOf self.now pass.new }
-        ensures made { Made rw pass.old.known Read (Value result) pass.new.known }
-        ensures holds { holds pass.new.known ≡ holds pass.old.known }
+        ensures made { PassMade rw pass.old Read (Value result) pass.new }
+        ensures holds { pass_holds rw pass.new ≡ pass_holds rw pass.old }
     {
         self.load::<ReadValue>(&mut pass.place, VALUE)
     }
@@ -140,10 +142,10 @@ impl<A: Allocator> SeatedLock<Call, A> {
     /// call and its answer (`Made`).
     pub fn write(&self, pass: &mut RwPass, value: u64)
         requires own { IsPassOf self.now pass.old }
-        requires holder { holds pass.old.known ≡ Some hold.Write }
+        requires holder { pass_holds rw pass.old ≡ Some hold.Write }
         ensures own { IsPassOf self.now pass.new }
-        ensures made { Made rw pass.old.known (Write value) Done pass.new.known }
-        ensures holds { holds pass.new.known ≡ Some hold.Write }
+        ensures made { PassMade rw pass.old (Write value) Done pass.new }
+        ensures holds { pass_holds rw pass.new ≡ Some hold.Write }
     {
         self.store::<WriteValue>(&mut pass.place, VALUE, value);
     }
@@ -155,10 +157,10 @@ impl<A: Allocator> SeatedLock<Call, A> {
     /// call and its answer (`Made`). The pass then holds nothing.
     pub fn unlock_read(&self, pass: &mut RwPass)
         requires own { IsPassOf self.now pass.old }
-        requires holder { holds pass.old.known ≡ Some hold.Read }
+        requires holder { pass_holds rw pass.old ≡ Some hold.Read }
         ensures own { IsPassOf self.now pass.new }
-        ensures made { Made rw pass.old.known UnlockRead Done pass.new.known }
-        ensures holds { holds pass.new.known ≡ None }
+        ensures made { PassMade rw pass.old UnlockRead Done pass.new }
+        ensures holds { pass_holds rw pass.new ≡ None }
     {
         self.subtract::<ReleaseRead>(&mut pass.place, WORD, rw::READER as u64);
         pass.holding = None;
@@ -171,10 +173,10 @@ impl<A: Allocator> SeatedLock<Call, A> {
     /// call and its answer (`Made`). The pass then holds nothing.
     pub fn unlock_write(&self, pass: &mut RwPass)
         requires own { IsPassOf self.now pass.old }
-        requires holder { holds pass.old.known ≡ Some hold.Write }
+        requires holder { pass_holds rw pass.old ≡ Some hold.Write }
         ensures own { IsPassOf self.now pass.new }
-        ensures made { Made rw pass.old.known UnlockWrite Done pass.new.known }
-        ensures holds { holds pass.new.known ≡ None }
+        ensures made { PassMade rw pass.old UnlockWrite Done pass.new }
+        ensures holds { pass_holds rw pass.new ≡ None }
     {
         self.subtract::<ReleaseWrite>(&mut pass.place, WORD, rw::WRITER as u64);
         pass.holding = None;
@@ -187,10 +189,10 @@ impl<A: Allocator> SeatedLock<Call, A> {
     /// call and its answer (`Made`). The pass then holds as a reader.
     pub fn downgrade(&self, pass: &mut RwPass)
         requires own { IsPassOf self.now pass.old }
-        requires holder { holds pass.old.known ≡ Some hold.Write }
+        requires holder { pass_holds rw pass.old ≡ Some hold.Write }
         ensures own { IsPassOf self.now pass.new }
-        ensures made { Made rw pass.old.known Downgrade Done pass.new.known }
-        ensures holds { holds pass.new.known ≡ Some hold.Read }
+        ensures made { PassMade rw pass.old Downgrade Done pass.new }
+        ensures holds { pass_holds rw pass.new ≡ Some hold.Read }
     {
         self.add::<DowngradeWrite>(&mut pass.place, WORD, (rw::READER - rw::WRITER) as u64);
         pass.holding = Some(SeatedHold::Read);

@@ -8,13 +8,13 @@ use std::thread;
 
 /// The result of this round, and the largest of those before.
 #[derive(Default, Drop)]
-pub struct Results {
+pub struct RoundSums {
     round: u64,
     largest: u64,
 }
 
 /// Takes part in three rounds, and adds `gain` in each.
-pub fn work<W: Wait>(rt: &W, barrier: &Barrier, results: &Mutex<Results>, gain: u64) {
+pub fn work<W: Wait>(rt: &W, barrier: &Barrier, results: &Mutex<RoundSums>, gain: u64) {
     for _ in 0..3 {
         let mut adding = results.lock(rt);
         adding.round = adding.round.saturating_add(gain);

@@ -7,31 +7,31 @@ use std::process::Abort;
 use std::sync::Wait;
 
 // Whether a thread holds the lock, and the reason why `try_lock_starver` fails, if it fails.
-pub type Seen = (bool, Option<LockRejectReason>);
+pub type FairState = (bool, Option<LockRejectReason>);
 
-pub const OPEN: Seen = (false, None);
+pub const OPEN: FairState = (false, None);
 
-pub const HELD: Seen = (true, Some(LockRejectReason::Locked));
+pub const HELD: FairState = (true, Some(LockRejectReason::Locked));
 
-pub const STARVED: Seen = (false, Some(LockRejectReason::Starved));
+pub const STARVED: FairState = (false, Some(LockRejectReason::Starved));
 
-pub const HELD_AND_STARVED: Seen = (true, Some(LockRejectReason::Starved));
+pub const HELD_AND_STARVED: FairState = (true, Some(LockRejectReason::Starved));
 
 // Returns the reason why `try_lock_starver` fails, if it fails.
 pub fn refusal<R>(lock: &FairMutex<u64, R>) -> Option<LockRejectReason> {
     lock.try_lock_starver().err()
 }
 
-pub fn seen<R>(lock: &FairMutex<u64, R>) -> Seen {
+pub fn fair_state<R>(lock: &FairMutex<u64, R>) -> FairState {
     let refused = refusal(lock);
     (lock.is_locked(), refused)
 }
 
-pub fn shows<R>(rt: &impl Abort, lock: &FairMutex<u64, R>, wanted: Seen) {
-    equal(rt, seen(lock), wanted);
+pub fn has_state<R>(rt: &impl Abort, lock: &FairMutex<u64, R>, wanted: FairState) {
+    equal(rt, fair_state(lock), wanted);
 }
 
-pub fn starve<'a, R>(
+pub fn starve_below_cap<'a, R>(
     rt: &(impl Abort + Wait),
     lock: &'a FairMutex<u64, R>,
 ) -> Starvation<'a, u64, R> {
@@ -45,19 +45,19 @@ pub fn enters_in_the_end<R: RelaxStrategy>(
     starvation: Starvation<'_, u64, R>,
 ) {
     let guard = starvation.lock(rt);
-    shows(rt, lock, HELD);
+    has_state(rt, lock, HELD);
     drop(guard);
-    shows(rt, lock, OPEN);
+    has_state(rt, lock, OPEN);
 }
 
 #[test]
 fn each_call_of_a_starver_enters(rt: HostRuntime) {
     let lock: FairMutex<u64> = FairMutex::new(42);
-    let starvation = starve(&rt, &lock);
+    let starvation = starve_below_cap(&rt, &lock);
     let guard = starvation.try_lock_fair().ok().expect(&rt, "open");
-    shows(&rt, &lock, HELD);
+    has_state(&rt, &lock, HELD);
     drop(guard);
-    enters_in_the_end(&rt, &lock, starve(&rt, &lock));
+    enters_in_the_end(&rt, &lock, starve_below_cap(&rt, &lock));
 }
 
 const STARVES: u32 = 100_000;
@@ -71,7 +71,7 @@ impl Crew for StarveOften {
 
     fn act<R: Abort + Wait>(&self, rt: &R, _index: usize) {
         for _ in 0..STARVES {
-            drop(starve(rt, &self.0));
+            drop(starve_below_cap(rt, &self.0));
         }
     }
 }
@@ -80,5 +80,5 @@ impl Crew for StarveOften {
 fn a_starver_that_lost_a_race_tries_again(rt: HostRuntime) {
     let often = StarveOften(FairMutex::new(1));
     drop(in_threads(&rt, rt.alloc(), &often, 2));
-    shows(&rt, &often.0, OPEN);
+    has_state(&rt, &often.0, OPEN);
 }

@@ -1,6 +1,6 @@
 //! When a waiting `lock` begins to starve.
 use crate::equal::equal;
-use crate::mutex::fair::{HELD, OPEN, refusal, seen, shows};
+use crate::mutex::fair::{HELD, OPEN, fair_state, has_state, refusal};
 use crate::parts::{Crew, in_threads};
 use crate::waiting::await_number;
 use spin_core::relax::{RelaxStrategy, Spin, Yield};
@@ -74,7 +74,7 @@ fn a_waiting_lock_comes_to_starve(rt: HostRuntime) {
     let both = Held::of(FairMutex::<u64, Yield>::new(1));
     let starved = in_threads(&rt, rt.alloc(), &both, 2);
     equal(&rt, starved.as_slice(), [true; 2].as_slice());
-    shows(&rt, &both.lock, OPEN);
+    has_state(&rt, &both.lock, OPEN);
     equal(&rt, both.lock.into_inner(), 2);
 }
 
@@ -104,7 +104,7 @@ impl Crew for Held<Slow> {
             self.held.store(1, SeqCst);
             for _ in 0..SLOW_LOOKS {
                 Slow::relax(rt);
-                patient = patient && seen(&self.lock) == HELD;
+                patient = patient && fair_state(&self.lock) == HELD;
             }
             drop(guard);
         } else {

@@ -7,7 +7,7 @@ use spin_core::relax::{RelaxStrategy, Yield};
 use spin_fair::fair::FairMutex;
 use spin_flag::spin::SpinMutex;
 use spin_mutex::mutex::Mutex;
-use spin_ticket::ticket::TicketMutex;
+use spin_mutex::ticket::TicketMutex;
 use std::alloc::Global;
 use std::ops::DerefMut;
 use std::process::Abort;
@@ -100,17 +100,17 @@ const TURNS: u64 = 1_000_000;
 
 /// A lock that threads look at.
 trait Look: Lock<u64> {
-    fn look(&self);
+    fn look_once(&self);
 }
 
 impl Look for SpinMutex<u64> {
-    fn look(&self) {
+    fn look_once(&self) {
         self.is_locked();
     }
 }
 
 impl Look for FairMutex<u64> {
-    fn look(&self) {
+    fn look_once(&self) {
         self.is_locked();
     }
 }
@@ -134,7 +134,7 @@ impl<L: Look> Crew for LooksAndTries<L> {
                 break;
             }
             if index == 0 {
-                self.lock.look();
+                self.lock.look_once();
             } else {
                 granted = granted && self.lock.try_with(|_| ()).is_ok();
             }

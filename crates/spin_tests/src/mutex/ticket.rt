@@ -5,9 +5,9 @@ use crate::waiting::MAX_LOOKS;
 use spin_core::lock::Lock;
 use spin_core::relax::{RelaxStrategy, Yield};
 use spin_mutex::mutex::Mutex;
-use spin_mutex::tickets::next as next_of_mutex;
-use spin_ticket::ticket::TicketMutex;
-use spin_ticket::tickets::next;
+use spin_mutex::mutex::tickets::next as next_of_mutex;
+use spin_mutex::ticket::TicketMutex;
+use spin_mutex::tickets::next;
 use std::process::Abort;
 use std::sync::Wait;
 use std::sync::atomic::AtomicBool;
@@ -111,7 +111,7 @@ impl Relay {
 
     // Returns `true` if each look after the first ticket found the lock held. It makes at most a million looks, however
     // slow the other threads are.
-    fn look(&self) -> bool {
+    fn stays_locked(&self) -> bool {
         let mut locked = true;
         for _ in 0..1_000_000u32 {
             let has_begun = next(&self.lock) > 0;
@@ -131,7 +131,7 @@ impl Crew for Relay {
     // The first thread looks, and the two others take turns.
     fn act<R: Abort + Wait>(&self, rt: &R, index: usize) -> bool {
         if index == 0 {
-            return self.look();
+            return self.stays_locked();
         }
         self.run(rt);
         true

@@ -1,12 +1,11 @@
 //! What is written through a guard is read back through it.
 ghost use Rattle.std.specs.Prelude.{◌≡◌};
 ghost use Rattle.spin_core.specs.Guard.{guard_value};
-ghost use Rattle.spin_mutex.specs.MutexGuard.{value_of};
 
 use crate::equal::equal;
 use spin_flag::spin::{SpinMutex, SpinMutexGuard};
 use spin_mutex::mutex::{Mutex, MutexGuard};
-use spin_ticket::ticket::{TicketMutex, TicketMutexGuard};
+use spin_mutex::ticket::{TicketMutex, TicketMutexGuard};
 
 // Callers' proofs, one for each kind of guard: the old value is returned, and the guard then shows the new one.
 fn swap_in<R>(guard: &mut SpinMutexGuard<'_, u64, R>, value: u64) -> u64
@@ -28,8 +27,8 @@ fn swap_in_turn<R>(guard: &mut TicketMutexGuard<'_, u64, R>, value: u64) -> u64
 }
 
 fn swap_into<R>(guard: &mut MutexGuard<'_, u64, R>, value: u64) -> u64
-    ensures old_value { result ≡ value_of guard.old }
-    ensures new_value { value_of guard.new ≡ value }
+    ensures old_value { result ≡ guard_value guard.old }
+    ensures new_value { guard_value guard.new ≡ value }
 {
     let old = **guard;
     **guard = value;

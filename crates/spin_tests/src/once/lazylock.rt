@@ -18,6 +18,7 @@ fn it_runs_once(rt: HostRuntime) {
     equal(&rt, runs.get(), 0);
     equal(&rt, *LazyLock::force(&lazy, &rt), 92);
     equal(&rt, *LazyLock::force(&lazy, &rt), 92);
+    equal(&rt, LazyLock::into_history(lazy).0, Some(92));
     equal(&rt, runs.get(), 1);
 }
 

@@ -3,7 +3,7 @@
 
 use crate::equal::equal;
 use crate::parts::{Crew, in_threads};
-use crate::waiting::{await_number, pause};
+use crate::waiting::{await_number, linger};
 use spin_core::relax::Yield;
 use spin_once::once::Once;
 use std::process::Abort;
@@ -25,11 +25,11 @@ impl Shared {
     // Makes the value. The closure begins once a thread waits for the value, and runs until all four threads wait.
     fn make<R: Wait>(&self, rt: &R) -> u64 {
         await_number(rt, &self.came, 1);
-        pause(rt);
+        linger(rt);
         let value = self.once.call_once(rt, || {
             self.begin();
             await_number(rt, &self.came, 4);
-            pause(rt);
+            linger(rt);
             7
         });
         *value
@@ -40,13 +40,13 @@ impl Shared {
     }
 
     // Calls with another closure while the first one runs.
-    fn call<R: Wait>(&self, rt: &R) -> u64 {
+    fn call_beside<R: Wait>(&self, rt: &R) -> u64 {
         await_number(rt, &self.begun, 1);
         self.came.fetch_add(1, SeqCst);
         *self.once.call_once(rt, || self.begin())
     }
 
-    // Like `call`, with a closure that would fail.
+    // Like `call_beside`, with a closure that would fail.
     fn try_call<R: Wait>(&self, rt: &R) -> Option<u64> {
         await_number(rt, &self.begun, 1);
         self.came.fetch_add(1, SeqCst);
@@ -55,7 +55,7 @@ impl Shared {
     }
 
     // Polls while the closure runs and there is no value yet.
-    fn poll<R: Wait>(&self, rt: &R) -> Option<u64> {
+    fn poll_early<R: Wait>(&self, rt: &R) -> Option<u64> {
         await_number(rt, &self.begun, 1);
         let is_early = self.once.get().is_none();
         self.came.fetch_add(1, SeqCst);
@@ -75,9 +75,9 @@ impl Crew for Shared {
                 self.came.fetch_add(1, SeqCst);
                 Some(*self.once.wait(rt))
             }
-            2 => Some(self.call(rt)),
+            2 => Some(self.call_beside(rt)),
             3 => self.try_call(rt),
-            _ => self.poll(rt),
+            _ => self.poll_early(rt),
         }
     }
 }

@@ -3,7 +3,7 @@
 use crate::equal::equal;
 use crate::mutex::threads::write_elsewhere;
 use crate::parts::{Crew, in_threads};
-use crate::waiting::{MAX_LOOKS, await_number, has_turn, is_kept_out, pause};
+use crate::waiting::{MAX_LOOKS, await_number, has_turn, is_kept_out, linger};
 use spin_core::relax::Yield;
 use spin_rwlock::rwlock::{RwLock, RwLockReadGuard};
 use std::process::Abort;
@@ -100,10 +100,10 @@ impl Crew for WriteInTurn {
             let mut writer = self.lock.write(rt);
             self.writes.store(1, SeqCst);
             await_number(rt, &self.comes, 1);
-            pause(rt);
+            linger(rt);
             *writer = 3;
             let reader = writer.downgrade();
-            pause(rt);
+            linger(rt);
             drop(reader);
             return;
         }

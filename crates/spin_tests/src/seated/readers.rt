@@ -1,7 +1,7 @@
 //! What no contract says of a `SeatedRwLock`: a try can succeed, and threads end.
 ghost use Rattle.std.specs.Prelude.{◌≡◌, None};
-ghost use Rattle.spin_seated.specs.Passes.{IsPassOf};
-ghost use Rattle.spin_seated.specs.Rw.{holds};
+ghost use Rattle.spin_seated.specs.Passes.{IsPassOf, pass_holds};
+ghost use Rattle.spin_seated.specs.Rw.{rw};
 
 use crate::equal::equal;
 use spin_core::relax::{RelaxStrategy, Yield};
@@ -50,9 +50,9 @@ fn a_writer_goes_on_as_a_reader(rt: HostRuntime) {
 
 // Acquires the lock as a writer `TIMES` times. Each time it adds 1, downgrades, and reads. Returns whether it made all
 // these additions, and each read found the number just written.
-fn add_some<R: Wait>(rt: &R, lock: &SeatedRwLock, mut pass: RwPass) -> (RwPass, bool)
-    requires { IsPassOf lock.now pass × (holds pass.known ≡ None) }
-    ensures { IsPassOf lock.now result.0 × (holds result.0.known ≡ None) }
+fn write_some<R: Wait>(rt: &R, lock: &SeatedRwLock, mut pass: RwPass) -> (RwPass, bool)
+    requires { IsPassOf lock.now pass × (pass_holds rw pass ≡ None) }
+    ensures { IsPassOf lock.now result.0 × (pass_holds rw result.0 ≡ None) }
 {
     let mut added = 0u32;
     let mut same = true;
@@ -77,8 +77,8 @@ fn add_some<R: Wait>(rt: &R, lock: &SeatedRwLock, mut pass: RwPass) -> (RwPass, 
 // Acquires the lock as a reader `TIMES` times, and reads each time. Returns whether it made all these reads, and no
 // number was less than an earlier one.
 fn read_some<R: Wait>(rt: &R, lock: &SeatedRwLock, mut pass: RwPass) -> (RwPass, bool)
-    requires { IsPassOf lock.now pass × (holds pass.known ≡ None) }
-    ensures { IsPassOf lock.now result.0 × (holds result.0.known ≡ None) }
+    requires { IsPassOf lock.now pass × (pass_holds rw pass ≡ None) }
+    ensures { IsPassOf lock.now result.0 × (pass_holds rw result.0 ≡ None) }
 {
     let mut times = 0u32;
     let mut last = 0u64;
@@ -107,21 +107,21 @@ fn two_threads_read_what_a_third_writes(rt: HostRuntime) {
     let ((mut a, added), ((mut b, first), (mut c, second))) = join(
         rt,
         || -> (RwPass, bool)
-            requires { IsPassOf shared.now a × (holds a.known ≡ None) }
+            requires { IsPassOf shared.now a × (pass_holds rw a ≡ None) }
             ensures { IsPassOf shared.entry.now result.0 }
-        { add_some(rt, shared, a) },
+        { write_some(rt, shared, a) },
         || -> ((RwPass, bool), (RwPass, bool))
-            requires { IsPassOf shared.now b × (holds b.known ≡ None) × IsPassOf shared.now c × (holds c.known ≡ None) }
+            requires { IsPassOf shared.now b × (pass_holds rw b ≡ None) × IsPassOf shared.now c × (pass_holds rw c ≡ None) }
             ensures { IsPassOf shared.entry.now result.0.0 × IsPassOf shared.entry.now result.1.0 }
         {
             join(
                 rt,
                 || -> (RwPass, bool)
-                    requires { IsPassOf shared.now b × (holds b.known ≡ None) }
+                    requires { IsPassOf shared.now b × (pass_holds rw b ≡ None) }
                     ensures { IsPassOf shared.entry.now result.0 }
                 { read_some(rt, shared, b) },
                 || -> (RwPass, bool)
-                    requires { IsPassOf shared.now c × (holds c.known ≡ None) }
+                    requires { IsPassOf shared.now c × (pass_holds rw c ≡ None) }
                     ensures { IsPassOf shared.entry.now result.0 }
                 { read_some(rt, shared, c) },
             )

@@ -11,7 +11,7 @@ use std::sync::Wait;
 use std::thread::{Threads, join};
 
 // Takes a seat and leaves it, once.
-fn visit<'a, W: Wait>(rt: &W, pass: Pass<'a, 2>) -> Pass<'a, 2>
+fn sit_once<'a, W: Wait>(rt: &W, pass: Pass<'a, 2>) -> Pass<'a, 2>
     ensures sat { (Calls 2 Enter Granted ⨾ Calls 2 Leave Done) pass.entry result }
     ensures lock { lock_of result ≡ lock_of pass.entry }
 {
@@ -19,7 +19,7 @@ fn visit<'a, W: Wait>(rt: &W, pass: Pass<'a, 2>) -> Pass<'a, 2>
 }
 
 // Tries once to take a seat, which it leaves at once.
-fn try_once<'a, W: Wait>(rt: &W, pass: Pass<'a, 2>) -> Result<Pass<'a, 2>, Pass<'a, 2>>
+fn try_a_seat<'a, W: Wait>(rt: &W, pass: Pass<'a, 2>) -> Result<Pass<'a, 2>, Pass<'a, 2>>
     ensures { IfErr result (Calls 2 TryEnter Refused pass.entry) }
 {
     match pass.try_enter(rt) {
@@ -28,9 +28,9 @@ fn try_once<'a, W: Wait>(rt: &W, pass: Pass<'a, 2>) -> Result<Pass<'a, 2>, Pass<
     }
 }
 
-// Two threads visit, and a third one counts. Of any two of them, one knows a prefix of the history that the other
+// Two threads sit, and a third one counts. Of any two of them, one knows a prefix of the history that the other
 // knows.
-fn visit_beside_count<'a, W: Threads + Wait + Sync>(
+fn sit_beside_count<'a, W: Threads + Wait + Sync>(
     rt: &W,
     seats: &'a Seats<2>,
 ) -> ((Pass<'a, 2>, Pass<'a, 2>), (usize, Pass<'a, 2>))
@@ -47,10 +47,10 @@ fn visit_beside_count<'a, W: Threads + Wait + Sync>(
                 rt,
                 || -> Pass<'_, 2>
                     ensures { lock_of result ≡ name_of seats.entry.now }
-                { visit(rt, seats.pass()) },
+                { sit_once(rt, seats.pass()) },
                 || -> Pass<'_, 2>
                     ensures { lock_of result ≡ name_of seats.entry.now }
-                { visit(rt, seats.pass()) },
+                { sit_once(rt, seats.pass()) },
             )
         },
         || -> (usize, Pass<'_, 2>)
@@ -66,13 +66,13 @@ fn visit_beside_count<'a, W: Threads + Wait + Sync>(
 #[test]
 fn passes_know_one_history(rt: HostRuntime) {
     let seats: Seats<2> = Seats::new();
-    let ((first, second), (count, third)) = visit_beside_count(&rt, &seats);
+    let ((first, second), (count, third)) = sit_beside_count(&rt, &seats);
     let (first, second) = (first.enter(&rt), second.enter(&rt));
     let (taken, third) = third.count();
     equal(&rt, (count <= 2, taken), (true, 2));
-    let third = try_once(&rt, third).err().expect(&rt, "all are taken");
+    let third = try_a_seat(&rt, third).err().expect(&rt, "all are taken");
     drop(first.leave());
-    drop(try_once(&rt, third).ok().expect(&rt, "one is free"));
+    drop(try_a_seat(&rt, third).ok().expect(&rt, "one is free"));
     drop(second);
     equal(&rt, seats.count(), 0);
 }

@@ -7,7 +7,7 @@ ghost use Rattle.spin_world_core.specs.Runs.{opening};
 ghost use Rattle.spin_world_core.specs.Users.{seen_after};
 ghost use Rattle.spin_step.specs.declared.ticket_calls.TicketCall.{TicketCall};
 ghost use Rattle.spin_world.specs.declared.ticket.Ticket.{Ticket};
-ghost use Rattle.spin_world.specs.Turns.{InOrder, InTurn, TriesByTwoLoads};
+ghost use Rattle.spin_world.specs.Turns.{TicketsInOrder, InTurn, TriesByTwoLoads};
 
 use crate::ticket::Ticket;
 use spin_world_core::Object;
@@ -15,7 +15,7 @@ use spin_world_core::Object;
 /// States that the two words are the next number and the served number of a queue of tickets. There is no gap between
 /// the tickets' numbers, and only the first ticket may have entered.
 pub fn tickets_stand_in_order<V: Copy>()
-    ensures { (object : Ticket V) (n : ℕ) (past : List (ℕ × Move TicketCall V)) → let m = ⟦<Ticket<V> as Object>⟧.machine object in InOrder (after m (at_first m n) past).words (seen_after m (opening m n) past).plain }
+    ensures { (object : Ticket V) (n : ℕ) (past : List (ℕ × Move TicketCall V)) → let m = ⟦<Ticket<V> as Object>⟧.machine object in TicketsInOrder (after m (at_first m n) past).words (seen_after m (opening m n) past).plain }
 {}
 
 /// States that a party with a ticket enters by its next step once the tickets before its own have left, and not

@@ -1,6 +1,6 @@
 use Rattle.std.proofs.Common.{◌≡◌, [], None, length}
-use Rattle.spin_seated.specs.Passes.{IsPassOf}
-use Rattle.spin_seated.specs.Rw.{holds}
+use Rattle.spin_seated.specs.Passes.{IsPassOf, pass_holds}
+use Rattle.spin_seated.specs.Rw.{rw}
 use Rattle.spin_examples.specs.Publishing.{Extends}
 use Rattle.spin_examples.proofs.publishing.look_often.Given as goal
 
@@ -8,7 +8,7 @@ abbrev pub invariant-loop : goal.invariant-loop
 invariant-loop g l =
     record {
       own : IsPassOf l.lock l.pass;
-      free : holds l.pass.known ≡ None;
+      free : pass_holds rw l.pass ≡ None;
       looked : Extends l.initial.pass.known l.pass.known l.seen.items [];
       times : length l.seen.items ≡ l.counter;
     }

@@ -1,7 +1,6 @@
-use Rattle.std.proofs.Common.{◌≡◌, ◌⊎◌, ◌<◌, ℕ, true, Option, length, refl, arith, not}
+use Rattle.std.proofs.Common.{◌≡◌, ◌⊎◌, ◌<◌, ℕ, true, Option, refl, arith, not}
 use mathlib.Core.Logic.{inl, inr}
-use Rattle.spin_step.specs.Plain.{Plain, is_open_to, is_starver, to_lock_starving, to_lock_starving_alone}
-use Rattle.spin_step.specs.Parties.{is_held}
+use Rattle.spin_step.specs.Plain.{is_open_to, is_starver, to_lock_starving, to_lock_starving_alone}
 use Rattle.spin_step_more.specs.declared.fair_calls.FairCall.TheVariants.{StarverTryLock, StarverTryLockFair}
 use Rattle.spin_step.specs.declared.place.Hold.{Hold}
 use Rattle.spin_step_more.specs.declared.fair_calls.FairCall.{FairCall}
@@ -20,16 +19,13 @@ starving : {T : Type 0} (opening : T) (c : FairCall) (p : ℕ) (l : FairPoint) (
     → InCall (fair_notes opening most_starvers patience) p c l h seen.plain seen.state.words (seen.span p) → is_starver p seen.plain.starvers ≡ true
 starving opening c p l h seen is call = grind (arith, is, call.knows, is_starver-from_entries p seen.plain.starvers)
 
-held : (s : Plain) (p : ℕ) → is_starver p s.starvers ≡ true → not (is_open_to s p to_lock_starving) ≡ true → is_held s ≡ true
-held s p found closed = grind (arith, found, closed)
-
-not_alone : (s : Plain) (p : ℕ) → is_starver p s.starvers ≡ true → not (is_open_to s p to_lock_starving_alone) ≡ true → (is_held s ≡ true) ⊎ (1 < length s.starvers)
-not_alone s p found closed = grind (arith, found, closed, length-without_starver p s.starvers)
-
 pub returns-clause-try_lock : goal.returns-clause-try_lock
 returns-clause-try_lock g c = λ opening.
-    found (fair_facts opening most_starvers patience) (λ p s. not (is_open_to s p to_lock_starving)) (λ h. refl) (λ p l h seen call closed. held seen.plain p (starving opening StarverTryLock p l h seen (inl refl) call) closed)
+    found (fair_facts opening most_starvers patience) (λ p s. not (is_open_to s p to_lock_starving)) (λ h. refl) (λ p l h seen call closed.
+    let found = starving opening StarverTryLock p l h seen (inl refl) call in grind (arith, found, closed))
 
 pub returns-clause-try_lock_fair : goal.returns-clause-try_lock_fair
 returns-clause-try_lock_fair g c = λ opening.
-    found (fair_facts opening most_starvers patience) (λ p s. not (is_open_to s p to_lock_starving_alone)) (λ h. refl) (λ p l h seen call closed. not_alone seen.plain p (starving opening StarverTryLockFair p l h seen (inr refl) call) closed)
+    found (fair_facts opening most_starvers patience) (λ p s. not (is_open_to s p to_lock_starving_alone)) (λ h. refl) (λ p l h seen call closed.
+    let found = starving opening StarverTryLockFair p l h seen (inr refl) call in
+    grind (arith, found, closed, length-without_starver p seen.plain.starvers))

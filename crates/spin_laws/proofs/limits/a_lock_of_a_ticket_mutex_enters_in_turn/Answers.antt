@@ -14,7 +14,7 @@ use Rattle.spin_step.specs.declared.ticket_calls.TicketWords.{TicketWords}
 use Rattle.spin_step.specs.Schedules.{State, moves_at, after, at_first}
 use Rattle.spin_step.proofs.Lists.{get-set_same}
 use Rattle.spin_core.specs.declared.tie.Opening.{Opening}
-use Rattle.spin_ticket.specs.Queue.{Made, model}
+use Rattle.spin_mutex.specs.Queue.{Made, model}
 use Rattle.spin_world_core.specs.Runs.{Seen, opening}
 use Rattle.spin_world_core.proofs.Reached.{state_is}
 use Rattle.spin_world.proofs.TicketOwed.{ticket_notes, ticket_facts}
@@ -36,16 +36,13 @@ module _ {T : Type 0} (key : Opening T) where
 
   of_call : {X : Type 0} (view : Option (Numbered X)) (old new : List (Made T)) → Call (ticket_facts key.value key.start) Lock Granted view old new → EntersInTurn key view old new
   of_call view old new call =
-      let m = model key in let k = ticket_notes key.value key.start in let f = ticket_facts key.value key.start in let it = call.answered in let p = call.party in let n = call.parties in
+      let m = model key in let k = ticket_notes key.value key.start in let f = ticket_facts key.value key.start in let it = call.answered in let p = call.pass.party in let n = call.pass.parties in
       let entered : List (Made T) = it.past ++ (p, Step) ∷ [] in
       let own = seat_is it.seen.state p it.point call.held it.there it.comes in
       let state = ap (λ (z : Seen TicketWords T TicketCall TicketPoint). z.state) (one_more f (opening m n) it.past (p, Step)) in
       let there : slice_get (after m (at_first m n) entered).seats p ≡ Some (Holding (hold.Ticket (ticket_of it.point))) = ap (λ (s : State TicketWords T TicketCall TicketPoint). slice_get s.seats p) (sym (state_is f n entered) ∙ state ∙ ap (λ z. (event f z (p, Step)).after.state) (sym it.leads)) ∙ own in
       record {
-        party = p;
-        is_number = call.is_number;
-        parties = n;
-        played = call.played;
+        pass = call.pass;
         entered = entered;
         behind = longer f old it.past (p, Step) it.known;
         before = it.before;

@@ -1,6 +1,6 @@
 use Rattle.spin_step.specs.declared.answer.Answer.TheVariants.{Granted}
 use Rattle.spin_step.specs.declared.ticket_calls.TicketCall.TheVariants.{Lock}
-use Rattle.spin_ticket.specs.Queue.{model}
+use Rattle.spin_mutex.specs.Queue.{model}
 use Rattle.spin_world.proofs.TicketOwed.{ticket_facts}
 use Rattle.spin_laws.specs.Counts.{TakesTicketWithin}
 use Rattle.spin_laws.proofs.Counts.{steps_of_call}

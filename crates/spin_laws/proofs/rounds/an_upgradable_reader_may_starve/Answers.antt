@@ -1,5 +1,11 @@
-use Rattle.spin_laws.proofs.Starving.{upgradable_read_starves}
+use Rattle.spin_laws.proofs.Names.{◌∷◌, [], None, refl, Begin, Step, rw_machine}
+use Rattle.spin_step_more.specs.declared.rw_calls.RwCall.TheVariants.{UpgradeableRead, Write, Release}
+use Rattle.spin_step_more.specs.declared.rw_calls.RwPoint.TheVariants.{First}
+use Rattle.spin_laws.proofs.Around.{starves}
 use Rattle.spin_laws.proofs.rounds.an_upgradable_reader_may_starve.Goals as goal
 
 pub returns : goal.returns
-returns g c = λ object. upgradable_read_starves object.value object.cap
+returns g c = λ object.
+    -- party 0 looks while the other party writes
+    starves (rw_machine object.value object.cap) 2 ((0, Begin UpgradeableRead) ∷ []) _ refl (1, Begin Write)
+    ((1, Step) ∷ (0, Step) ∷ (1, Begin Release) ∷ (1, Step) ∷ []) UpgradeableRead First None refl (refl, refl, refl)

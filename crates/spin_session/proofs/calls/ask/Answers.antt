@@ -1,4 +1,4 @@
-use Rattle.spin_session.specs.Turns.{spot}
+use Rattle.spin_session.specs.Turns.{spot_of}
 use Rattle.spin_session.proofs.Course.{ended, looked, looked_on}
 use Rattle.spin_session.proofs.calls.ask.Goals as goal
 
@@ -9,7 +9,7 @@ unreachable-requires g c =
 
 pub returns : goal.returns
 returns g c =
-    let a = c.args in let f = c.step-next in let t = g.P.Runs.tables in let s = g.P.Runs.meaning in let from = spot a.session in let p = c.point_of-point.ensures in
+    let a = c.args in let f = c.step-next in let t = g.P.Runs.tables in let s = g.P.Runs.meaning in let from = spot_of a.session in let p = c.point_of-point.ensures in
     let (same, tells) = looked t s a.call a.holds a.session.permit.key c.requires.looks f.result.1 f.result.0 (rw p.start at f.ensures.goes) c.in-Answers.answer c.in-Answers.field-1 c.in-Answers.is in
-    let end = ended t s a.call a.holds from (spot f.result.2) f.result.0 (f.ensures.comes from p.under) c.in-Answers.answer c.in-Answers.field-1 c.in-Answers.is in
+    let end = ended t s a.call a.holds from (spot_of f.result.2) f.result.0 (f.ensures.comes from p.under) c.in-Answers.answer c.in-Answers.field-1 c.in-Answers.is in
     record { stands = (f.ensures.knows.0, f.ensures.knows.1, rw same at end.1); calls = end.0; found = tells }

@@ -4,9 +4,9 @@ use Rattle.spin_core.specs.Own.{what}
 use Rattle.spin_core.specs.Traced.{Named}
 use Rattle.spin_core.specs.Values.{IsLast}
 use Rattle.spin_session.specs.Meaning.{table_at}
-use Rattle.spin_session.specs.Turns.{FusesBy, Spot, last_step, spot}
+use Rattle.spin_session.specs.Turns.{FusesBy, SeatSpot, last_step, spot_of}
 use Rattle.spin_session.proofs.Course.{quiet_at, uses_now}
-use Rattle.spin_session.proofs.Turned.{leapt, lands, knows_then}
+use Rattle.spin_session.proofs.Turned.{leapt, landed}
 use Rattle.spin_session.proofs.calls.begin_by.Goals as goal
 
 pub leap-found-requires-clause-knows : goal.leap-found-requires-clause-knows
@@ -22,16 +22,16 @@ leap-found-requires-clause-keeps g c =
 pub returns : goal.returns
 returns g c =
     let a = c.args in let it = a.session in let p = it.permit in let t = g.P.Runs.tables in let s = g.P.Runs.meaning in let f = c.leap-found in let r = c.requires.stands in
-    let now : Spot g.row.T.Denot g.row.P-Call.Denot g.row.P-Point.Denot = (f.result.1.key, f.result.1.view, f.result.2) in
+    let now : SeatSpot g.row.T.Denot g.row.P-Call.Denot g.row.P-Point.Denot = (f.result.1.key, f.result.1.view, f.result.2) in
     let named = Named (g.P.Rule.holds p.key) (g.P.Rule.ways p.key) it.seen.name in let is_named = c.laws.ensures.named p.key it.seen.name r.0 in
     let last = last_step a.start a.ahead in
-    let all = leapt t s (λ n. a.call) a.holds last (spot it) now f.ensures.key r.1 r.2 named is_named f.result.0 f.ensures.moved in
-    let land = lands t s (λ n. a.call) a.holds last (spot it) now f.ensures.key r.1 r.2 named is_named f.result.0 f.ensures.moved in
+    let all = leapt t s (λ n. a.call) a.holds last (spot_of it) now f.ensures.key r.1 r.2 named is_named f.result.0 f.ensures.moved in
+    let land = landed t s (λ n. a.call) a.holds last (spot_of it) now f.ensures.key r.1 r.2 named is_named f.result.0 f.ensures.moved in
     let quiet = quiet_at (table_at t p.key) s a.call ((table_at t p.key).start a.call a.holds) a.holds (what p.view) (inr (refl, r.2, c.requires.may.0)) c.requires.may.1 in
     record {
-      knows = (ap (λ k. k.name) f.ensures.key ∙ r.0 ∙ sym all.0.1, knows_then t s (λ n. a.call) a.holds last (spot it) now f.ensures.key r.1 r.2 named is_named f.result.0 f.ensures.moved, land.0.1);
+      knows = (ap (λ k. k.name) f.ensures.key ∙ r.0 ∙ sym all.0.1, land.0, land.1.0.1);
       key = f.ensures.key;
-      lands = land;
+      lands = land.1;
       seat = all.1;
       since = all.0;
       last = subst (λ o. IfSome f.result.1.value (IsLast o f.result.2.entries)) (sym f.ensures.key)

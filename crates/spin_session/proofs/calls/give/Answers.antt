@@ -12,7 +12,7 @@ use Rattle.spin_step.specs.declared.answer.Answer.TheVariants.{Done}
 use Rattle.spin_step.specs.declared.place.Seat.TheVariants.{Holding}
 use Rattle.spin_session.specs.Meaning.{use_at, seat_now, model_at, table_at}
 use Rattle.spin_session.specs.Operating.{Operates}
-use Rattle.spin_session.specs.Turns.{TurnTold, Spot, EndsWith}
+use Rattle.spin_session.specs.Turns.{TurnTold, SeatSpot, EndsWith}
 use Rattle.spin_session.proofs.Course.{starts_at, begins_so}
 use Rattle.spin_session.proofs.Freed.{keeps_name, seat, knows, releases}
 use Rattle.spin_session.proofs.calls.give.Goals as goal
@@ -42,8 +42,8 @@ returns g c =
     let a = c.args in let w = a.writer in let it = c.into_permit-permit in let p = it.result in let f = c.operate-permit in let t = g.P.Runs.tables in let b = g.P.Runs.meaning in let call = a.call in
     let held = c.requires.alone (sym (c.laws.ensures.uses w.key (Some w.view)) ∙ it.ensures.use_of_view) in
     let is : what p.view ≡ Some (Holding a.holds) = ap what it.ensures.same.0 ∙ ap Some held in
-    let from : Spot g.row.T.Denot g.row.P-Call.Denot g.row.P-Point.Denot = (p.key, p.view, a.seen) in
-    let now : Spot g.row.T.Denot g.row.P-Call.Denot g.row.P-Point.Denot = (f.result.1.key, f.result.1.view, f.result.2) in
+    let from : SeatSpot g.row.T.Denot g.row.P-Call.Denot g.row.P-Point.Denot = (p.key, p.view, a.seen) in
+    let now : SeatSpot g.row.T.Denot g.row.P-Call.Denot g.row.P-Point.Denot = (f.result.1.key, f.result.1.view, f.result.2) in
     let its = Named (g.P.Rule.holds p.key) (g.P.Rule.ways p.key) a.seen.name in let moved = f.ensures.moved in
     let ends : EndsWith t call a.holds a.after p.key = rw it.ensures.key c.requires.ends in
     let sits = seat t b call a.holds a.after from now is ends its f.result.0 f.result.1.view moved in
@@ -60,7 +60,7 @@ returns g c =
           let last : IsLast p.key f.result.2.entries w.value = subst (λ o. IfSome o (IsLast p.key f.result.2.entries)) it.ensures.same.1 (all_last.1 (λ e. absurd (let no : off ≡ writes = sym e ∙ writing in cc (no)))) in
           let all = releases t b call a.holds a.after from now is ends its f.result.0 (c.laws.ensures.named p.key a.seen.name (ap (λ k. k.name) it.ensures.key ∙ named)) f.ensures.key
           (subst (λ v. mark_of v ≤ length a.seen.entries) (sym it.ensures.same.0) knew) w.value last moved in
-          subst (λ (z : Spot g.row.T.Denot g.row.P-Call.Denot g.row.P-Point.Denot). Releases (model_at t) (λ o. o) call Done w.value z now) (λ i. (it.ensures.key i, it.ensures.same.0 i, a.seen)) all;
+          subst (λ (z : SeatSpot g.row.T.Denot g.row.P-Call.Denot g.row.P-Point.Denot). Releases (model_at t) (λ o. o) call Done w.value z now) (λ i. (it.ensures.key i, it.ensures.same.0 i, a.seen)) all;
     }
 
 pub unreachable-requires : goal.unreachable-requires

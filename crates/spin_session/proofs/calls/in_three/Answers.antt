@@ -1,7 +1,7 @@
 use Rattle.std.proofs.Common.{Some, ap, ◌∙◌, subst}
 use Rattle.spin_core.specs.declared.tie.Opening.{Opening}
 use Rattle.spin_session.specs.Meaning.{seat_after}
-use Rattle.spin_session.specs.Turns.{GoesBy, spot}
+use Rattle.spin_session.specs.Turns.{GoesBy, spot_of}
 use Rattle.spin_session.proofs.Course.{under, ended, answered_on, sees_then}
 use Rattle.spin_session.proofs.calls.in_three.Goals as goal
 
@@ -16,16 +16,16 @@ unreachable-requires g c =
 
 pub returns-in-Answers-clause-ended : goal.returns-in-Answers-clause-ended
 returns-in-Answers-clause-ended g c =
-    let a = c.args in let x = c.first-next in let from = spot a.session in
-    ended (g.P.Runs.tables) g.P.Runs.meaning a.call a.holds from (spot x.result.3) x.result.0 x.ensures.comes _ _ c.in-Answers.is
+    let a = c.args in let x = c.first-next in let from = spot_of a.session in
+    ended (g.P.Runs.tables) g.P.Runs.meaning a.call a.holds from (spot_of x.result.3) x.result.0 x.ensures.comes _ _ c.in-Answers.is
 
 pub returns-in-Answers-next-clause-ended : goal.returns-in-Answers-next-clause-ended
 returns-in-Answers-next-clause-ended g c =
-    let a = c.args in let s = g.P.Runs.meaning in let t = g.P.Runs.tables in let from = spot a.session in
+    let a = c.args in let s = g.P.Runs.meaning in let t = g.P.Runs.tables in let from = spot_of a.session in
     let x = c.first-next in let y = c.step-next in
-    let on = under t s a.call a.holds from (spot x.result.3) x.result.0 x.ensures.comes c.in-Continue.second c.in-Continue.is in
+    let on = under t s a.call a.holds from (spot_of x.result.3) x.result.0 x.ensures.comes c.in-Continue.second c.in-Continue.is in
     let came = (y.ensures.comes from) on in
-    ended t s a.call a.holds from (spot y.result.2) y.result.0 came _ _ c.in-Answers-next.is
+    ended t s a.call a.holds from (spot_of y.result.2) y.result.0 came _ _ c.in-Answers-next.is
 
 pub returns-in-Answers-next-clause-sees : goal.returns-in-Answers-next-clause-sees
 returns-in-Answers-next-clause-sees g c =
@@ -34,13 +34,13 @@ returns-in-Answers-next-clause-sees g c =
 
 pub returns-in-Answers-next-2-clause-ended : goal.returns-in-Answers-next-2-clause-ended
 returns-in-Answers-next-2-clause-ended g c =
-    let a = c.args in let s = g.P.Runs.meaning in let t = g.P.Runs.tables in let from = spot a.session in
+    let a = c.args in let s = g.P.Runs.meaning in let t = g.P.Runs.tables in let from = spot_of a.session in
     let x = c.first-next in let y = c.step-next in let z = c.step-next-in-Continue-next in
-    let on = under t s a.call a.holds from (spot x.result.3) x.result.0 x.ensures.comes c.in-Continue.second c.in-Continue.is in
+    let on = under t s a.call a.holds from (spot_of x.result.3) x.result.0 x.ensures.comes c.in-Continue.second c.in-Continue.is in
     let came = (y.ensures.comes from) on in
-    let on' = under t s a.call a.holds from (spot y.result.2) y.result.0 came c.in-Continue-next.third c.in-Continue-next.is in
+    let on' = under t s a.call a.holds from (spot_of y.result.2) y.result.0 came c.in-Continue-next.third c.in-Continue-next.is in
     let came' = (z.ensures.comes from) on' in
-    ended t s a.call a.holds from (spot z.result.2) z.result.0 came' _ _ c.in-Answers-next-2.is
+    ended t s a.call a.holds from (spot_of z.result.2) z.result.0 came' _ _ c.in-Answers-next-2.is
 
 pub returns-in-Answers-next-2-clause-sees : goal.returns-in-Answers-next-2-clause-sees
 returns-in-Answers-next-2-clause-sees g c =

@@ -8,7 +8,7 @@ use Rattle.spin_step.specs.Acts.{filled, next_of, operation_by}
 use Rattle.spin_step.specs.Operations.{wrapped}
 use Rattle.spin_session.specs.Operating.{Operates}
 use Rattle.spin_session.specs.Meaning.{rests_at, seat_now, seat_after, model_at, table_at}
-use Rattle.spin_session.specs.Turns.{TurnTold, outcome_of, has_begun, Spot, spot}
+use Rattle.spin_session.specs.Turns.{TurnTold, outcome_of, has_begun, SeatSpot, spot_of}
 use Rattle.spin_session.proofs.Turned.{turned, in_bounds}
 use Rattle.spin_session.proofs.Course.{reached, quiet_at, comes, same_seat, uses_now}
 use Rattle.spin_session.proofs.calls.step.Goals as goal
@@ -32,7 +32,7 @@ returns g c =
     let fine = in_bounds (table_at t p.key) s p.view f.result.1.view it.seen f.result.2 c.requires.knows.1 a.call a.point a.holds c.requires.at named is_named f.result.0 f.ensures.moved in
     let went : filled None c.next.result ≡ next_of (t 0 p.key.value) a.call a.point a.holds f.result.0 = rw (c.table-table.ensures.is, c.table-table.ensures.given) at (c.next.ensures p.key.value) in
     let next = went ∙ (c.laws.ensures.alike p.key.value p.key.start).goes a.call a.point a.holds f.result.0 in
-    let now : Spot g.row.T.Denot g.row.P-Call.Denot g.row.P-Point.Denot = (f.result.1.key, f.result.1.view, f.result.2) in
+    let now : SeatSpot g.row.T.Denot g.row.P-Call.Denot g.row.P-Point.Denot = (f.result.1.key, f.result.1.view, f.result.2) in
     let quiet = quiet_at (table_at t p.key) s a.call a.point a.holds (what p.view) c.requires.at c.requires.quiet in
     let lasts = c.laws.ensures.lasts p.key p.view f.result.1.view p.value f.result.1.value f.result.2 f.ensures.kept f.ensures.found (λ e. absurd (quiet e)) in
     record {
@@ -43,11 +43,11 @@ returns g c =
       );
       key = f.ensures.key;
       seat = all.is ∙ ap Some (ap (seat_after a.call a.holds) (sym next) ∙ same_seat g.row.T.Denot a.call a.holds c.next.result);
-      comes = λ q on. comes t s a.call a.point a.holds q (spot it) now on c.next.result (
+      comes = λ q on. comes t s a.call a.point a.holds q (spot_of it) now on c.next.result (
         f.result.0,
         next,
         (fine, reached t s a.call a.point a.holds p.key (what p.view) c.requires.at c.requires.knows.2),
-        subst (λ x. Stepped (model_at t) (has_begun (what p.view)) a.call (outcome_of x) (seat_after a.call a.holds x) (spot it) now) (sym next) ((all.made, all.named, f.ensures.key), all.is),
+        subst (λ x. Stepped (model_at t) (has_begun (what p.view)) a.call (outcome_of x) (seat_after a.call a.holds x) (spot_of it) now) (sym next) ((all.made, all.named, f.ensures.key), all.is),
       );
       goes = (next, fine);
       last = subst (λ o. IfSome f.result.1.value (IsLast o f.result.2.entries)) (sym f.ensures.key) lasts.0;

@@ -1,6 +1,6 @@
 use Rattle.std.proofs.Common.{Some, ap, ◌∙◌}
 use Rattle.spin_session.specs.Meaning.{seat_after}
-use Rattle.spin_session.specs.Turns.{spot}
+use Rattle.spin_session.specs.Turns.{spot_of}
 use Rattle.spin_session.proofs.Course.{under, ended, sees_then}
 use Rattle.spin_session.proofs.calls.wait.Goals as goal
 
@@ -8,7 +8,7 @@ pub returns-in-Answers-clause-ended : goal.returns-in-Answers-clause-ended
 returns-in-Answers-clause-ended g c p on =
     let a = c.args in let f = c.further-next in
     let came = f.ensures.comes p (c.further-made.ensures.comes p (c.step-next.ensures.comes p (c.loop.invariant.4 p on))) in
-    (_, _, ended g.P.Runs.tables g.P.Runs.meaning a.call a.holds p (spot f.result.3) f.result.0 came _ _ c.in-Answers.is)
+    (_, _, ended g.P.Runs.tables g.P.Runs.meaning a.call a.holds p (spot_of f.result.3) f.result.0 came _ _ c.in-Answers.is)
 
 pub returns-in-Answers-clause-sees : goal.returns-in-Answers-clause-sees
 returns-in-Answers-clause-sees g c v on =
@@ -23,7 +23,7 @@ loop-preserved g c =
       f.ensures.knows,
       f.ensures.seat ∙ ap (λ x. Some (seat_after a.call a.holds x)) c.in-Continue.is,
       λ p on. let came = f.ensures.comes p (c.further-made.ensures.comes p (x.ensures.comes p (i.4 p on))) in
-          under g.P.Runs.tables s a.call a.holds p (spot f.result.3) f.result.0 came c.in-Continue.to c.in-Continue.is,
+          under g.P.Runs.tables s a.call a.holds p (spot_of f.result.3) f.result.0 came c.in-Continue.to c.in-Continue.is,
       f.ensures.key ∙ c.further-made.ensures.key ∙ x.ensures.key ∙ i.5,
       λ v on. f.ensures.sees v (c.further-made.ensures.sees v (sees_then s a.call c.loop.at a.holds v c.loop.party x.result.2 i.3 i.2.2 (i.6 v on) x.ensures.sees)),
     )

@@ -4,7 +4,7 @@ use Rattle.spin_text.specs.Reading.{entries_in, lines_left, numbers_of}
 use Rattle.spin_text.specs.Transcripts.{end_line}
 use Rattle.spin_text.proofs.Appended.{but_line, but_beginning}
 use Rattle.spin_text.proofs.Lines.{last_line}
-use Rattle.spin_text.proofs.Options.{on_err}
+use Rattle.std.proofs.lemmas.Result.{on_err_weaker}
 use Rattle.spin_text.proofs.transcript.play.Goals as goal
 
 pub returns-clause-beginning : goal.returns-clause-beginning
@@ -17,5 +17,5 @@ returns-clause-beginning g c =
     last_line (g.O.Object.machine c.args.world.now.object) c.args.world.now.state c.write_events.new.world.state (entries_in g.O.Spelled.read (lines_left c.args.lines))
     c.words.result _ c.value.result c.in_ok-used.ensures.state c.words.ensures (c.numbers.ensures c.args.world.now.object) c.value.ensures
     in
-    on_err c.write_end.result _ _ (but_beginning _ _ _ _ _ (subst P (sym whole) (but_line _ _ _ _ end c.in_ok-used.ensures.bytes)))
+    on_err_weaker c.write_end.result (but_beginning _ _ _ _ _ (subst P (sym whole) (but_line _ _ _ _ end c.in_ok-used.ensures.bytes)))
     c.write_end.ensures.beginning

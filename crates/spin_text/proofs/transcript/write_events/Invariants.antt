@@ -1,28 +1,26 @@
 -- the moves so far were played; their lines were written, except for the last piece
-use Rattle.std.proofs.Common.{◌≡◌, ◌≤◌, ◌+◌, length, take, drop}
+use Rattle.std.proofs.Common.{◌≡◌, ◌≤◌, ◌+◌, ℕ, List, length, take}
 use Rattle.spin_text.specs.declared.piece.TheConstants.{LONGEST_LINE, PIECE}
 use Rattle.spin_text.specs.Ends.{AppendsBut}
 use Rattle.spin_text.specs.Readable.{AllRead}
 use Rattle.spin_text.specs.Reading.{entries_in, lines_left}
-use Rattle.spin_text.specs.Transcripts.{schedule_lines}
 use Rattle.spin_text.proofs.Cuts.{bytes_left}
-use Rattle.spin_text.proofs.Lines.{PlayedFirst}
+use Rattle.spin_text.proofs.Lines.{SoFar}
 use Rattle.spin_text.proofs.transcript.write_events.Given as goal
 
 abbrev pub invariant-loop-rest : goal.invariant-loop-rest
 invariant-loop-rest g l =
-    let schedule = entries_in g.O.Spelled.read (lines_left l.fn.lines) in
+    let entries = entries_in g.O.Spelled.read in
     record {
-      left : drop l.place schedule ≡ entries_in g.O.Spelled.read (lines_left l.rest);
       read : AllRead g.O.Spelled.read (lines_left l.rest);
       counted : l.place + length (lines_left l.rest) ≤ length (lines_left l.fn.lines);
-      told : PlayedFirst (g.O.Object.machine l.initial.world.object) l.initial.world.state l.world.state l.begins schedule l.place;
+      told : (text : List ℕ)
+          × SoFar (g.O.Object.machine l.initial.world.object) l.initial.world.state (entries (lines_left l.fn.lines)) l.world.state l.begins (entries (lines_left l.rest)) l.place text
+          × AppendsBut (g.K.Sink.written l.initial.output) (g.K.Sink.written l.output) text (take l.used l.piece);
       object : l.world.object ≡ l.initial.world.object;
       line : length l.buffer ≡ LONGEST_LINE;
       piece : length l.piece ≡ PIECE;
       room : l.used + LONGEST_LINE ≤ PIECE;
-      written : AppendsBut (g.K.Sink.written l.initial.output) (g.K.Sink.written l.output)
-          (schedule_lines (g.O.Object.machine l.initial.world.object) l.initial.world.state (take l.place schedule)) (take l.used l.piece);
       failed : g.K.Sink.failed l.output ≡ g.K.Sink.failed l.initial.output;
     }
 

@@ -9,9 +9,8 @@ invariant_of-a g c = c.a.invariant ∙ sym (after_meet g.C.Calls.machine c.laws.
 pub invariant_of-b : goal.invariant_of-b
 invariant_of-b g c = c.b.invariant ∙ sym (after_meet g.C.Calls.machine c.laws.ensures.tracked _ _ _ c.meet_at.ensures.second)
 
-pub returns-clause-holds : goal.returns-clause-holds
-returns-clause-holds g c =
-    let m = g.C.Calls.machine in (
-      after_meet m c.laws.ensures.tracked _ _ _ c.meet_at.ensures.first ∙ ap (λ v. holds m v.known) c.a.view_is,
-      after_meet m c.laws.ensures.tracked _ _ _ c.meet_at.ensures.second ∙ ap (λ v. holds m v.known) c.b.view_is,
-    )
+pub returns-clause-first_holds : goal.returns-clause-first_holds
+returns-clause-first_holds g c = after_meet g.C.Calls.machine c.laws.ensures.tracked _ _ _ c.meet_at.ensures.first ∙ ap (λ v. holds g.C.Calls.machine v.known) c.a.view_is
+
+pub returns-clause-second_holds : goal.returns-clause-second_holds
+returns-clause-second_holds g c = after_meet g.C.Calls.machine c.laws.ensures.tracked _ _ _ c.meet_at.ensures.second ∙ ap (λ v. holds g.C.Calls.machine v.known) c.b.view_is

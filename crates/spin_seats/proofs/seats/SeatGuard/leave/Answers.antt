@@ -1,9 +1,9 @@
 use Rattle.std.proofs.Common.{subst}
-use Rattle.spin_session.specs.Turns.{spot}
+use Rattle.spin_session.specs.Turns.{spot_of}
 use Rattle.spin_step.specs.declared.answer.Answer.TheVariants.{Done}
 use Rattle.spin_seats.specs.Passes.{Calls}
 use Rattle.spin_seats.specs.declared.calls.SeatsCall.TheVariants.{Leave}
 use Rattle.spin_seats.proofs.seats.SeatGuard.leave.Goals as goal
 
 pub returns : goal.returns
-returns g c = subst (λ p. Calls g.row.N Leave Done p (spot c.make.result)) c.self.view_is c.make.ensures.calls
+returns g c = subst (λ p. Calls g.row.N Leave Done p (spot_of c.make.result)) c.self.view_is c.make.ensures.calls

@@ -7,13 +7,10 @@ pub act-requires : goal.act-requires
 act-requires g c = grind (arith, can_reached)
 
 pub invariant_of-self : goal.invariant_of-self
-invariant_of-self g c =
-    let m = g.O.Object.machine c.self.inside.object in (
-      reached_next m c.self.inside.table c.act.new.self c.args.party c.args.action c.act.result c.act.ensures c.self.invariant.0,
-      c.self.invariant.1 ∙ sym (ap (λ h. length h.next.seats) c.act.ensures
-          ∙ length-happens m c.self.inside.table c.args.party c.args.action),
-    )
+invariant_of-self g c = let m = g.O.Object.machine c.self.inside.object in (
+  reached_next m _ _ _ _ _ c.act.ensures c.self.invariant.0,
+  c.self.invariant.1 ∙ sym (ap (λ h. length h.next.seats) c.act.ensures ∙ length-happens m _ _ _),
+)
 
 pub returns-clause-reached : goal.returns-clause-reached
-returns-clause-reached g c =
-    reached_next (g.O.Object.machine c.self.inside.object) c.self.inside.table c.act.new.self c.args.party c.args.action c.act.result c.act.ensures c.self.invariant.0
+returns-clause-reached g c = reached_next (g.O.Object.machine c.self.inside.object) _ _ _ _ _ c.act.ensures c.self.invariant.0

@@ -1,7 +1,6 @@
-use Rattle.std.proofs.Common.{◌≤◌, sym, ◌∙◌, inl, inr, length}
-use Rattle.spin_core.specs.Own.{mark_of}
+use Rattle.std.proofs.Common.{◌≤◌, sym, ◌∙◌, inl, inr, length, length-append, arith}
 use Rattle.spin_once.specs.OnceValues.{made}
-use Rattle.spin_once.proofs.Valued.{longer, stays}
+use Rattle.spin_once.proofs.Valued.{stays}
 use Rattle.spin_once.proofs.once_core.account.Account.after.Goals as goal
 
 pub invariant_of-result : goal.invariant_of-result
@@ -10,7 +9,7 @@ invariant_of-result g c =
     let few : length (made opening.value known) ≤ 1 = elim either [ inl mine ↦ rw mine me.few | inr other ↦ rw (other, c.requires.0) c.args.earlier.now.few ] in
     record {
       named = me.named ∙ sym name;
-      knows = longer me.seen.entries known mine (mark_of me.party.view) me.knows;
+      knows = rw (← mine.1, length-append) (omega (arith, me.knows));
       few = few;
       finds = λ used. ((me.finds used).0, λ v is. stays opening me.seen.entries known mine few v ((me.finds used).1 v is));
     }

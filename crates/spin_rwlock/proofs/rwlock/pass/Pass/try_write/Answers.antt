@@ -1,5 +1,5 @@
 use Rattle.std.proofs.Common.{subst}
-use Rattle.spin_session.specs.Turns.{spot}
+use Rattle.spin_session.specs.Turns.{spot_of}
 use Rattle.spin_step_more.specs.declared.rw_calls.RwCall.TheVariants.{TryWrite}
 use Rattle.spin_rwlock.specs.RwPasses.{Grants}
 use Rattle.spin_rwlock.proofs.rwlock.pass.Pass.try_write.Goals as goal
@@ -7,4 +7,4 @@ use Rattle.spin_rwlock.proofs.rwlock.pass.Pass.try_write.Goals as goal
 pub returns-in-Ok-clause-granted : goal.returns-in-Ok-clause-granted
 returns-in-Ok-clause-granted g c =
     let made = c.in-Ok.ensures.granted in
-    subst (λ b. Grants TryWrite b c.written.result) c.self.view_is (c.written.ensures.grants made.1 TryWrite (spot c.self.inside.session) made.2)
+    subst (λ b. Grants TryWrite b c.written.result) c.self.view_is (c.written.ensures.grants made.1 TryWrite (spot_of c.self.inside.session) made.2)

@@ -3,7 +3,7 @@ use Rattle.std.specs.Option.{IfSome}
 use Rattle.spin_core.specs.Values.{IsLast}
 use Rattle.spin_step.specs.declared.answer.Answer.TheVariants.{Granted}
 use Rattle.spin_step.specs.declared.place.Hold.TheVariants.{Write}
-use Rattle.spin_session.specs.Turns.{StandsAt, spot}
+use Rattle.spin_session.specs.Turns.{StandsAt, spot_of}
 use Rattle.spin_rwlock.specs.Guards.{write_spot, write_value}
 use Rattle.spin_rwlock.specs.RwPasses.{Calls}
 use Rattle.spin_rwlock.proofs.rwlock.writer.RwLockWriteGuard.written.Goals as goal
@@ -11,7 +11,7 @@ use Rattle.spin_rwlock.proofs.rwlock.writer.RwLockWriteGuard.written.Goals as go
 pub returns-clause-grants : goal.returns-clause-grants
 returns-clause-grants g c last call before calls =
     let w = c.into_writer.ensures in let n = c.new.ensures in let guard = c.new.result in let from = c.args.session in
-    let same : write_spot guard ≡ spot from = λ i. ((ap (λ p. p.key) n.0 ∙ w.key) i, (ap (λ p. Some p.view) n.0 ∙ w.same.0) i, n.1 i) in
+    let same : write_spot guard ≡ spot_of from = λ i. ((ap (λ p. p.key) n.0 ∙ w.key) i, (ap (λ p. Some p.view) n.0 ∙ w.same.0) i, n.1 i) in
     let there = subst (StandsAt (Some Write)) (sym same) c.requires in (
       (there.0, there.1),
       subst (λ z. IsLast z.0 z.2.entries (write_value guard)) (sym same)

@@ -1,0 +1,2 @@
+pub mod TicketRefines
+pub mod TicketQueue

@@ -1,0 +1,227 @@
+//! A spinning mutex that serves the threads in the order of their tickets. Begin at [`TicketMutex::lock`].
+ghost use Rattle.std.specs.Prelude.{Option, IfSome};
+ghost use Rattle.std.specs.Fmt.{DisplaysOnOk};
+ghost use Rattle.spin_core.specs.Texts.{lock_text};
+ghost use Rattle.spin_mutex.specs.TicketPasses.{Ends, Grants, Lock, OpensWith, TryLock, new_in, opening};
+
+use spin_core::cell::Cell;
+use spin_core::guard::{self, Guard};
+use spin_core::lock::{Lock, with_guard};
+use spin_core::relax::{RelaxStrategy, Spin, Strategy};
+use spin_core::texts::write_lock;
+use spin_core::tie::Opening;
+use spin_core::trace::Trace;
+use spin_session::calls::{acquire, enter};
+use spin_step::TicketCall;
+use std::fmt::{self, Debug, Formatter};
+use std::sync::Wait;
+
+mod pass;
+mod rule;
+
+pub use self::pass::Pass;
+pub use self::rule::{Entry, History, Party, TicketRule};
+pub use spin_core::laws::{a_guard_reads_the_last_value_written, two_guards_read_one_value};
+
+/// A mutual exclusion lock that serves its threads in the order of their tickets, and on which a waiting thread spins.
+///
+/// Each call of [`lock`](Self::lock) takes a ticket with the next number, and enters when that number is served. With
+/// more spinning threads than processors a call may wait for a thread that is not scheduled, and the queue nearly
+/// stands still. Use `SpinMutex` then, or the strategy `SpinThenYield`. A waiting thread relaxes with strategy `R`.
+///
+/// # Contract
+/// While a guard or a hold of the lock lives, no other call acquires it. Threads enter in the order of their tickets
+/// (`the_parties_of_a_ticket_mutex_enter_in_turn`). A guard gives a value of `T`, with all that the invariant of `T`
+/// says. When the guard is acquired this is the value written last in the lock's history. Without a
+/// [`pass`](Self::pass) other answers promise nothing.
+///
+/// # Examples
+/// ```
+/// use spin::mutex::TicketMutex;
+/// use std::thread;
+///
+/// let last: TicketMutex<u64> = TicketMutex::new(0);
+/// thread::join(&rt, || *last.lock(&rt) = 1, || *last.lock(&rt) = 2);
+/// assert!(rt; [1, 2].contains(&last.into_inner()));
+/// ```
+#[derive(Drop)]
+pub struct TicketMutex<T, R = Spin> {
+    cell: Cell<T, Party, TicketRule>,
+    strategy: Strategy<R>,
+}
+
+/// The guard of a [`TicketMutex`]. Dropping it releases the lock, and serves the next ticket.
+///
+/// # Contract
+/// `guard_value` is the lock's value. What is written through the guard is read through it.
+pub type TicketMutexGuard<'a, T, R = Spin> = Guard<'a, T, Party, Entry<T>, TicketRule, R>;
+
+/// A hold on a [`TicketMutex`]: it keeps the lock without a guard, and gives no access to the value.
+///
+/// [`TicketMutex::force_unlock`] takes it and releases the lock. Dropping it does not release the lock.
+///
+/// # Contract
+/// `held_value` is the value that the guard had.
+pub type Held<'a, T, R = Spin> = guard::Held<'a, T, Party, Entry<T>, TicketRule, R>;
+
+// The hints that a waiting thread gives in a pause, for each ticket before its own, up to a limit. The thread that is
+// next gives one hint.
+const HINTS_EACH: u64 = 8;
+
+impl<T, R> TicketMutex<T, R> {
+    /// Creates an unlocked mutex that holds `value`.
+    ///
+    /// # Contract
+    /// The lock's history begins with this value (`opens`). The call returns.
+    pub const fn new(value: T) -> Self
+        ensures opens { OpensWith value (opening result) }
+    {
+        Self::starting_at(value, 0)
+    }
+
+    // Creates an unlocked mutex whose first ticket has the number `first`.
+    pub(crate) const fn starting_at(value: T, first: u64) -> Self
+        ensures opens { OpensWith value (opening result) }
+    {
+        let trace = Trace::new(first);
+        let opening = Opening::starting_at(&trace, &value, &first);
+        let cell = Cell::new(value, first, trace, &opening);
+        opening.end();
+        TicketMutex {
+            cell,
+            strategy: Strategy::named(),
+        }
+    }
+
+    /// Consumes the mutex and returns the value with the lock's whole history.
+    ///
+    /// # Contract
+    /// The history is a schedule of the lock's model. Unless a party still writes the value at its end (a guard was
+    /// leaked, or a hold dropped), the value is the one written last (`Ends`). The history begins with what a pass knew
+    /// ([`covers`](spin_core::trace::Trace::covers)). The call returns.
+    pub fn into_history(self) -> (T, History<T>)
+        ensures { Ends (opening self) result }
+    {
+        let (_, value, history) = self.cell.into_parts();
+        (value, history)
+    }
+
+    /// Consumes the mutex and returns the value.
+    ///
+    /// It takes no ticket, since no other thread has the mutex. So it also returns the value if a guard was leaked,
+    /// or a hold dropped.
+    ///
+    /// # Contract
+    /// Only that the call returns.
+    pub fn into_inner(self) -> T {
+        self.cell.into_inner()
+    }
+
+    /// Acquires the mutex, spinning until every thread with an earlier ticket has released it.
+    ///
+    /// The call takes a ticket, and waits with strategy `R` until the number of its ticket is served. With [`Spin`] the
+    /// call looks less often the more tickets are before its own. The call never returns if its own thread holds the
+    /// lock, or if it finds all 2^64 - 1 tickets used up.
+    ///
+    /// # Contract
+    /// The guard is granted by one `Lock`, and its value is the one written last in the lock's history (`Grants`).
+    /// Whether and when the call returns is not promised.
+    pub fn lock<W: Wait>(&self, rt: &W) -> TicketMutexGuard<'_, T, R>
+    where
+        R: RelaxStrategy,
+        ensures { Grants Lock (new_in (opening self.now)) result }
+    {
+        acquire(enter(&self.cell), TicketCall::Lock, None, rt)
+    }
+
+    /// Tries to acquire the mutex. Returns `None` at once if a thread holds it or waits for it, or if the tickets are
+    /// used up.
+    ///
+    /// It makes at most two loads and one compare-exchange.
+    ///
+    /// # Contract
+    /// The guard in `Some` is granted by one `TryLock` (`Grants`). `None` promises nothing. The call returns.
+    #[must_use = "dropping the guard at once releases the lock: bind the answer, or write `drop(..)`"]
+    pub fn try_lock<'a>(&'a self) -> Option<TicketMutexGuard<'a, T, R>>
+        ensures { IfSome result (Grants TryLock (new_in (opening self.now))) }
+    {
+        match self.pass().try_lock() {
+            Ok(guard) => Some(guard),
+            Err(_) => None,
+        }
+    }
+
+    /// Returns `true` if it finds that a thread holds the lock or waits for it, else `false`.
+    ///
+    /// It makes two loads. By the time the caller reads the answer it may be out of date.
+    ///
+    /// # Contract
+    /// Only that the call returns.
+    ///
+    /// # Examples
+    /// ```
+    /// use spin::mutex::TicketMutex;
+    ///
+    /// let lock: TicketMutex<u64> = TicketMutex::new(4);
+    /// let guard = lock.lock(&rt);
+    /// assert!(rt; lock.is_locked());
+    /// drop(guard);
+    /// assert!(rt; !lock.is_locked());
+    /// ```
+    pub fn is_locked(&self) -> bool {
+        self.pass().is_locked().0
+    }
+
+    /// Releases the lock that this `Held` holds, and serves the next ticket.
+    ///
+    /// The call consumes the hold, so no lock is released twice.
+    ///
+    /// # Contract
+    /// Only that the call returns.
+    pub fn force_unlock(held: Held<'_, T, R>) {
+        held.release();
+    }
+
+    /// Returns a mutable reference to the value.
+    ///
+    /// It takes no ticket, since no other thread has the mutex.
+    ///
+    /// # Contract
+    /// Only that the call returns.
+    pub fn get_mut(&mut self) -> &mut T {
+        self.cell.get_mut()
+    }
+}
+
+/// Tries once to acquire the lock, and holds it while it prints the value. If the try fails it prints `<locked>`.
+impl<T: Debug, R> Debug for TicketMutex<T, R> {
+    fn fmt<W: fmt::Write>(&self, f: &mut Formatter<W>) -> fmt::Result
+        ensures { (found : Option T) × DisplaysOnOk W.write_str_gives f.old result (lock_text T.debug_output found) f.new }
+    {
+        write_lock(self.try_lock().as_ref().map(|guard| &**guard), f)
+    }
+}
+
+/// Creates an unlocked mutex that holds the default value.
+impl<T: Default, R> Default for TicketMutex<T, R> {
+    fn default() -> Self {
+        Self::new(T::default())
+    }
+}
+
+/// Creates an unlocked mutex that holds the value.
+impl<T, R> From<T> for TicketMutex<T, R> {
+    fn from(value: T) -> Self {
+        Self::new(value)
+    }
+}
+
+impl<T, R: RelaxStrategy> Lock<T> for TicketMutex<T, R> {
+    fn with<A, F: FnOnce(&mut T) -> A, W: Wait>(&self, rt: &W, by: F) -> A {
+        by(&mut *self.lock(rt))
+    }
+
+    fn try_with<A, F: FnOnce(&mut T) -> A>(&self, by: F) -> Result<A, F> {
+        with_guard(self.try_lock(), by)
+    }
+}

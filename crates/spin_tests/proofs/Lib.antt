@@ -1,0 +1,4 @@
+pub mod Promising
+pub mod Dispensing
+pub mod Drawn
+pub mod TicketOperating

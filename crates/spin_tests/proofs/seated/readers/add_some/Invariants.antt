@@ -1,8 +1,0 @@
--- after each turn of the loop the pass is of this lock, and holds nothing
-use Rattle.std.proofs.Common.{◌≡◌, ◌≤◌, None}
-use Rattle.spin_seated.specs.Passes.{IsPassOf}
-use Rattle.spin_seated.specs.Rw.{holds}
-use Rattle.spin_tests.proofs.seated.readers.add_some.Given as goal
-
-abbrev pub invariant-loop : goal.invariant-loop
-invariant-loop g l = IsPassOf l.lock l.pass × (holds l.pass.known ≡ None) × (l.added ≤ l.counter)

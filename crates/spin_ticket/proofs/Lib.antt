@@ -1,3 +1,0 @@
-pub mod TicketRefines
-pub mod TicketQueue
-pub mod Rows

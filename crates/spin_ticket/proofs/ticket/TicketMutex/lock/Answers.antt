@@ -1,6 +1,0 @@
-use Rattle.std.proofs.Common.{subst}
-use Rattle.spin_ticket.specs.TicketPasses.{Grants, Lock}
-use Rattle.spin_ticket.proofs.ticket.TicketMutex.lock.Goals as goal
-
-pub returns : goal.returns
-returns g c = subst (λ new. Grants Lock new c.acquire.result) c.enter.ensures c.acquire.ensures

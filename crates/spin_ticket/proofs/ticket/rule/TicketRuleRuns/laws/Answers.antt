@@ -1,5 +1,0 @@
-use Rattle.spin_ticket.proofs.TicketRefines.{ticket_executes}
-use Rattle.spin_ticket.proofs.ticket.rule.TicketRuleRuns.laws.Goals as goal
-
-pub returns : goal.returns
-returns g c = ticket_executes

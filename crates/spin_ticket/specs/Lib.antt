@@ -1,3 +1,0 @@
-pub mod Queue
-pub mod TicketQueue
-pub mod TicketPasses

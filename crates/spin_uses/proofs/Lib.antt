@@ -1,4 +1,0 @@
-pub mod Transfers
-pub mod Lines
-pub mod Logged
-pub mod Folds

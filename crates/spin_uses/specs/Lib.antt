@@ -1,5 +1,0 @@
-pub mod Phases
-pub mod Ledger
-pub mod Settings
-pub mod SharedSettings
-pub mod Logged

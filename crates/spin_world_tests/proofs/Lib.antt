@@ -1,5 +1,0 @@
-pub mod Promising
-pub mod Dispensing
-pub mod Drawn
-pub mod RwOtherwise
-pub mod TicketOperating

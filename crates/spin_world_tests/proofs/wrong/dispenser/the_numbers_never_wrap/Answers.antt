@@ -1,5 +1,0 @@
-use Rattle.std.proofs.lemmas.Bool.{false≢true}
-use Rattle.spin_world_tests.proofs.wrong.dispenser.the_numbers_never_wrap.Goals as goal
-
-pub returns : goal.returns
-returns g all = false≢true all.each.1.1.1.1.1.1.0.opens.1

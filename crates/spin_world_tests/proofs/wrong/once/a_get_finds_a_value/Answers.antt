@@ -1,5 +1,0 @@
-use Rattle.std.proofs.lemmas.Bool.{false≢true}
-use Rattle.spin_world_tests.proofs.wrong.once.a_get_finds_a_value.Goals as goal
-
-pub returns : goal.returns
-returns g c = λ v all. false≢true all.1.1.1.1.0

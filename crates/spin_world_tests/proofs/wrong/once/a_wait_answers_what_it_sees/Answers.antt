@@ -1,8 +1,0 @@
-use Rattle.std.specs.Prelude.{None}
-use Rattle.std.proofs.Common.{refl}
-use Rattle.spin_step.specs.declared.once_calls.OnceCall.TheVariants.{Wait}
-use Rattle.spin_step.specs.declared.once_calls.OncePoint.TheVariants.{Look}
-use Rattle.spin_world_tests.proofs.wrong.once.a_wait_answers_what_it_sees.Goals as goal
-
-pub returns : goal.returns
-returns g c = λ v answers. cc ((answers.value 0 v Wait Look None refl refl refl))

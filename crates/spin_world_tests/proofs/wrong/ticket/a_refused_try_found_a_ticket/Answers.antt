@@ -1,5 +1,0 @@
-use Rattle.spin_world_tests.proofs.wrong.ticket.a_refused_try_found_a_ticket.Goals as goal
-use Rattle.std.proofs.lemmas.Bool.{false≢true}
-
-pub returns : goal.returns
-returns g c = λ value all. false≢true all.1.1.0
