@@ -13,6 +13,6 @@ abbrev pub IsArrival : State → Bool → State → Type 0
 IsArrival before leads after = (after.n ≡ before.n) × (((after.count, after.generation), leads) ≡ arrived before.n before.count before.generation)
 
 -- A party arrives, which `came` tells. If it leads, it leaves at once. Else it leaves later, which `left` tells.
-abbrev pub Waits : {Own Seen : Type 0} → (Own → Seen → Bool → Own → Seen → Type 0) → (Seen → Seen → Type 0) → Own → Seen → BarrierWaitResult × Seen → Own → Type 0
-Waits {Own} {Seen} came left own seen result own' =
+abbrev pub WaitsForGroup : {Own Seen : Type 0} → (Own → Seen → Bool → Own → Seen → Type 0) → (Seen → Seen → Type 0) → Own → Seen → BarrierWaitResult × Seen → Own → Type 0
+WaitsForGroup {Own} {Seen} came left own seen result own' =
     (there : Seen) × (came own seen (leads_group result.0) own' there × MatchBool (leads_group result.0) (result.1 ≡ there) (left there result.1))

@@ -3,7 +3,7 @@
 //!
 //! It uses only the contract of `Mutex`.
 ghost use Rattle.std.specs.Prelude.{◌≡◌, IfOk};
-ghost use Rattle.spin_barrier.specs.Keeping.{leads_group, Waits};
+ghost use Rattle.spin_barrier.specs.Keeping.{leads_group, WaitsForGroup};
 
 use crate::keep::{Keeper, Kept};
 use spin_core::relax::{RelaxStrategy, Spin};
@@ -122,7 +122,7 @@ impl<R: RelaxStrategy, K: Keeper> Barrier<R, K> {
         seen: K::Seen,
     ) -> (BarrierWaitResult, K::Seen)
         requires { K.ready own.old seen }
-        ensures { Waits K.came K.left own.old seen result own.new }
+        ensures { WaitsForGroup K.came K.left own.old seen result own.new }
     {
         let mut seen = seen;
         wait_at!(self, rt, own, seen)

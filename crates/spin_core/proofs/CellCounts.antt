@@ -6,7 +6,7 @@ use Rattle.std.proofs.lemmas.List.Sums.{sum_by-cons, sum_by-append, sum_by_push}
 use mathlib.Core.Option.{some, some-injective, some-ne-none}
 use mathlib.Core.Path.{sym}
 use lib.ListN.{get_elem?}
-use Rattle.spin_core.specs.Cell.{Stands, after}
+use Rattle.spin_core.specs.Cell.{HasView, after}
 
 -- the party with the view v is at place id, with others before it and behind it
 pub around : {X : Type 0} (vs : List X) (id : ℕ) (v : X) → get_elem? vs id ≡ some v
@@ -28,7 +28,7 @@ module _ {V : Type 0} (g : V → ℕ) where
   without before behind v = omega (arith, sum_by-append g before (v ∷ behind), sum_by-append g before behind, sum_by-cons g v behind)
 
   -- the sum is the party's part plus a rest, which does not change when the party gets another view
-  pub splits : (id : ℕ) (view : Option V) (vs : List V) → Stands id view vs
+  pub splits : (id : ℕ) (view : Option V) (vs : List V) → HasView id view vs
       → (k : ℕ) × (sum_by g vs ≡ k + part_of g view) × ((w : V) → sum_by g (after id view vs w) ≡ k + g w)
   splits id None vs h = (sum_by g vs, omega arith, λ w. omega (arith, sum_by_push g vs w))
   splits id (Some v) vs h =
@@ -36,5 +36,5 @@ module _ {V : Type 0} (g : V → ℕ) where
       (sum_by g (us ++ ws), omega (arith, ap (sum_by g) is, without us ws v), λ w. omega (arith, ap (sum_by g) (now w), without us ws w))
 
   -- the sum loses the party's old part and gains its new one
-  pub moves : (id : ℕ) (view : Option V) (vs : List V) (w : V) → Stands id view vs → sum_by g (after id view vs w) + part_of g view ≡ sum_by g vs + g w
+  pub moves : (id : ℕ) (view : Option V) (vs : List V) (w : V) → HasView id view vs → sum_by g (after id view vs w) + part_of g view ≡ sum_by g vs + g w
   moves id view vs w h = let s = splits id view vs h in omega (arith, s.1, s.2 w)

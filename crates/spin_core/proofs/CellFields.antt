@@ -27,7 +27,7 @@ use Rattle.core.proofs.cell.Borrows.{flag}
 use Rattle.core.proofs.tally.Steps.{word_out, word_in}
 use Rattle.core.specs.contracts.marker.PhantomData as marker
 use Rattle.atomic_table.specs.Seated.{fact}
-use Rattle.spin_core.specs.Cell.{Ways, Starts, Lends}
+use Rattle.spin_core.specs.Cell.{Ways, Starts, MayLend}
 use Rattle.spin_core.specs.CellMemory.{offset, second_at, Known}
 use Rattle.spin_core.specs.declared.cell.Rule.{Ghosts}
 use Rattle.spin_core.specs.contracts.cell.Cell as C
@@ -155,9 +155,9 @@ module _ {M : Type 1} {𝓤 : Ura M} (𝓛 : Logic 𝓤) (m ms : Member) (V Y K 
     rejoined s rule = script ∵ knows ! (Rule s) rule $ move ! (1 ∷ 0 ∷ []) $ join ! $ move ! (1 ∷ 0 ∷ []) $ join ! $ move ! (1 ∷ []) $
         use1 𝓛 (raw (joined s)) (all_e 𝓤 joined s) $ move ! (1 ∷ 0 ∷ []) $ by ! (apply∗ 𝓤 (⟦ standing_words (s.0, s.1) ⟧ ∗ ⟦ At s.2 ⟧ ∗ ⟦ fact (Rule s) ⟧) ⟦ P ⟧)
 
--- A cell gets another key, if the rule under the old key implies the rule under the new one (`Lends`).
+-- A cell gets another key, if the rule under the old key implies the rule under the new one (`MayLend`).
 module _ {M : Type 1} {𝓤 : Ura M} (𝓛 : Logic 𝓤) (m ms : Member) (V Y K : RattleType) (g : Ghosts Y.Denot (row_of m).Denot V.Denot K.Denot (row_of ms).Denot) (old key : K.Denot) (b o : ℕ)
-    (lends : Lends (g.holds old) (g.ways old) (g.holds key) (g.ways key)) where
+    (lends : MayLend (g.holds old) (g.ways old) (g.holds key) (g.ways key)) where
   open (signs 𝓛) use {◌⊩◌, ◌⊢◌, ◌∗◌, ◌-∗◌, ⟦◌⟧}
 
   known : Knows 𝓛 m ms V Y K g old b o → Knows 𝓛 m ms V Y K g key b o

@@ -28,7 +28,7 @@ use denote.Steps.{nothing}
 use denote.Struct.Lending.{Lends, Lends-false, Lends-nothing}
 use Rattle.core.proofs.cell.Borrows.{by_one, unnest_before}
 use Rattle.spin_core.specs.Cell.{Use, off, reads, writes, Way, fixes, Fixes, Seen, Ways, use_of}
-use Rattle.spin_core.specs.CellMemory.{offset, Known, Id, round_code, tag, Part, piece, reader, shown, named, right, stand, inner, permit_at, permit_owns, permit_shares, reader_shares, writer_owns, writer_shares}
+use Rattle.spin_core.specs.CellMemory.{offset, Known, Id, round_code, tag, Part, piece, reader_owns, shown, named, right, stand, inner, permit_at, permit_owns, permit_shares, reader_shares, writer_owns, writer_shares}
 use Rattle.spin_core.proofs.CellParts.{piece_in, piece_cut}
 use Rattle.spin_core.proofs.CellThrough.{Back, Cut, again, cuts}
 use Rattle.spin_core.proofs.CellWalks.{permit_in, has_value}
@@ -178,7 +178,7 @@ module _ {M : Type 1} {𝓤 : Ura M} (𝓛 : Logic 𝓤) where
     IsShown b o v x = given ((v ≡ Some x) × Seen ways.0 x) (‵ (shown R b o x β))
 
     shown_by : RowLaws R → (b o : ℕ) (t : Id) (x : R.Denot)
-        → ‵ (before β t.life) ⊛ ‵ (reader R b o t ways.0 x) ⊩ later (given (Seen ways.0 x) (‵ (shown R b o x β)))
+        → ‵ (before β t.life) ⊛ ‵ (reader_owns R b o t ways.0 x) ⊩ later (given (Seen ways.0 x) (‵ (shown R b o x β)))
     shown_by L b o t x = script ∵ updating ! $ move ! (1 ∷ []) $ fpick ! (λ n. fsplit ! $ fpick ! (λ e. fpick ! (λ known. fsplit ! $
         -- context: [the token of n; the tag; what is shown; `before β t.life`]
         bor_new ! tt β $ bor_fracture ! tt (λ r. flft (n ∷ []) r) e $ move ! (3 ∷ 4 ∷ 0 ∷ []) $
@@ -194,7 +194,7 @@ module _ {M : Type 1} {𝓤 : Ura M} (𝓛 : Logic 𝓤) where
 
     -- ---- in the way `fixes` a reader that shows the value also keeps its permit
     reader_cut : RowLaws R → (b o : ℕ) (t : Id) (way : Way R.Denot) → Fixes way → (x : R.Denot)
-        → ‵ (reader R b o t way x) ⊩ ‵ (reader R b o t way x) ⊛ ‵ (reader R b o t way x)
+        → ‵ (reader_owns R b o t way x) ⊩ ‵ (reader_owns R b o t way x) ⊛ ‵ (reader_owns R b o t way x)
     reader_cut L b o t (fixes fact) fixed x =
         let way : Way R.Denot = fixes fact in let V' : Lft → Fml = shown R b o x in let Rd : ℕ → Fml = λ n. fsep (piece R way t.round (n, x)) (V' (n ∷ t.life)) in
         script ∵ fpick ! (λ n. fsplit ! $

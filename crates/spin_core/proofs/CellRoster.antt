@@ -19,7 +19,7 @@ use types.Keyed.{entry, entries_take, entries_beside, entry_cut, entry_glue, ent
 use types.Kit.{‵, raw, ◌⊛◌, given, ◌$◌, ◌∵◌, !, qed, by, move, keep, drop, split, fpick, fpack, pick, learn, check, each, suffices, settle, done, use1, use2, rewrite, fsplit}
 use types.Kit as Kit
 use Rattle.atomic_table.specs.Seated.{halved, seen}
-use Rattle.spin_core.specs.Cell.{Stands, after}
+use Rattle.spin_core.specs.Cell.{HasView, after}
 use Rattle.spin_core.specs.CellMemory.{unused, roster, stand}
 use Rattle.spin_core.proofs.CellParts.{sum}
 use Rattle.spin_core.proofs.Signs.{signs}
@@ -88,11 +88,11 @@ module _ {M : Type 1} {𝓤 : Ura M} (𝓛 : Logic 𝓤) {V : Type 0} (cv : Code
       settled ! _ $ move ! (2 ∷ 0 ∷ []) $ Kit.join ! $ done !
 
   -- the roster and the party's view, after the party got the view `next` at its place z.0
-  abbrev pub Placed : (view : Option V) (vs : List V) → ((id : ℕ) → Stands id view vs → V) → (id : ℕ) × Stands id view vs → Kit.Item 𝓤
+  abbrev pub Placed : (view : Option V) (vs : List V) → ((id : ℕ) → HasView id view vs → V) → (id : ℕ) × HasView id view vs → Kit.Item 𝓤
   Placed view vs next z = ‵ (roster c γ 0 (after z.0 view vs (next z.0 z.1))) ⊛ ‵ (stand c γ (Some (next z.0 z.1)))
 
   -- a party has a place among the views, or takes the place after the last one; at its place it gets any view
-  pub places : (view : Option V) (vs : List V) (next : (id : ℕ) → Stands id view vs → V)
+  pub places : (view : Option V) (vs : List V) (next : (id : ℕ) → HasView id view vs → V)
       → ‵ (roster c γ 0 vs) ⊛ ‵ (stand c γ view) ⊫ Kit.some (Placed view vs next)
   places None vs next = updates ∵ renew (Kit.some (Placed None vs next)) _ (joins vs 0 (next 0 tt)) $ settled ! _ $
       having ! (Placed None vs next) (0, tt) $ keep ! (0 ∷ 1 ∷ []) $ done !

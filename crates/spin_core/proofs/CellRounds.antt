@@ -13,7 +13,7 @@ use denote.RattleType.{RattleType}
 use denote.Memory.{part_at, mem}
 use denote.Shares.{Shares, settles}
 use Rattle.spin_core.specs.Cell.{Use, writes, Way, lends, fixes, Fixed}
-use Rattle.spin_core.specs.CellMemory.{Id, idle, round_code, share, parts, remains, resting, lying, state, offset, shown, named, tracked, waits, shared, right}
+use Rattle.spin_core.specs.CellMemory.{Id, idle, round_code, share, parts, remains, resting_value, lying, value_state, offset, shown, named, tracked, waits_for, shared, right}
 use Rattle.spin_core.proofs.CellParts.{parts_in, parts_but, piece_in, renames}
 use Rattle.spin_core.proofs.Signs.{signs}
 use Rattle.spin_core.proofs.Lemmas.{script, lemma, cite, updates, renew, settled}
@@ -44,7 +44,7 @@ module _ {M : Type 1} {𝓤 : Ura M} (𝓛 : Logic 𝓤) (R : RattleType) (b o :
   begins l shares x μ s τ r i j = let e : ℕ = o + offset R in script ∵ updating ! $ fsplit ! $ lft_new ! tt (λ a.
       let ts : Toks = (a ∷ [], full_share) ∷ (μ, s) ∷ (τ, r) ∷ [] in let more : Lft = μ ++ τ in
       let sp : Incl (span ts) (a ∷ α) = ⊑_meet (a ∷ more) (a ∷ []) α (meet_⊑_left (a ∷ []) more) (Incl-trans (meet_⊑_right (a ∷ []) more) (Incl-trans (meet_⊑_left μ τ) i)) in
-      move ! (2 ∷ []) $ use1 𝓛 (later (‵ (fbor (a ∷ α) (named R b o t)) ⊛ ‵ (waits R b o t a))) (𝓛.more.bor_reborrow α (a ∷ α) (named R b o t) (meet_⊑_right (a ∷ []) α)) $ await ! tt $ split ! $
+      move ! (2 ∷ []) $ use1 𝓛 (later (‵ (fbor (a ∷ α) (named R b o t)) ⊛ ‵ (waits_for R b o t a))) (𝓛.more.bor_reborrow α (a ∷ α) (named R b o t) (meet_⊑_right (a ∷ []) α)) $ await ! tt $ split ! $
       move ! (2 ∷ 4 ∷ 5 ∷ []) $ types.Kit.group ! 3 $ move ! (3 ∷ 1 ∷ 0 ∷ []) $
       use3 𝓛 (later (‵ (fobs t.value (R.coded.code x)) ⊛ ‵ (fbor (a ∷ α) (part_at R full_share x b e))
       ⊛ raw (lfts 𝓛 ts))) (settles 𝓛 (mem R) (a ∷ α) ts sp t.value x b e) $ await ! tt $ split3 ! $
@@ -67,19 +67,19 @@ module _ {M : Type 1} {𝓤 : Ura M} (𝓛 : Logic 𝓤) (R : RattleType) (b o :
       fpack ! ℕ (λ c. fsep (share R γ (c, x) full_share) (shared R b o t (c, x))) a $ cite _ to $ done !))
 
   pub lies : (way : Way R.Denot) (φ : R.Denot → Type 0) (r : ℕ) (x : R.Denot) → φ x
-      → ‵ (resting R b o t way r x) ⊩ ‵ (state R b o t way φ r 0)
-  lies way φ r x known = script ∵ fpack ! (φ x) (λ _. resting R b o t way r x) known $
+      → ‵ (resting_value R b o t way r x) ⊩ ‵ (value_state R b o t way φ r 0)
+  lies way φ r x known = script ∵ fpack ! (φ x) (λ _. resting_value R b o t way r x) known $
       fpack ! R.Denot (lying R b o t way φ r) x $ done !
 
   -- a whole round, without one part for each of r readers, is the state of the value while these readers read
-  pub rests_lent : (r : ℕ) (x : R.Denot) → r < 2 ^ 63 → ‵ (whole x) ⊩ ‵ (resting R b o t lends r x)
+  pub rests_lent : (r : ℕ) (x : R.Denot) → r < 2 ^ 63 → ‵ (whole x) ⊩ ‵ (resting_value R b o t lends r x)
   rests_lent r x small = script ∵ fpick ! (λ a. fsplit ! $
       cite _ (parts_in 𝓛 R t.round (a, x) (2 ^ 63) full_share (Counts-all 63)) $
       cite _ (parts_but 𝓛 R t.round (a, x) r small) $
       fjoin ! $ fpack ! ℕ (λ c. fsep (parts R t.round (c, x) (2 ^ 63 - r)) (shared R b o t (c, x))) a $ done !)
 
   -- a whole round is also the state of the value with r readers in the way `fixes`
-  pub rests_fixed : (fact : Bool → R.Denot → Type 0) (r : ℕ) (x : R.Denot) → Fixed (fixes fact) r 0 x → ‵ (whole x) ⊩ ‵ (resting R b o t (fixes fact) r x)
+  pub rests_fixed : (fact : Bool → R.Denot → Type 0) (r : ℕ) (x : R.Denot) → Fixed (fixes fact) r 0 x → ‵ (whole x) ⊩ ‵ (resting_value R b o t (fixes fact) r x)
   rests_fixed fact zero x known = script ∵ fpick ! (λ a. fsplit ! $ fpack ! (fact false x) (λ _. share R t.round (a, x) full_share) known $
       fjoin ! $ fpack ! ℕ (λ c. fsep (remains R fact t.round (c, x) zero) (shared R b o t (c, x))) a $ done !)
   rests_fixed fact (suc r) x known = script ∵ fpick ! (λ a. fsplit ! $ cite _ (piece_in 𝓛 R t.round (fixes fact) (a, x) full_share known) $

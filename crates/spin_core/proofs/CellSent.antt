@@ -13,7 +13,7 @@ use denote.Param.Send.{IsSend, IsSync, part_keyless, whole-keyless}
 use Rattle.core.proofs.atomic.Sent.{chain-Keyless}
 use Rattle.atomic_table.specs.Seated.{halved}
 use Rattle.spin_core.specs.Cell.{Use, off, reads, writes, Way, alone, lends, fixes, Ways, use_of, IsShared}
-use Rattle.spin_core.specs.CellMemory.{offset, second_at, Common, Sends, Known, Id, Round, roster, remains, named, resting, state, right, stand, core, kept, cell_shares, permit_owns, permit_shares, reader_shares, writer_owns, writer_shares}
+use Rattle.spin_core.specs.CellMemory.{offset, second_at, Common, Sends, Known, Id, Round, roster, remains, named, resting_value, value_state, right, stand, core, kept, cell_shares, permit_owns, permit_shares, reader_shares, writer_owns, writer_shares}
 
 roster_keyless : {V : Type 0} (c : V → Gv) (ρ k : ℕ) (vs : List V) → Keyless (roster c ρ k vs)
 roster_keyless c ρ k [] = λ g. entries_keyless halved ρ k (λ _. (full_share, g))
@@ -31,12 +31,12 @@ module _ (R : RattleType) (s : IsSend R) (b o : ℕ) (t : Id) where
   remains_keyless fact s zero = λ known. (tt, tt)
   remains_keyless fact s (suc r) = λ e known. (tt, tt)
 
-  resting_keyless : (way : Way R.Denot) → (IsShared way → Common R) → (r : ℕ) (x : R.Denot) → Keyless (resting R b o t way r x)
+  resting_keyless : (way : Way R.Denot) → (IsShared way → Common R) → (r : ℕ) (x : R.Denot) → Keyless (resting_value R b o t way r x)
   resting_keyless alone sees r x = (tt, named_keyless)
   resting_keyless lends sees r x = λ a. ((λ e n. (tt, tt)), (tt, (sees tt x b (o + offset R) (a ∷ t.life), named_keyless)))
   resting_keyless (fixes fact) sees r x = λ a. (remains_keyless fact (a, x) r, (tt, (sees tt x b (o + offset R) (a ∷ t.life), named_keyless)))
 
-  state_keyless : (way : Way R.Denot) (φ : R.Denot → Type 0) → (IsShared way → Common R) → (r w : ℕ) → Keyless (state R b o t way φ r w)
+  state_keyless : (way : Way R.Denot) (φ : R.Denot → Type 0) → (IsShared way → Common R) → (r w : ℕ) → Keyless (value_state R b o t way φ r w)
   state_keyless way φ sees r zero = λ x known. resting_keyless way sees r x
   state_keyless alone φ sees r (suc w) = tt
   state_keyless _ φ sees r (suc w) = λ g. tt

@@ -23,8 +23,8 @@ use Rattle.atomic_table.specs.Seated.{fact}
 use Rattle.spin_core.specs.Logs.{log_owns, known_owns}
 use Rattle.spin_core.specs.contracts.trace.Trace as trace
 use Rattle.spin_core.specs.declared.trace.Trace.{Trace}
-use Rattle.spin_core.specs.Cell.{words, Ways, use_of, readers_of, writers_of, Meets, Stands, after, Going, IsKnown, Carries, Carrying, Keeps, Use, off, Way, reading, writing, Limits}
-use Rattle.spin_core.specs.CellMemory.{second_at, roster, Id, state, stand, core, core_at, standing, inner}
+use Rattle.spin_core.specs.Cell.{word_limit, Ways, use_of, readers_of, writers_of, MeetsRule, HasView, after, Going, IsKnown, Carries, Carrying, Keeps, Use, off, Way, reading, writing, Limits}
+use Rattle.spin_core.specs.CellMemory.{second_at, roster, Id, value_state, stand, core, core_at, standing, inner}
 use Rattle.spin_core.specs.Traced.{grown, grown_at, Learnt, Named, Traces, TracesSecond}
 use Rattle.spin_core.proofs.CellCounts.{part_of as counted, splits}
 use Rattle.spin_core.proofs.CellRoster.{places}
@@ -88,7 +88,7 @@ module _ {M : Type 1} {𝓤 : Ura M} (𝓛 : Logic 𝓤) (Er Ur : RattleType) wh
     Held w = held 𝓛 R b o t w way
 
     abbrev St : (R.Denot → Type 0) → ℕ → ℕ → Fml
-    St = state R b o t way
+    St = value_state R b o t way
 
     abbrev Stand : Option V → Fml
     Stand = stand cv.code t.views
@@ -135,17 +135,17 @@ module _ {M : Type 1} {𝓤 : Ura M} (𝓛 : Logic 𝓤) (Er Ur : RattleType) wh
 
     -- what a step must show, if it leads from m to the words s and the views us while r parties read
     abbrev Owed : ℕ → Trace E U → ℕ × Trace E U → List V → V → Type 0
-    Owed r m s us w = Going way u (f w) v r (Carrying ways.2 m s.1 u (f w) v (Meets holds ways s.0 s.1 us))
+    Owed r m s us w = Going way u (f w) v r (Carrying ways.2 m s.1 u (f w) v (MeetsRule holds ways s.0 s.1 us))
 
     module _ (id : ℕ) (vs : List V) (m : Trace E U) (s : ℕ × Trace E U) (w : V) (owed : Owed (readers_of f vs) m s (after id view vs w) w) where
       abbrev us : List V
       us = after id view vs w
 
-      carrying : Carrying ways.2 m s.1 u (f w) v (Meets holds ways s.0 s.1 us)
+      carrying : Carrying ways.2 m s.1 u (f w) v (MeetsRule holds ways s.0 s.1 us)
       carrying = going_rest way u (f w) v (readers_of f vs) owed
 
       -- the state of the value changes with the views
-      shifts : Stands id view vs → Limits way (readers_of f vs) (writers_of f vs) → ‵ (states m vs) ⊛ ‵ (Held u v) ⊫ ‵ (states s.1 us) ⊛ ‵ (Got s.1 w)
+      shifts : HasView id view vs → Limits way (readers_of f vs) (writers_of f vs) → ‵ (states m vs) ⊛ ‵ (Held u v) ⊫ ‵ (states s.1 us) ⊛ ‵ (Got s.1 w)
       shifts h lim =
           let r = splits (λ y. reading (f y)) id view vs h in let q = splits (λ y. writing (f y)) id view vs h in
           let was_r : readers_of f vs ≡ value.with_reader u r.0 = omega (arith, r.1, use_part reading refl view, value.one_reader u r.0) in
@@ -155,19 +155,19 @@ module _ {M : Type 1} {𝓤 : Ura M} (𝓛 : Logic 𝓤) (Er Ur : RattleType) wh
           let Turns : (ℕ × ℕ) × (ℕ × ℕ) → Type 1 = λ z. Limits way z.0.0 z.0.1 → Going way u (f w) v z.0.0 (Limits way z.1.0 z.1.1)
           → Carries (know m) (know s.1) u (f w) v
           → ‵ (St (know m) z.0.0 z.0.1) ⊛ ‵ (Held u v) ⊫ ‵ (St (know s.1) z.1.0 z.1.1) ⊛ ‵ (Got s.1 w) in
-          let limits_of : Carrying ways.2 m s.1 u (f w) v (Meets holds ways s.0 s.1 us) → Limits way (readers_of f us) (writers_of f us) =
+          let limits_of : Carrying ways.2 m s.1 u (f w) v (MeetsRule holds ways s.0 s.1 us) → Limits way (readers_of f us) (writers_of f us) =
           λ rest. (carrying_rest ways.2 m s.1 u (f w) v rest).1 in
           subst Turns (λ i. ((sym was_r i, sym was_w i), (sym now_r i, sym now_w i)))
           (value.turns 𝓛 R L b o t (know m) (know s.1) way r.0 q.0 u (f w) v) lim
           (going_map way u (f w) v (readers_of f vs) limits_of owed)
-          (carrying_carries ways.2 m s.1 u (f w) v (Meets holds ways s.0 s.1 us) carrying)
+          (carrying_carries ways.2 m s.1 u (f w) v (MeetsRule holds ways s.0 s.1 us) carrying)
 
       -- the rule holds again, and the party has its new view and its part of the value
       leads : (then : ℕ → V → Type 0) (k : ℕ) → then k w → ‵ (roster cv.code t.views 0 us) ⊛ ‵ (Stand (Some w))
           ⊛ ‵ (states s.1 us) ⊛ ‵ (Got s.1 w) ⊩ ‵ (Core s) ⊛ ‵ (moved (finding s.1.entries then k))
       leads then k so = let tells : V → Option R.Denot → Type 0 = finding s.1.entries then k in script ∵
           move ! (3 ∷ []) $ fpick ! (λ v'. fsplit ! $ fpick ! (λ kept. drop ! $ move ! (2 ∷ 0 ∷ []) $ fjoin ! $ knows ! (tells w v' × Keeps ways view (Some w) v v') ((so, learnt_of ways.2 s.1 u (f w) v v' kept.1), kept.0) $ fjoin ! $
-          fpack ! (V × Option R.Denot) (left_to tells) (w, v') $ move ! (2 ∷ []) $ knows ! (Meets holds ways s.0 s.1 us) (carrying_rest ways.2 m s.1 u (f w) v carrying) $ fjoin ! $ move ! (2 ∷ 0 ∷ []) $ fjoin ! $
+          fpack ! (V × Option R.Denot) (left_to tells) (w, v') $ move ! (2 ∷ []) $ knows ! (MeetsRule holds ways s.0 s.1 us) (carrying_rest ways.2 m s.1 u (f w) v carrying) $ fjoin ! $ move ! (2 ∷ 0 ∷ []) $ fjoin ! $
           fpack ! (List V) (core_at R b o t cv.code S holds ways s.0 s.1) us $ done !))
 
     -- the watch is a watch of the cell's trace, or knows nothing
@@ -186,7 +186,7 @@ module _ {M : Type 1} {𝓤 : Ura M} (𝓛 : Logic 𝓤) (Er Ur : RattleType) wh
       -- The ghost part of a step that finds the number `found`, after its new words are in memory. The step changes the
       -- first word from n₀ to n, and m's word to y.
       pub grows : (γ : ℕ) (k : List E) → May γ k → (n₀ n : ℕ) (m : Trace E U) (y : U) (found : ℕ)
-          → ((id : ℕ) (vs : List V) → Meets holds ways n₀ m vs → Stands id view vs → (w : V) × (es : List E)
+          → ((id : ℕ) (vs : List V) → MeetsRule holds ways n₀ m vs → HasView id view vs → (w : V) × (es : List E)
           × Owed (readers_of f vs) m (n, grown_at m y es) (after id view vs w) w × told m.entries es found w)
           → ‵ (word b (o + 0) n) ⊛ ‵ (Traced (beside m y)) ⊛ ‵ (Core (n₀, m)) ⊛ ‵ Mine ⊛ ‵ (Known γ k) ⊫ ‵ I ⊛ ‵ (watched γ k found)
       grows γ k may n₀ n m y found law = let m' : Trace E U = beside m y in let To : Item 𝓤 = ‵ I ⊛ ‵ (watched γ k found) in updates ∵
@@ -207,7 +207,7 @@ module _ {M : Type 1} {𝓤 : Ura M} (𝓛 : Logic 𝓤) (Er Ur : RattleType) wh
 
       -- a step finds the word n, and puts `to n` in its place
       pub answers : (e : ℕ) (to : ℕ → ℕ) (q : Share) (left : ℕ → Fml) (n : ℕ) (k : Item 𝓤)
-          → (n < words → ‵ (word b e (to n)) ⊛ k ⊫ ‵ I ⊛ ‵ (left n))
+          → (n < word_limit → ‵ (word b e (to n)) ⊛ k ⊫ ‵ I ⊛ ‵ (left n))
           → ‵ (word b e n) ⊛ k ⊩ raw (ex 𝓤 (Lies 𝓛 t.life q I b e to always left))
       answers e to q left n k go = lemma (qed 𝓛 (‵ (word b e n) ∷ k ∷ []) ∵
           use1 𝓛 (given (T (has_ty (ty_int w64) (vint w64 n)) × WT (vint w64 n)) (‵ (word b e n))) (𝓛.laws.at_wt full_share (ty_int w64) b e (vint w64 n)) $

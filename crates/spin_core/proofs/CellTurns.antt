@@ -14,7 +14,7 @@ use denote.SharingLaws.{contraction}
 use denote.Steps.{nothing}
 use Rattle.atomic_table.specs.Seated.{fact}
 use Rattle.spin_core.specs.Cell.{Going, Preserves, Finds, Carries, Learns, Use, off, reads, writes, Way, alone, lends, fixes, reading, writing, Limits}
-use Rattle.spin_core.specs.CellMemory.{Id, Round, round_code, tag, parts, Part, piece, remains, idle, offset, shown, shared, resting, state, reader}
+use Rattle.spin_core.specs.CellMemory.{Id, Round, round_code, tag, parts, Part, piece, remains, idle, offset, shown, shared, resting_value, value_state, reader_owns}
 use Rattle.spin_core.proofs.CellWays.{going_rest}
 use Rattle.spin_core.proofs.CellParts.{parts_cut, parts_glue, parts_whole, some_agree, piece_cut}
 use Rattle.spin_core.proofs.CellRounds.{begun, held, whole, renewed, lies, rests_lent, rests_fixed}
@@ -81,10 +81,10 @@ module _ {M : Type 1} {𝓤 : Ura M} (𝓛 : Logic 𝓤) (R : RattleType) (L : R
   Held = held 𝓛 R b o t
 
   abbrev St : Way X → (X → Type 0) → ℕ → ℕ → Fml
-  St = state R b o t
+  St = value_state R b o t
 
   abbrev Rest : Way X → ℕ → X → Fml
-  Rest = resting R b o t
+  Rest = resting_value R b o t
 
   -- a party that uses the value is shown a value: it never has `ffalse`
   never : (P : Fml) (k : Item 𝓤) → ‵ P ⊛ ‵ ffalse ⊫ k
@@ -164,7 +164,7 @@ module _ {M : Type 1} {𝓤 : Ura M} (𝓛 : Logic 𝓤) (R : RattleType) (L : R
     -- a reader takes its piece of a round, and the state keeps the rest
     taken : (way : Way X) (r : ℕ) (Rem : Round R → Fml) (x : X) (a : ℕ) → ψ x
         → ‵ (fex ℕ (λ e. fsep (Rem (e, x)) (shared R b o t (e, x)))) ⊩ ‵ (Rest way (suc r) x)
-        → ‵ (piece R way γ (a, x)) ⊛ ‵ (Rem (a, x)) ⊛ ‵ (shared R b o t (a, x)) ⊩ ‵ (St way ψ (suc r) 0) ⊛ ‵ (reader R b o t way x)
+        → ‵ (piece R way γ (a, x)) ⊛ ‵ (Rem (a, x)) ⊛ ‵ (shared R b o t (a, x)) ⊩ ‵ (St way ψ (suc r) 0) ⊛ ‵ (reader_owns R b o t way x)
     taken way r Rem x a known rests = let Lent : ℕ → Fml = λ e. fsep (Rem (e, x)) (shared R b o t (e, x)) in
         let V : Lft → Fml = shown R b o x in script ∵ move ! (2 ∷ []) $ fsplit3 ! $ move ! (1 ∷ []) $
         twice ! (contraction 𝓛 V (L x b (o + offset R)) (a ∷ t.life)) $ move ! (4 ∷ 0 ∷ []) $ fjoin ! $

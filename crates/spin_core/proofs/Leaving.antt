@@ -8,7 +8,7 @@ use Rattle.spin_step.specs.Tickets.{numbered_from}
 use Rattle.spin_step.proofs.Exclusive.{exclusive-like}
 use Rattle.spin_step.proofs.Sums.{sum_kinds}
 use Rattle.spin_core.specs.Cell.{Use, off, Rests}
-use Rattle.spin_core.specs.Views.{Part, entries_of, Knows, part_at, IsLockOf, Encodes, no_word, up, holder_up, ticket_up, moved_up, NamesNobody}
+use Rattle.spin_core.specs.Views.{Part, entries_of_part, KnowsServed, part_at, IsLockOf, Encodes, no_word, up, holder_up, ticket_up, moved_up, NamesNobody}
 use Rattle.spin_core.proofs.Runs.{get_seam}
 use Rattle.spin_core.proofs.Views.{part-there}
 use Rattle.spin_step.specs.Orders.{IsInOrder}
@@ -41,7 +41,7 @@ entries-up k q s none =
     let ts = renames (λ t. t.party) (ticket_up k) k q (λ t. refl) s.tickets (ap (λ e. e.tickets) none) in
     let qs = renames (λ p. p) (up k) k q (λ p. refl) s.starvers (ap (λ e. e.starvers) none) in rw (hs, ts, qs)
 
-part-up : (k p : ℕ) (x : Part) → entries_up k (entries_of p x) ≡ entries_of (up k p) x
+part-up : (k p : ℕ) (x : Part) → entries_up k (entries_of_part p x) ≡ entries_of_part (up k p) x
 part-up k p x = grind arith
 
 -- Moving up changes only the names.
@@ -80,7 +80,7 @@ in_order-up k s order = record {
   starvers_fit = omega (arith, length-map s.starvers (up k), order.starvers_fit);
 }
 
-knows-up : (k : ℕ) (s : Plain) (x : Part) → Knows s x → Knows (moved_up k s) x
+knows-up : (k : ℕ) (s : Plain) (x : Part) → KnowsServed s x → KnowsServed (moved_up k s) x
 knows-up k s x known = grind (arith, serving_word-up k s)
 
 module _ {V : Type 0} (part : V → Part) (v : V) where
@@ -90,7 +90,7 @@ module _ {V : Type 0} (part : V → Part) (v : V) where
 
   module _ {S : Type 0} (uses : V → Use) (cap : ℕ) (first : Plain → ℕ) (second : Plain → S) (same_first : NamesNobody first) (same_second : NamesNobody second) where
     -- a party that has nothing, and does not use the value, may leave
-    pub leaves : uses v ≡ off → ((p : ℕ) → entries_of p (part v) ≡ no_entries) → Rests (Encodes part cap first second) uses (Some v)
+    pub leaves : uses v ≡ off → ((p : ℕ) → entries_of_part p (part v) ≡ no_entries) → Rests (Encodes part cap first second) uses (Some v)
     leaves unused nothing = (
       unused,
       λ n m before behind (s, room, order, is, n_is, m_is).

@@ -6,7 +6,7 @@ use Rattle.spin_step.specs.Plain.{Plain, writing as writer, Holder, Ticket, same
 use Rattle.spin_step.specs.Parties.{none_entered, first_alone_entered, IsExclusive, OneHolds}
 use Rattle.spin_step.specs.Steps.{bit}
 use Rattle.spin_core.specs.Cell.{Way, alone, lends, most_readers, reading, writing, Limits, readers_of, writers_of}
-use Rattle.spin_core.specs.Views.{Part, idle, entries_of, used_by, part_at, IsLockOf}
+use Rattle.spin_core.specs.Views.{Part, idle, entries_of_part, used_by, part_at, IsLockOf}
 use Rattle.spin_step.specs.Orders.{IsInOrder}
 use Rattle.spin_core.proofs.CellCounts.{none}
 use Rattle.spin_core.proofs.Views.{part-beyond}
@@ -91,7 +91,7 @@ module _ {V : Type 0} (part : V → Part) where
   written v = writing (used_by part v)
 
   abbrev IsWriters : V → Type 0
-  IsWriters v = (p : ℕ) → written v ≡ count_kind writer (entries_of p (part v)).holders
+  IsWriters v = (p : ℕ) → written v ≡ count_kind writer (entries_of_part p (part v)).holders
 
   -- nobody reads, and each writer is a holder
   abbrev pub OfHolders : V → Type 0
@@ -99,11 +99,11 @@ module _ {V : Type 0} (part : V → Part) where
 
   -- nobody reads, and each writer has a ticket with which it entered
   abbrev pub OfTickets : V → Type 0
-  OfTickets v = (read v ≡ 0) × ((p : ℕ) → written v ≡ sum_by is_entered (entries_of p (part v)).tickets)
+  OfTickets v = (read v ≡ 0) × ((p : ℕ) → written v ≡ sum_by is_entered (entries_of_part p (part v)).tickets)
 
   -- every holder uses the value, and writes it exactly if it is a writer; nobody else uses the value
   abbrev pub OfReaders : V → Type 0
-  OfReaders v = ((p : ℕ) → read v + written v ≡ length (entries_of p (part v)).holders) × IsWriters v
+  OfReaders v = ((p : ℕ) → read v + written v ≡ length (entries_of_part p (part v)).holders) × IsWriters v
 
   -- in each plain lock with this cap, its parties keep these limits
   abbrev Within : Way (Unit {0}) → ℕ → Type 0
@@ -113,7 +113,7 @@ module _ {V : Type 0} (part : V → Part) where
   -- if each party that writes is a holder of the kind `writing`, there are at most as many such parties as such holders
   writers_hold : ((v : V) → IsWriters v) → (vs : List V) (s : Plain) → IsLockOf part vs s → writers_of (used_by part) vs ≤ count_kind writer s.holders
   writers_hold kind vs s is =
-      within (λ h. h.party) one_writes part written (λ p x. count_kind writer (entries_of p x).holders)
+      within (λ h. h.party) one_writes part written (λ p x. count_kind writer (entries_of_part p x).holders)
       (λ p v. kind v p) vs s.holders (λ p. ap (λ e. count_kind writer e.holders) (is p).0)
 
   pub one_holder : ((v : V) → OfHolders v) → (cap : ℕ) → Within alone cap
@@ -121,7 +121,7 @@ module _ {V : Type 0} (part : V → Part) where
 
   pub one_ticket : ((v : V) → OfTickets v) → (cap : ℕ) → Within alone cap
   one_ticket kind cap vs s room order is =
-      let few = within (λ t. t.party) is_entered part written (λ p x. sum_by is_entered (entries_of p x).tickets) (λ p v. (kind v).1 p) vs s.tickets
+      let few = within (λ t. t.party) is_entered part written (λ p x. sum_by is_entered (entries_of_part p x).tickets) (λ p v. (kind v).1 p) vs s.tickets
       (λ p. ap (λ e. sum_by is_entered e.tickets) (is p).0) in
       omega (arith, none read (λ v. (kind v).0) vs, one_entered s.tickets order.exclusive.one_entered)
 
@@ -132,30 +132,30 @@ module _ {V : Type 0} (part : V → Part) where
   -- the value has several readers, at most as many as the cap says, or one writer
   pub readers_or_writer : ((v : V) → OfReaders v) → (cap : ℕ) → 1 ≤ cap → cap ≤ most_readers → Within lends cap
   readers_or_writer kind cap least most vs s room order is =
-      let all = within (λ h. h.party) (λ h. 1) part (λ v. read v + written v) (λ p x. length (entries_of p x).holders) (λ p v. (kind v).0 p) vs s.holders
+      let all = within (λ h. h.party) (λ h. 1) part (λ v. read v + written v) (λ p x. length (entries_of_part p x).holders) (λ p v. (kind v).0 p) vs s.holders
       (λ p. ones (filter (λ h. h.party == p) s.holders) ∙ ap (λ e. length e.holders) (is p).0) in
       let some = writers_hold (λ v. (kind v).1) vs s is in
       grind (arith, both vs, ones s.holders, one_writer s order.exclusive, order.exclusive.writer, order.holders_fit)
 
   -- a party with this part does not hold the lock, or holds it to write
   abbrev pub Writes : Part → Type 0
-  Writes x = (p : ℕ) → count_kind writer (entries_of p x).holders ≡ length (entries_of p x).holders
+  Writes x = (p : ℕ) → count_kind writer (entries_of_part p x).holders ≡ length (entries_of_part p x).holders
 
-  as_many : (p : ℕ) (x : Part) → length (entries_of 0 x).holders ≡ length (entries_of p x).holders
+  as_many : (p : ℕ) (x : Part) → length (entries_of_part 0 x).holders ≡ length (entries_of_part p x).holders
   as_many p x = grind arith
 
   -- how many of the lock's holders a party is
   abbrev has : V → ℕ
-  has v = length (entries_of 0 (part v)).holders
+  has v = length (entries_of_part 0 (part v)).holders
 
   holds_all : (vs : List V) (s : Plain) → IsLockOf part vs s → sum_by has vs ≡ length s.holders
-  holds_all vs s is = exactly (λ h. h.party) (λ h. 1) part has (λ p x. length (entries_of p x).holders) (λ p v. as_many p (part v)) vs s.holders
+  holds_all vs s is = exactly (λ h. h.party) (λ h. 1) part has (λ p x. length (entries_of_part p x).holders) (λ p v. as_many p (part v)) vs s.holders
       (λ p. ones (filter (λ h. h.party == p) s.holders) ∙ ap (λ e. length e.holders) (is p).0) (λ p. refl) ∙ ones s.holders
 
   -- if parties hold the lock only to write, and the lock is in order (`IsInOrder`), it has at most one holder
   pub one_holds : ((v : V) → Writes (part v)) → (vs : List V) (s : Plain) → IsInOrder s → IsLockOf part vs s → OneHolds s
   one_holds each vs s order is =
-      let write = exactly (λ h. h.party) one_writes part has (λ p x. count_kind writer (entries_of p x).holders)
+      let write = exactly (λ h. h.party) one_writes part has (λ p x. count_kind writer (entries_of_part p x).holders)
       (λ p v. as_many p (part v) ∙ sym (each v p)) vs s.holders
       (λ p. ap (λ e. count_kind writer e.holders) (is p).0) (λ p. refl) in
       omega (arith, holds_all vs s is, write, one_writer s order.exclusive)

@@ -5,7 +5,7 @@ use Rattle.std.proofs.lemmas.Option.{IfSome_then}
 use Rattle.std.proofs.lemmas.List.{length-append, length-map, map-append, drop-append-le}
 use Rattle.std.proofs.lemmas.List.Elements.{filter-append}
 use Rattle.std.proofs.Math.Seq.{drop-length, set-append_seam}
-use Rattle.spin_core.specs.Cell.{Stands, after as views_after}
+use Rattle.spin_core.specs.Cell.{HasView, after as views_after}
 use Rattle.spin_step.specs.declared.place.Seat.{Seat}
 use Rattle.spin_step.specs.declared.place.Seat.TheVariants.{Idle}
 use Rattle.spin_step.specs.declared.schedule.Move.{Move}
@@ -124,7 +124,7 @@ module _ {W V C L A X S : Type 0} (m : Machine W V C L A) (seat_of : X → Seat 
         let e = length-map (map kind came) sits in (came, w, value, is, s_is, (λ more. rw (← e) (leads more).0), (λ more. rw (← e) (leads more).1), rested, so)
 
     -- the party with this view has its old place among all who came, or a new place behind them
-    placed : (id : ℕ) (view : Option (Numbered X)) → Run log s vs → Stands id view vs
+    placed : (id : ℕ) (view : Option (Numbered X)) → Run log s vs → HasView id view vs
         → (front : Came X) × (o : Option (X × ℕ)) × (back : Came X) × Ran log s (front ++ o ∷ back)
         × (kind o ≡ what view) × MadeNone log (length front) view
         × ((u : X) (mark : ℕ) → views_after id view vs (u, length front, mark) ≡ present_from 0 (front ++ Some (u, mark) ∷ back))
@@ -150,7 +150,7 @@ module _ {W V C L A X S : Type 0} (m : Machine W V C L A) (seat_of : X → Seat 
   -- the result of a step that turns the view `view` of a party into u
   pub step : (view : Option (Numbered X)) (g : OnWord S) (tells : ℕ → X → Type 0) (says : Says V C A X)
       → run.AreMoves m seat_of words_of (what view) g tells says
-      → (id : ℕ) (s : ℕ × S) (log : Schedule) (vs : List (Numbered X)) → Run log s vs → Stands id view vs → (u : X) → tells (g.1 s) u
+      → (id : ℕ) (s : ℕ × S) (log : Schedule) (vs : List (Numbered X)) → Run log s vs → HasView id view vs → (u : X) → tells (g.1 s) u
       → (p : ℕ) × (own : List (Move C V)) × (outs : List (Outcome A V)) × (let es = by_party p own in
       Run (log ++ es) (g.0 s) (views_after id view vs (u, p, length (log ++ es)))
       × MadeNone log p view × run.AreOwn m own outs log es × says own outs (g.1 s) u)

@@ -13,9 +13,9 @@ use Rattle.spin_step.specs.Machines.{Machine}
 use Rattle.spin_step.specs.Schedules.{State, Entry, after, at_first, happens}
 use Rattle.spin_core.specs.declared.trace.Watch.{Watch}
 use Rattle.spin_step.specs.declared.place.Seat.{Seat}
-use Rattle.spin_core.specs.Run.{outcomes}
+use Rattle.spin_core.specs.Run.{outcomes_of}
 use Rattle.spin_core.specs.Own.{Numbered, MayBe, what, by_party, entries_by, Tells}
-use Rattle.spin_core.specs.Passes.{mark_of, IsNumber, Course, Waits, Ends, Begins, IsCall, Says, IsStep, outcomes_by, Did, Made}
+use Rattle.spin_core.specs.Passes.{own_mark, HasNumber, Course, Waits, Ends, Begins, IsCall, Says, IsOneStep, outcomes_by, Did, Made}
 use Rattle.spin_core.specs.Cell.{Ways, Moved}
 use Rattle.spin_core.specs.Traced.{Watches, Named}
 use Rattle.spin_core.specs.declared.trace.Trace.{Trace}
@@ -27,7 +27,7 @@ both_empty [] ys none = (refl, none)
 both_empty (x ∷ xs) ys none = absurd (cc none)
 
 -- a party with a view has one number
-pub one_number : {X : Type 0} (p q : ℕ) (view : Option (Numbered X)) → IsNumber p view → MayBe q view → q ≡ p
+pub one_number : {X : Type 0} (p q : ℕ) (view : Option (Numbered X)) → HasNumber p view → MayBe q view → q ≡ p
 one_number p q None is may = absurd is
 one_number p q (Some u) is may = may ∙ sym is
 
@@ -48,7 +48,7 @@ module _ {W V C L A : Type 0} (m : Machine W V C L A) where
   by-others p [] none s = refl
   by-others p (x ∷ xs) none s = grind (arith, by-others p xs)
 
-  by-own : (p : ℕ) (s : State W V C L) (own : List (Move C V)) → outcomes_by m p s (by_party p own) ≡ outcomes m s (by_party p own)
+  by-own : (p : ℕ) (s : State W V C L) (own : List (Move C V)) → outcomes_by m p s (by_party p own) ≡ outcomes_of m s (by_party p own)
   by-own p s [] = refl
   by-own p s (move ∷ own) = rw (eq-eqb p p refl, by-own p (happens m s p move).next own)
 
@@ -84,23 +84,23 @@ may_know holds ways name says known same n t vs meets = says n t vs meets.0 ∙ 
 -- view; that it now knows all entries up to this step; and that its watch keeps the name.
 pub record Learnt {W V C L A X : Type 0} (m : Machine W V C L A) (view view' : Option (Numbered X)) (before now : Watch (Entry C V)) (to : X) (course : Course V C A) : Type 0 where
   pub made : Made m view before.entries view' now.entries course
-  pub knows : mark_of view' ≡ length now.entries
+  pub knows : own_mark view' ≡ length now.entries
   pub is : what view' ≡ Some to
   pub named : now.name ≡ before.name
 
 module _ {W V C L A X S : Type 0} (m : Machine W V C L A) (seat_of : X → Seat C L) (words_of : W → ℕ × S) where
   pub learnt : (says : Says V C A X) (to : ℕ → X) (course : ℕ → Course V C A) → ((own : List (Move C V)) (outs : List (Outcome A V)) (n : ℕ) (v : X) → says own outs n v → (v ≡ to n) × course n own outs)
-      → (named : Type 0) → named → (view view' : Option (Numbered X)) (before now : Watch (Entry C V)) (found : ℕ) → mark_of view ≤ length before.entries
+      → (named : Type 0) → named → (view view' : Option (Numbered X)) (before now : Watch (Entry C V)) (found : ℕ) → own_mark view ≤ length before.entries
       → Moved (Watches named before now (Tells m seat_of words_of says view) found) view' → Learnt m view view' before now (to found) (course found)
   learnt says to course means named is_named view None before now found knew moved = absurd moved
   learnt says to course means named is_named view (Some v) before now found knew (same, (log, es, known, is, (own, outs, es_is, mark, none, mine, said))) =
       let p : ℕ = v.1 in let old : List (Entry C V) = before.entries in let (between, here) = known in
       let steps : List (Entry C V) = by_party p own in let whole = append_assoc old between steps in
       -- the party has made no entry after its last step, neither in `old` nor since it knew `old`
-      let mine_before : List (Entry C V) = entries_by p (drop (mark_of view) old) in
-      let since : entries_by p (drop (mark_of view) (old ++ between)) ≡ [] = rw (here) none.1 in
+      let mine_before : List (Entry C V) = entries_by p (drop (own_mark view) old) in
+      let since : entries_by p (drop (own_mark view) (old ++ between)) ≡ [] = rw (here) none.1 in
       let (none_before, apart) = both_empty mine_before (entries_by p between)
-      (rw (← filter-append, ← drop-append-le (mark_of view) old between knew) since) in
+      (rw (← filter-append, ← drop-append-le (own_mark view) old between knew) since) in
       let came : (k : ℕ) → outcomes_by m p (after m (at_first m (mine.1 + k)) old) (between ++ steps) ≡ outs = λ k.
       let start : State W V C L = at_first m (mine.1 + k) in
       came_both m p start old between steps [] outs (by-others m p between apart (after m start old))
@@ -133,7 +133,7 @@ module _ {V C A : Type 0} where
   begun c P Q R joins own own' outs outs' (rest, comes, is, are, so) so' = (rest ++ own', comes ++ outs', ap (λ l. l ++ own') is, ap (λ l. l ++ outs') are, joins rest own' comes outs' so so')
 
   -- a step that begins a call and answers it is the whole call
-  pub whole : (c : C) (a : A) (own : List (Move C V)) (outs : List (Outcome A V)) → IsStep false c (Answered a None) own outs → IsCall c a own outs
+  pub whole : (c : C) (a : A) (own : List (Move C V)) (outs : List (Outcome A V)) → IsOneStep false c (Answered a None) own outs → IsCall c a own outs
   whole c a own outs s = (Step ∷ [], Answered a None ∷ [], s.0, s.1, (0, refl, refl))
 
 -- a course that implies another

@@ -2,8 +2,8 @@
 use Rattle.std.proofs.Common.{◌≡◌, ℕ, ◌≤◌, List, [], Some, None, refl, ap}
 use Rattle.spin_step.specs.Plain.{Plain, fresh, ticket_limit}
 use Rattle.spin_step.specs.Parties.{no_entries}
-use Rattle.spin_core.specs.Cell.{Use, Way, Ways, no_fact, Limits, Going, Meets, Rests, readers_of, writers_of, off}
-use Rattle.spin_core.specs.Views.{Part, idle as nothing, entries_of, IsLockOf, Encodes, NamesNobody}
+use Rattle.spin_core.specs.Cell.{Use, Way, Ways, no_fact, Limits, Going, MeetsRule, Rests, readers_of, writers_of, off}
+use Rattle.spin_core.specs.Views.{Part, idle as nothing, entries_of_part, IsLockOf, Encodes, NamesNobody}
 use Rattle.spin_step.specs.Orders.{IsInOrder}
 use Rattle.spin_core.proofs.Leaving.{leaves}
 use Rattle.spin_step.proofs.InOrder.{in_order-fresh}
@@ -33,14 +33,14 @@ module _ {V S : Type 0} (lock : Lock V S) where
   ways = (way, uses, no_fact)
 
   -- a lock that nobody has used yet
-  pub begins : (group ticket n : ℕ) (m : S) → ticket ≤ ticket_limit → n ≡ first (fresh cap group ticket) → m ≡ second (fresh cap group ticket) → Meets Holds ways n m []
+  pub begins : (group ticket n : ℕ) (m : S) → ticket ≤ ticket_limit → n ≡ first (fresh cap group ticket) → m ≡ second (fresh cap group ticket) → MeetsRule Holds ways n m []
   begins group ticket n m within e f =
       let s = fresh cap group ticket in let order = in_order-fresh cap group ticket within in let nobody : IsLockOf part [] s = λ p. (refl, tt) in
       ((s, refl, order, nobody, e, f), lock.fits [] s refl order nobody)
 
   -- a party that has nothing may leave
-  rests : (v : V) → uses v ≡ off → ((p : ℕ) → entries_of p (part v) ≡ no_entries) → Rests Holds uses (Some v)
+  rests : (v : V) → uses v ≡ off → ((p : ℕ) → entries_of_part p (part v) ≡ no_entries) → Rests Holds uses (Some v)
   rests v = leaves part v uses cap first second lock.names_nobody.0 lock.names_nobody.1
 
   pub idle_rests : (v : V) → v ≡ idle → Rests Holds uses (Some v)
-  idle_rests v is = rw is (rests idle lock.is_idle.1 (λ p. ap (entries_of p) lock.is_idle.0))
+  idle_rests v is = rw is (rests idle lock.is_idle.1 (λ p. ap (entries_of_part p) lock.is_idle.0))

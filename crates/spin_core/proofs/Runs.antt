@@ -17,7 +17,7 @@ use Rattle.spin_step.specs.declared.stepped.Next.TheVariants.{Continue, Answers}
 use Rattle.spin_step.specs.Machines.{Machine}
 use Rattle.spin_step.specs.Schedules.{State, Entry, Happened, after, at_first, happens, moves, skipped, seated, begun, goes_on, refuses, resting, placed, may_write, written_by}
 use Rattle.spin_step.proofs.Schedules.{after-append}
-use Rattle.spin_core.specs.Run.{is_of_call, outcomes, is_played, IsPlayed, AreOfCalls, AreOwn}
+use Rattle.spin_core.specs.Run.{is_of_call, outcomes_of, is_played, IsPlayed, AreOfCalls, AreOwn}
 use Rattle.spin_core.specs.Own.{by_party}
 
 pub get_seam : {X : Type 0} (xs : List X) (y : X) (ys : List X) → slice_get (xs ++ y ∷ ys) (length xs) ≡ Some y
@@ -86,9 +86,9 @@ module _ {W V C L A : Type 0} (m : Machine W V C L A) where
 
   -- so the moves of a step do among others what they do in a world of the party's own
   go_among : (z z' : Alone) (own : List (Move C V)) (outs : List (Outcome A V)) → list_all (is_of_call m) own ≡ true
-      → after m (among z [] []) (by_party 0 own) ≡ among z' [] [] → outcomes m (among z [] []) (by_party 0 own) ≡ outs
+      → after m (among z [] []) (by_party 0 own) ≡ among z' [] [] → outcomes_of m (among z [] []) (by_party 0 own) ≡ outs
       → (xs ys : Seats) → let es = by_party (length xs) own in
-      (after m (among z xs ys) es ≡ among z' xs ys) × (outcomes m (among z xs ys) es ≡ outs)
+      (after m (among z xs ys) es ≡ among z' xs ys) × (outcomes_of m (among z xs ys) es ≡ outs)
   go_among z z' [] outs all is are xs ys = (ap (λ s. world s.words s.value (xs ++ (s.seats ++ ys))) is, are)
   go_among z z' (move ∷ own) outs all is are xs ys =
       let each = and_parts _ _ all in let (o, to, alike) = moved_alike z.0 z.1 z.2 move each.0 in
@@ -103,7 +103,7 @@ module _ {W V C L A : Type 0} (m : Machine W V C L A) where
   of_calls [] p (move ∷ own) so all = let each = and_parts (is_of_call m move) (list_all (is_of_call m) own) all in rw each.0 (of_calls [] p own so each.1)
   of_calls (e ∷ es) p own so all = let each = and_parts (is_of_call m e.1) (list_all (λ x. is_of_call m x.1) es) so in rw each.0 (of_calls es p own each.1 all)
 
-  outcomes-append : (s : State W V C L) (xs ys : Schedule) → outcomes m s (xs ++ ys) ≡ outcomes m s xs ++ outcomes m (after m s xs) ys
+  outcomes-append : (s : State W V C L) (xs ys : Schedule) → outcomes_of m s (xs ++ ys) ≡ outcomes_of m s xs ++ outcomes_of m (after m s xs) ys
   outcomes-append s [] ys = refl
   outcomes-append s (x ∷ xs) ys = ap (λ l. (happens m s x.0 x.1).outcome ∷ l) (outcomes-append (happens m s x.0 x.1).next xs ys)
 
@@ -111,7 +111,7 @@ module _ {W V C L A : Type 0} (m : Machine W V C L A) where
   abbrev pub Leads : Schedule → W → Option V → Seats → Type 0
   Leads log w value seats =
       (more : ℕ) → let s = at_first m (length seats + more) in (after m s log ≡ world w value (seats ++ replicate more Idle))
-      × (list_all is_played (outcomes m s log) ≡ true)
+      × (list_all is_played (outcomes_of m s log) ≡ true)
 
   -- a party joins, and sits idle until its first step
   pub joins : (log : Schedule) (w : W) (value : Option V) (seats : Seats) → Leads log w value seats → Leads log w value (seats ++ Idle ∷ [])
@@ -122,7 +122,7 @@ module _ {W V C L A : Type 0} (m : Machine W V C L A) where
   -- a party that has others before it and behind it makes moves, with the outcomes that they have in a world of its own
   pub goes : (log : Schedule) (z z' : Alone) (xs ys : Seats) → Leads log z.0 z.1 (xs ++ z.2 ∷ ys)
       → (own : List (Move C V)) (outs : List (Outcome A V)) → list_all (is_of_call m) own ≡ true → list_all is_played outs ≡ true
-      → after m (among z [] []) (by_party 0 own) ≡ among z' [] [] → outcomes m (among z [] []) (by_party 0 own) ≡ outs
+      → after m (among z [] []) (by_party 0 own) ≡ among z' [] [] → outcomes_of m (among z [] []) (by_party 0 own) ≡ outs
       → (p : ℕ) → p ≡ length xs → let es = by_party p own in Leads (log ++ es) z'.0 z'.1 (xs ++ z'.2 ∷ ys) × AreOwn m own outs log es
   goes log z z' xs ys leads own outs all fine alone are p is =
       let es = by_party p own in let n : ℕ = length (xs ++ z.2 ∷ ys) in let start : ℕ → State W V C L = λ more. at_first m (n + more) in
@@ -130,8 +130,8 @@ module _ {W V C L A : Type 0} (m : Machine W V C L A) where
       let there : (more : ℕ) → after m (start more) log ≡ among z xs (ys ++ replicate more Idle) =
       λ more. rw ((leads more).0, append_assoc xs (z.2 ∷ ys) (replicate more Idle)) in
       let go = rw (← is) at (go_among z z' own outs all alone are xs) in
-      let came : (more : ℕ) → outcomes m (after m (start more) log) es ≡ outs = λ more. rw (there more) (go (ys ++ replicate more Idle)).1 in
-      let played : IsPlayed m n (log ++ es) = λ more. let before = outcomes m (start more) log in
+      let came : (more : ℕ) → outcomes_of m (after m (start more) log) es ≡ outs = λ more. rw (there more) (go (ys ++ replicate more Idle)).1 in
+      let played : IsPlayed m n (log ++ es) = λ more. let before = outcomes_of m (start more) log in
       rw (outcomes-append (start more) log es, list_all-append is_played before, (leads more).1, came more) fine in
       let leads' : Leads (log ++ es) z'.0 z'.1 (xs ++ z'.2 ∷ ys) = λ more. let after' = (go (ys ++ replicate more Idle)).0 in
       rw (same, after-append m (start more) log es, there more, append_assoc xs (z'.2 ∷ ys) (replicate more Idle)) (after', played more) in

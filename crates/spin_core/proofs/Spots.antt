@@ -2,7 +2,7 @@
 use Rattle.std.proofs.Common.{◌≡◌, ◌≤◌, ℕ, true, false, Some, None, List, [], ◌∷◌, length, refl, ◌∙◌}
 use Rattle.spin_core.specs.Cell.{Moved}
 use Rattle.spin_core.specs.Own.{Tells, what}
-use Rattle.spin_core.specs.Passes.{Course, Says, IsStep, IsCall, Begins, Waits, Ends, mark_of}
+use Rattle.spin_core.specs.Passes.{Course, Says, IsOneStep, IsCall, Begins, Waits, Ends, own_mark}
 use Rattle.spin_core.specs.Spots.{Spot, Since, IsIn, HasCalled}
 use Rattle.spin_core.specs.Traced.{Watches}
 use Rattle.spin_core.proofs.Passes as passes
@@ -16,7 +16,7 @@ use Rattle.spin_step.specs.Machines.{Machine}
 use Rattle.spin_step.specs.Schedules.{Entry}
 
 module _ {K W V C L A X S : Type 0} (model : K → Machine W V C L A) (seat_of : X → Seat C L) (words_of : W → ℕ × S) (p q : Spot K X (Entry C V))
-    (same : q.0 ≡ p.0) (knew : mark_of p.1 ≤ length p.2.entries) where
+    (same : q.0 ≡ p.0) (knew : own_mark p.1 ≤ length p.2.entries) where
   -- what a step did, by what its play says of it
   pub took : {named : Type 0} → named → (found : ℕ) (says : Says V C A X) (to : ℕ → X) (course : ℕ → Course V C A)
       → ((own : List (Move C V)) (outs : List (Outcome A V)) (n : ℕ) (v : X) → says own outs n v → (v ≡ to n) × course n own outs)
@@ -38,18 +38,18 @@ module _ {K W V C L A X : Type 0} (model : K → Machine W V C L A) (p q : Spot 
 -- The steps of a call, one after another.
 module _ {K W V C L A X : Type 0} (model : K → Machine W V C L A) (c : C) (p q : Spot K X (Entry C V)) where
   -- a step that begins the call and answers it at once
-  pub in_one : (a : A) → Since model (IsStep false c (Answered a None)) p q → HasCalled model c a p q
-  in_one a = weaker model p q (IsStep false c (Answered a None)) (IsCall c a) (passes.whole c a)
+  pub in_one : (a : A) → Since model (IsOneStep false c (Answered a None)) p q → HasCalled model c a p q
+  in_one a = weaker model p q (IsOneStep false c (Answered a None)) (IsCall c a) (passes.whole c a)
 
-  pub comes_in : Since model (IsStep false c GoingOn) p q → IsIn model c p q
-  comes_in = weaker model p q (IsStep false c GoingOn) (Begins c Waits) (λ own outs s. (Step ∷ [], GoingOn ∷ [], s.0, s.1, (1, refl, refl)))
+  pub comes_in : Since model (IsOneStep false c GoingOn) p q → IsIn model c p q
+  comes_in = weaker model p q (IsOneStep false c GoingOn) (Begins c Waits) (λ own outs s. (Step ∷ [], GoingOn ∷ [], s.0, s.1, (1, refl, refl)))
 
   module _ (r : Spot K X (Entry C V)) (first : IsIn model c p q) where
-    pub stays_in : Since model (IsStep true c GoingOn) q r → IsIn model c p r
-    stays_in = both model p q r (Begins c Waits) (IsStep true c GoingOn) (Begins c Waits)
-        (passes.begun c Waits (IsStep true c GoingOn) Waits (λ own own' outs outs' w s. passes.waits_on own own' outs outs' w (1, s.0, s.1))) first
+    pub stays_in : Since model (IsOneStep true c GoingOn) q r → IsIn model c p r
+    stays_in = both model p q r (Begins c Waits) (IsOneStep true c GoingOn) (Begins c Waits)
+        (passes.begun c Waits (IsOneStep true c GoingOn) Waits (λ own own' outs outs' w s. passes.waits_on own own' outs outs' w (1, s.0, s.1))) first
 
-    pub is_answered : (a : A) → Since model (IsStep true c (Answered a None)) q r → HasCalled model c a p r
-    is_answered a = both model p q r (Begins c Waits) (IsStep true c (Answered a None)) (IsCall c a)
-        (passes.begun c Waits (IsStep true c (Answered a None)) (Ends a)
+    pub is_answered : (a : A) → Since model (IsOneStep true c (Answered a None)) q r → HasCalled model c a p r
+    is_answered a = both model p q r (Begins c Waits) (IsOneStep true c (Answered a None)) (IsCall c a)
+        (passes.begun c Waits (IsOneStep true c (Answered a None)) (Ends a)
         (λ own own' outs outs' w s. passes.waits_out a own own' outs outs' w (0, s.0, s.1))) first

@@ -5,7 +5,7 @@ use Rattle.atomic_table.proofs.Lists.{at_map}
 use Rattle.std.proofs.lemmas.List.{map-append, map-set}
 use Rattle.std.proofs.lemmas.List.Folds.{fold-map}
 use Rattle.spin_core.specs.declared.trace.Trace.{Trace}
-use Rattle.spin_core.specs.Cell.{Way, Ways, no_fact, Use, use_of, Rests, reading, writing, Limits, Knowledge, Owed, Meets, Stands, readers_of, writers_of, after, OnWord, AllowsTo}
+use Rattle.spin_core.specs.Cell.{Way, Ways, no_fact, Use, use_of, Rests, reading, writing, Limits, Knowledge, Owed, MeetsRule, HasView, readers_of, writers_of, after, OnWord, AllowsTo}
 use Rattle.spin_core.specs.Traced.{grown_at, TracesTo}
 use Rattle.spin_step.specs.declared.place.Seat.{Seat}
 use Rattle.spin_step.specs.declared.place.Seat.TheVariants.{Idle}
@@ -15,7 +15,7 @@ use Rattle.spin_step.specs.Machines.{Machine}
 use Rattle.spin_step.specs.Schedules.{Entry}
 use Rattle.spin_core.specs.Run.{AreMoves}
 use Rattle.spin_core.specs.Passes.{Says}
-use Rattle.spin_core.specs.Own.{Numbered, by_party, what, Tells, Runs}
+use Rattle.spin_core.specs.Own.{Numbered, by_party, what, Tells, RunsByRule}
 use Rattle.spin_core.proofs.CellWays.{going_map, carrying_of}
 use Rattle.spin_core.proofs.Owns as owns
 
@@ -24,7 +24,7 @@ module _ {X : Type 0} where
   abbrev all : List (Numbered X) → List X
   all vs = map (λ v. v.0) vs
 
-  stands : (id : ℕ) (view : Option (Numbered X)) (vs : List (Numbered X)) → Stands id view vs → Stands id (what view) (all vs)
+  stands : (id : ℕ) (view : Option (Numbered X)) (vs : List (Numbered X)) → HasView id view vs → HasView id (what view) (all vs)
   stands id view vs at = grind (arith, at_map (λ (v : Numbered X). v.0) vs id)
 
   same_after : (id : ℕ) (view : Option (Numbered X)) (vs : List (Numbered X)) (w : Numbered X) → all (after id view vs w) ≡ after id (what view) (all vs) w.0
@@ -43,7 +43,7 @@ module _ {X : Type 0} where
 
 module _ {W V C L A X S : Type 0} (m : Machine W V C L A) (seat_of : X → Seat C L) (words_of : W → ℕ × S) (holds : ℕ → S → List X → Type 0) (name : ℕ) (Y : Type 0) (way : Way Y) (f : X → Use) (know : Knowledge (Trace (Entry C V) S) Y) where
   abbrev Of : ℕ → Trace (Entry C V) S → List (Numbered X) → Type 0
-  Of = Runs m seat_of words_of holds name
+  Of = RunsByRule m seat_of words_of holds name
 
   abbrev ways : Ways Y X S
   ways = (way, f, no_fact)
@@ -55,7 +55,7 @@ module _ {W V C L A X S : Type 0} (m : Machine W V C L A) (seat_of : X → Seat 
   abbrev Owing : Use → Use → Option Y → List (Move C V) → Type 0
   Owing u u' shown own = (t : Trace (Entry C V) S) (word : S) (p : ℕ) → Owed know t (grown_at t word (by_party p own)) u u' shown
 
-  pub opens : (n : ℕ) (t : Trace (Entry C V) S) → t.name ≡ name → t.entries ≡ [] → (n, t.word) ≡ words_of m.words → Meets holds ways n t.word [] → Meets Of own_ways n t []
+  pub opens : (n : ℕ) (t : Trace (Entry C V) S) → t.name ≡ name → t.entries ≡ [] → (n, t.word) ≡ words_of m.words → MeetsRule holds ways n t.word [] → MeetsRule Of own_ways n t []
   opens n t named empty is meets = ((named, meets.0, rw empty (owns.opens m seat_of words_of (n, t.word) is)), meets.1)
 
   -- if the rule gives the party a next view, its moves lead to that view
@@ -68,7 +68,7 @@ module _ {W V C L A X S : Type 0} (m : Machine W V C L A) (seat_of : X → Seat 
       let (u, going, so) = allows id n t.word (all vs) (meets.0.1, rw (same_limits f vs way) meets.1) (stands id view vs at) small in
       let (p, own, outs, (run, none, mine, said)) = owns.step m seat_of words_of view g then says moves id (n, t.word) t.entries vs meets.0.2 at u so in
       let es = by_party p own in let w : Numbered X = (u, p, length (t.entries ++ es)) in let s = g.0 (n, t.word) in let u₀ = use_of f (what view) in
-      let keeps = λ (met : Meets holds ways s.0 s.1 (after id (what view) (all vs) u)). let (held, few) = rw (← same_after id view vs w) at met in
+      let keeps = λ (met : MeetsRule holds ways s.0 s.1 (after id (what view) (all vs) u)). let (held, few) = rw (← same_after id view vs w) at met in
       carrying_of know t (grown_at t s.1 es) u₀ (f u) shown (owes own outs (g.1 (n, t.word)) u said t s.1 p)
       ((meets.0.0, held, run), rw (← same_limits f (after id view vs w) way) few) in
       let going' = going_map way u₀ (f u) shown (readers_of f (all vs)) keeps going in

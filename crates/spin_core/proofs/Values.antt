@@ -8,9 +8,9 @@ use Rattle.spin_step.specs.declared.schedule.Outcome.{Outcome}
 use Rattle.spin_step.specs.Schedules.{Entry}
 use Rattle.spin_core.specs.Cell.{Use, off, reads, writes, Owed, Learns, Shows}
 use Rattle.spin_core.specs.Own.{by_party}
-use Rattle.spin_core.specs.Passes.{IsStep, Writes}
+use Rattle.spin_core.specs.Passes.{IsOneStep, Writes}
 use Rattle.spin_core.specs.Traced.{Learnt, grown_at}
-use Rattle.spin_core.specs.Values.{written, left, latest, IsLast, last, Leaves}
+use Rattle.spin_core.specs.Values.{written, left, latest, IsLast, last_value, Leaves}
 use Rattle.spin_core.specs.declared.tie.Opening.{Opening}
 use Rattle.spin_core.specs.declared.trace.Trace.{Trace}
 
@@ -20,16 +20,16 @@ module _ {C V : Type 0} where
       fold-append by v log (by_party p own) ∙ fold-map by (λ move. (p, move)) (latest v log) own
 
   -- a step of a call writes nothing; after a write the moves leave the written value
-  pub step_leaves : {A : Type 0} (goes_on : Bool) (c : C) (end : Outcome A V) (own : List (Move C V)) (outs : List (Outcome A V)) → IsStep goes_on c end own outs → (v : V) → left own v ≡ v
+  pub step_leaves : {A : Type 0} (goes_on : Bool) (c : C) (end : Outcome A V) (own : List (Move C V)) (outs : List (Outcome A V)) → IsOneStep goes_on c end own outs → (v : V) → left own v ≡ v
   step_leaves goes_on c end own outs is v = grind arith
 
-  pub write_leaves : {A : Type 0} (x : V) (goes_on : Bool) (c : C) (end : Outcome A V) (own : List (Move C V)) (outs : List (Outcome A V)) → Writes x (IsStep goes_on c end) own outs → (v : V) → left own v ≡ x
+  pub write_leaves : {A : Type 0} (x : V) (goes_on : Bool) (c : C) (end : Outcome A V) (own : List (Move C V)) (outs : List (Outcome A V)) → Writes x (IsOneStep goes_on c end) own outs → (v : V) → left own v ≡ x
   write_leaves x goes_on c end own outs (rest, comes, is, came, step) v = rw is (step_leaves goes_on c end rest comes step x)
 
   module _ (opening : Opening V) where
     module _ {S : Type 0} (own : List (Move C V)) (t : Trace (Entry C V) S) (word : S) (p : ℕ) where
       -- what moves must show, if they write as `Leaves` says
-      pub owed : (u u' : Use) (shown : Option V) → Leaves u u' shown own → Owed (last opening) t (grown_at t word (by_party p own)) u u' shown
+      pub owed : (u u' : Use) (shown : Option V) → Leaves u u' shown own → Owed (last_value opening) t (grown_at t word (by_party p own)) u u' shown
       owed u u' shown l = grind (arith, latest_left opening.value t.entries p own)
 
     -- a lock opens with the value that is in it
@@ -39,7 +39,7 @@ module _ {C V : Type 0} where
     -- What a step tells its party of the value written last.
     module _ (u u' : Use) (before after : Option V) (es : List (Entry C V)) where
       abbrev Tells : Type 0 → Type 0
-      Tells S = Learnt {S = S} (last opening) u u' before after es
+      Tells S = Learnt {S = S} (last_value opening) u u' before after es
 
       abbrev Last : V → Type 0
       Last = IsLast opening es

@@ -8,24 +8,24 @@ use Rattle.std.proofs.lemmas.Option.{slice_get_past}
 use Rattle.std.specs.Prelude.{slice_get}
 use Rattle.spin_step.specs.Plain.{Plain, Kind, Change, releases, turns}
 use Rattle.spin_step.specs.Parties.{entries_after, apply_some, IsOpenStep}
-use Rattle.spin_core.specs.Cell.{Stands, after}
+use Rattle.spin_core.specs.Cell.{HasView, after}
 use Rattle.spin_core.proofs.CellCounts.{around}
 use Rattle.spin_core.proofs.Runs.{get_seam}
-use Rattle.spin_core.specs.Views.{Part, idle, holds, entries_of, Knows, HasPart, part_at, IsLockOf}
+use Rattle.spin_core.specs.Views.{Part, idle, holds, entries_of_part, KnowsServed, HasPart, part_at, IsLockOf}
 use Rattle.spin_step.specs.Orders.{IsInOrder}
 use Rattle.spin_step.proofs.Entries.{entries-own, entries-other}
 use Rattle.spin_step.proofs.Holders.{same_kind-self}
 use Rattle.spin_step.proofs.Tickets.{serving-moves}
 
-knows-kept : (s : Plain) (p : ℕ) (step : Option Change) (x : Part) → IsInOrder s → IsOpenStep s p step → Knows s x → Knows (apply_some s step) x
+knows-kept : (s : Plain) (p : ℕ) (step : Option Change) (x : Part) → IsInOrder s → IsOpenStep s p step → KnowsServed s x → KnowsServed (apply_some s step) x
 knows-kept s p step x order may known = grind (arith, serving-moves)
 
 -- What a party's own steps do to its entries.
 
-pub release-own : (s : Plain) (p : ℕ) (k : Kind) → entries_after s (Some (releases p k)) (entries_of p (holds k)) ≡ entries_of p idle
+pub release-own : (s : Plain) (p : ℕ) (k : Kind) → entries_after s (Some (releases p k)) (entries_of_part p (holds k)) ≡ entries_of_part p idle
 release-own s p k = grind (arith, same_kind-self k)
 
-pub turn-own : (s : Plain) (p : ℕ) (k l : Kind) → entries_after s (Some (turns p k l)) (entries_of p (holds k)) ≡ entries_of p (holds l)
+pub turn-own : (s : Plain) (p : ℕ) (k l : Kind) → entries_after s (Some (turns p k l)) (entries_of_part p (holds k)) ≡ entries_of_part p (holds l)
 turn-own s p k l = grind (arith, same_kind-self k)
 
 module _ {V : Type 0} (part : V → Part) where
@@ -45,7 +45,7 @@ module _ {V : Type 0} (part : V → Part) where
   pub part-beyond : (p : ℕ) (vs : List V) → length vs ≤ p → part_at part vs p ≡ idle
   part-beyond p vs far = rw (slice_get_past vs p far)
 
-  was : (id : ℕ) (view : Option V) (vs : List V) → Stands id view vs → part_at part vs (number id view vs) ≡ part_before view
+  was : (id : ℕ) (view : Option V) (vs : List V) → HasView id view vs → part_at part vs (number id view vs) ≡ part_before view
   was id None vs at = part-beyond (length vs) vs (omega arith)
   was id (Some v) vs at = let (us, ws, is, here) = around vs id v at in cc (part-there (length us) v (us ++ v ∷ ws) (get_seam us v ws))
 
@@ -62,16 +62,16 @@ module _ {V : Type 0} (part : V → Part) where
   changes zero v (x ∷ vs) w q at = grind arith
   changes (suc id) v (x ∷ vs) w q at = grind (arith, changes id v vs w (pred q))
 
-  moves : (id : ℕ) (view : Option V) (vs : List V) (w : V) (q : ℕ) → Stands id view vs → Moves (number id view vs) vs (after id view vs w) w q
+  moves : (id : ℕ) (view : Option V) (vs : List V) (w : V) (q : ℕ) → HasView id view vs → Moves (number id view vs) vs (after id view vs w) w q
   moves id None vs w q at = joins vs w q
   moves id (Some v) vs w q at = changes id v vs w q at
 
-  pub own_part : (id : ℕ) (view : Option V) (vs : List V) (s : Plain) → Stands id view vs → IsLockOf part vs s → HasPart s (number id view vs) (part_before view)
+  pub own_part : (id : ℕ) (view : Option V) (vs : List V) (s : Plain) → HasView id view vs → IsLockOf part vs s → HasPart s (number id view vs) (part_before view)
   own_part id view vs s at is = rw (was id view vs at) at (is (number id view vs))
 
   -- a party's open step, or no step, after which the party has the part of its next view
-  pub lock_after : (id : ℕ) (view : Option V) (vs : List V) (w : V) (s : Plain) (step : Option Change) → Stands id view vs → IsInOrder s → IsLockOf part vs s
-      → IsOpenStep s (number id view vs) step → entries_after s step (entries_of (number id view vs) (part_before view)) ≡ entries_of (number id view vs) (part w) → Knows (apply_some s step) (part w)
+  pub lock_after : (id : ℕ) (view : Option V) (vs : List V) (w : V) (s : Plain) (step : Option Change) → HasView id view vs → IsInOrder s → IsLockOf part vs s
+      → IsOpenStep s (number id view vs) step → entries_after s step (entries_of_part (number id view vs) (part_before view)) ≡ entries_of_part (number id view vs) (part w) → KnowsServed (apply_some s step) (part w)
       → IsLockOf part (after id view vs w) (apply_some s step)
   lock_after id view vs w s step at order is may becomes known q =
       let p : ℕ = number id view vs in let m = moves id view vs w q at in let had = own_part id view vs s at is in

@@ -48,8 +48,8 @@ module _ {V : Type 0} (f : V → Use) where
   writers_of vs = sum_by (λ v. writing (f v)) vs
 
 -- how many different numbers a word can hold
-abbrev pub words : ℕ
-words = 18446744073709551616
+abbrev pub word_limit : ℕ
+word_limit = 18446744073709551616
 
 -- how many parties may read at once in the way `lends`
 abbrev pub most_readers : ℕ
@@ -162,8 +162,8 @@ module _ {X : Type 0} where
 
 module _ {V : Type 0} where
   -- the party has this view, or has no view yet
-  abbrev pub Stands : ℕ → Option V → List V → Type 0
-  Stands id view vs = IfSome view (λ v. get_elem? vs id ≡ some v)
+  abbrev pub HasView : ℕ → Option V → List V → Type 0
+  HasView id view vs = IfSome view (λ v. get_elem? vs id ≡ some v)
 
   -- the views after the party got a new one
   abbrev pub after : ℕ → Option V → List V → V → List V
@@ -188,25 +188,25 @@ by_second f = (λ s. (s.0, f s.1), λ s. s.1)
 
 module _ {X V S : Type 0} (holds : ℕ → S → List V → Type 0) (ways : Ways X V S) where
   -- the rule holds of the words and the views, and the uses are within the limits
-  abbrev pub Meets : ℕ → S → List V → Type 0
-  Meets n m vs = holds n m vs × Limits ways.0 (readers_of ways.1 vs) (writers_of ways.1 vs)
+  abbrev pub MeetsRule : ℕ → S → List V → Type 0
+  MeetsRule n m vs = holds n m vs × Limits ways.0 (readers_of ways.1 vs) (writers_of ways.1 vs)
 
   -- The rule holds of these words and of some views, within the limits. What is known of the value holds too.
   abbrev pub Starts : ℕ → S → X → Type 0
-  Starts n m x = (vs : List V) × Meets n m vs × Knowing ways.2 m (writers_of ways.1 vs) x (Fixed ways.0 (readers_of ways.1 vs) (writers_of ways.1 vs) x)
+  Starts n m x = (vs : List V) × MeetsRule n m vs × Knowing ways.2 m (writers_of ways.1 vs) x (Fixed ways.0 (readers_of ways.1 vs) (writers_of ways.1 vs) x)
 
   -- Like `Starts`, for a new cell. In the ways `alone` and `lends` there are no views, since nobody has used the cell.
   -- In the way `fixes` there may be the views of parties that have no permit.
   abbrev pub Opens : ℕ → S → X → Type 0
-  Opens n m x = (vs : List V) × IsNew ways.0 vs × Meets n m vs × Knowing ways.2 m (writers_of ways.1 vs) x (Fixed ways.0 (readers_of ways.1 vs) (writers_of ways.1 vs) x)
+  Opens n m x = (vs : List V) × IsNew ways.0 vs × MeetsRule n m vs × Knowing ways.2 m (writers_of ways.1 vs) x (Fixed ways.0 (readers_of ways.1 vs) (writers_of ways.1 vs) x)
 
   -- What a step on a word must show. `shown` is the value that the step's party is shown, if any. Whatever the words
   -- and the views are, the party has a next view that keeps the rule.
   abbrev pub AllowsTo : Option V → Option X → OnWord S → (ℕ → V → Type 0) → Type 0
   AllowsTo view shown g then = (id n : ℕ) (m : S) (vs : List V) → let s = g.0 (n, m) in let found = g.1 (n, m) in
-      Meets n m vs → Stands id view vs → found < words
+      MeetsRule n m vs → HasView id view vs → found < word_limit
       → (w : V) × Going ways.0 (use_of ways.1 view) (ways.1 w) shown (readers_of ways.1 vs)
-      (Meets s.0 s.1 (after id view vs w)) × then found w
+      (MeetsRule s.0 s.1 (after id view vs w)) × then found w
 
   -- a step that applies f to the first word
   abbrev pub AllowsAt : Option V → Option X → (ℕ → ℕ) → (ℕ → V → Type 0) → Type 0
@@ -215,8 +215,8 @@ module _ {X V S : Type 0} (holds : ℕ → S → List V → Type 0) (ways : Ways
 -- Where the rule held under the old key it holds under the new one. Each view uses the value as under the old key.
 -- Several parties may share the value only if they might do so under the old key.
 module _ {X V S : Type 0} (holds : ℕ → S → List V → Type 0) (ways : Ways X V S) (holds' : ℕ → S → List V → Type 0) (ways' : Ways X V S) where
-  abbrev pub Lends : Type 0
-  Lends = (IsShared ways'.0 → IsShared ways.0) × ((v : V) → ways'.1 v ≡ ways.1 v) × ((n : ℕ) (m : S) (x : X) → Starts holds ways n m x → Starts holds' ways' n m x)
+  abbrev pub MayLend : Type 0
+  MayLend = (IsShared ways'.0 → IsShared ways.0) × ((v : V) → ways'.1 v ≡ ways.1 v) × ((n : ℕ) (m : S) (x : X) → Starts holds ways n m x → Starts holds' ways' n m x)
 
 -- the party now has a view of which P holds
 abbrev pub Moved : {V : Type 0} → (V → Type 0) → Option V → Type 0

@@ -27,7 +27,7 @@ use Rattle.core.specs.Sync.RawAtomic.{word}
 use Rattle.atomic_table.specs.Seated.{fact, halved, seen}
 use types.Keyed.{entries_from}
 use base.Share.{quarter}
-use Rattle.spin_core.specs.Cell.{Use, off, reads, writes, Way, alone, lends, fixes, Ways, IsShared, IsKnown, use_of, readers_of, writers_of, Meets, Starts}
+use Rattle.spin_core.specs.Cell.{Use, off, reads, writes, Way, alone, lends, fixes, Ways, IsShared, IsKnown, use_of, readers_of, writers_of, MeetsRule, Starts}
 
 -- the place of the value, after the first word
 abbrev pub offset : RattleType → ℕ
@@ -117,17 +117,17 @@ module _ (R : RattleType) (b o : ℕ) where
     abbrev pub tracked : R.Denot → Fml
     tracked x = fsep (fobs t.value (R.coded.code x)) (fbor t.life named)
 
-    abbrev pub waits : ℕ → Fml
-    waits a = flent (a ∷ t.life) (fbor t.life named)
+    abbrev pub waits_for : ℕ → Fml
+    waits_for a = flent (a ∷ t.life) (fbor t.life named)
 
     abbrev pub shared : Round R → Fml
-    shared s = fsep (fobs t.value (R.coded.code s.1)) (fsep (shown s.1 (s.0 ∷ t.life)) (waits s.0))
+    shared s = fsep (fobs t.value (R.coded.code s.1)) (fsep (shown s.1 (s.0 ∷ t.life)) (waits_for s.0))
 
     -- the value, with r readers and no writer
-    abbrev pub resting : Way R.Denot → ℕ → R.Denot → Fml
-    resting alone r x = tracked x
-    resting lends r x = fex ℕ (λ a. fsep (parts R t.round (a, x) (2 ^ 63 - r)) (shared (a, x)))
-    resting (fixes fact) r x = fex ℕ (λ a. fsep (remains R fact t.round (a, x) r) (shared (a, x)))
+    abbrev pub resting_value : Way R.Denot → ℕ → R.Denot → Fml
+    resting_value alone r x = tracked x
+    resting_value lends r x = fex ℕ (λ a. fsep (parts R t.round (a, x) (2 ^ 63 - r)) (shared (a, x)))
+    resting_value (fixes fact) r x = fex ℕ (λ a. fsep (remains R fact t.round (a, x) r) (shared (a, x)))
 
     -- what is in the cell while a writer has the value
     abbrev pub missing : Way R.Denot → Fml
@@ -135,28 +135,28 @@ module _ (R : RattleType) (b o : ℕ) where
 
     -- the value has r readers, and satisfies φ
     abbrev pub lying : Way R.Denot → (R.Denot → Type 0) → ℕ → R.Denot → Fml
-    lying way φ r x = fex (φ x) (λ _. resting way r x)
+    lying way φ r x = fex (φ x) (λ _. resting_value way r x)
 
     -- the state of a value with r readers and w writers; φ holds of it if nobody writes
-    abbrev pub state : Way R.Denot → (R.Denot → Type 0) → ℕ → ℕ → Fml
-    state way φ r zero = fex R.Denot (lying way φ r)
-    state way φ r (suc w) = missing way
+    abbrev pub value_state : Way R.Denot → (R.Denot → Type 0) → ℕ → ℕ → Fml
+    value_state way φ r zero = fex R.Denot (lying way φ r)
+    value_state way φ r (suc w) = missing way
 
-    abbrev pub reader : Way R.Denot → R.Denot → Fml
-    reader way x = fex ℕ (λ a. fsep (piece R way t.round (a, x)) (shown x (a ∷ t.life)))
+    abbrev pub reader_owns : Way R.Denot → R.Denot → Fml
+    reader_owns way x = fex ℕ (λ a. fsep (piece R way t.round (a, x)) (shown x (a ∷ t.life)))
 
     -- what a party owns of the value
     abbrev pub right : Way R.Denot → Use → Option R.Denot → Fml
     right way off None = ftrue
-    right way reads (Some x) = reader way x
+    right way reads (Some x) = reader_owns way x
     right way writes (Some x) = tracked x
     right way _ _ = ffalse
 
     module _ {V : Type 0} (c : V → Gv) (S : RattleType) (holds : ℕ → S.Denot → List V → Type 0)
         (ways : Ways R.Denot V S.Denot) where
       abbrev pub core_at : ℕ → S.Denot → List V → Fml
-      core_at n m vs = fsep (roster c t.views 0 vs) (fsep (fact (Meets holds ways n m vs))
-          (state ways.0 (IsKnown ways.2 m) (readers_of ways.1 vs) (writers_of ways.1 vs)))
+      core_at n m vs = fsep (roster c t.views 0 vs) (fsep (fact (MeetsRule holds ways n m vs))
+          (value_state ways.0 (IsKnown ways.2 m) (readers_of ways.1 vs) (writers_of ways.1 vs)))
 
       abbrev pub core : ℕ × S.Denot → Fml
       core s = fex (List V) (core_at s.0 s.1)

@@ -1,7 +1,7 @@
 -- The value of a guard, the guard with another value, and the value that a hold keeps.
 use Rattle.std.specs.Prelude.{◌≡◌, Option}
 use Rattle.spin_core.specs.Cell.{Use, writes}
-use Rattle.spin_core.specs.Writer.{with_value}
+use Rattle.spin_core.specs.Writer.{writer_of}
 use Rattle.spin_core.specs.declared.guard.Guard.{Guard}
 use Rattle.spin_core.specs.declared.guard.Held.{Held}
 use Rattle.spin_core.specs.declared.guard.Uses.{Ghosts}
@@ -12,7 +12,7 @@ module _ {T V E P R K S : Type 0} where
   guard_value it = it.writer.value
 
   abbrev pub guard_with : Guard T V E P R K S → T → Guard T V E P R K S
-  guard_with it x = record { writer = with_value it.writer x; seen = it.seen; strategy = it.strategy }
+  guard_with it x = record { writer = writer_of it.writer x; seen = it.seen; strategy = it.strategy }
 
   -- the view of the guard's party
   abbrev pub guard_view : Guard T V E P R K S → V

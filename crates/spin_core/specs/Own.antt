@@ -20,8 +20,8 @@ abbrev pub what : {X : Type 0} → Option (Numbered X) → Option X
 what view = option_map (λ u. u.0) view
 
 -- how long the trace was after the party's last step
-abbrev pub mark_of : {X : Type 0} → Option (Numbered X) → ℕ
-mark_of view = elim view [ None ↦ 0 | Some u ↦ u.2 ]
+abbrev pub own_mark : {X : Type 0} → Option (Numbered X) → ℕ
+own_mark view = elim view [ None ↦ 0 | Some u ↦ u.2 ]
 
 -- the party has the number p, or no number yet
 abbrev pub MayBe : {X : Type 0} → ℕ → Option (Numbered X) → Type 0
@@ -53,7 +53,7 @@ Rested schedule k (o ∷ us) =
 
 -- the party has made no entry after its last step; a new party has made none at all
 abbrev pub MadeNone : {C V X : Type 0} → List (Entry C V) → ℕ → Option (Numbered X) → Type 0
-MadeNone log p view = MayBe p view × (entries_by p (drop (mark_of view) log) ≡ [])
+MadeNone log p view = MayBe p view × (entries_by p (drop (own_mark view) log) ≡ [])
 
 module _ {W V C L A X S : Type 0} (m : Machine W V C L A) (seat_of : X → Seat C L) (words_of : W → ℕ × S) where
   -- The schedule leads to these words, and to the views of all parties that have not left. None of its entries is
@@ -70,5 +70,5 @@ module _ {W V C L A X S : Type 0} (m : Machine W V C L A) (seat_of : X → Seat 
 
   -- The lock's own rule holds, and the trace has this name. The trace is a schedule of the model that leads to these
   -- words and these views.
-  abbrev pub Runs : (ℕ → S → List X → Type 0) → ℕ → ℕ → Trace (Entry C V) S → List (Numbered X) → Type 0
-  Runs holds name n t vs = (t.name ≡ name) × holds n t.word (map (λ v. v.0) vs) × IsRun t.entries (n, t.word) vs
+  abbrev pub RunsByRule : (ℕ → S → List X → Type 0) → ℕ → ℕ → Trace (Entry C V) S → List (Numbered X) → Type 0
+  RunsByRule holds name n t vs = (t.name ≡ name) × holds n t.word (map (λ v. v.0) vs) × IsRun t.entries (n, t.word) vs

@@ -10,11 +10,11 @@ use Rattle.spin_step.specs.Machines.{Machine}
 use Rattle.spin_step.specs.Schedules.{State, Entry, after, at_first, happens}
 use Rattle.spin_core.specs.Run.{IsPlayed}
 use Rattle.spin_core.specs.Own.{Numbered, MadeNone, by_party, entries_by}
-pub use Rattle.spin_core.specs.Own.{mark_of}
+pub use Rattle.spin_core.specs.Own.{own_mark}
 
 -- the party has this number
-abbrev pub IsNumber : {X : Type 0} → ℕ → Option (Numbered X) → Type 0
-IsNumber p view = MatchOption view ⊥ (λ u. p ≡ u.1)
+abbrev pub HasNumber : {X : Type 0} → ℕ → Option (Numbered X) → Type 0
+HasNumber p view = MatchOption view ⊥ (λ u. p ≡ u.1)
 
 -- the party is in no call, and holds nothing: it is new, or has the idle view
 abbrev pub IsOut : {X : Type 0} → X → Option X → Type 0
@@ -63,13 +63,13 @@ module _ {V C A : Type 0} where
 
   -- The course of one step with this outcome. If the Bool is true, the call has begun before. If it is false, the call
   -- begins and makes its first step.
-  abbrev pub IsStep : Bool → C → Outcome A V → Course V C A
-  IsStep true c end own outs = (own ≡ Step ∷ []) × (outs ≡ end ∷ [])
-  IsStep false c end own outs = (own ≡ Begin c ∷ Step ∷ []) × (outs ≡ Begun ∷ end ∷ [])
+  abbrev pub IsOneStep : Bool → C → Outcome A V → Course V C A
+  IsOneStep true c end own outs = (own ≡ Step ∷ []) × (outs ≡ end ∷ [])
+  IsOneStep false c end own outs = (own ≡ Begin c ∷ Step ∷ []) × (outs ≡ Begun ∷ end ∷ [])
 
-  -- what a play says of one step of a call (`IsStep`): the number found decides the outcome and the next view
-  abbrev pub step_by : {X : Type 0} → Bool → C → (ℕ → Outcome A V) → (ℕ → X) → Says V C A X
-  step_by goes_on c end to own outs n v = (v ≡ to n) × IsStep goes_on c (end n) own outs
+  -- what a play says of one step of a call (`IsOneStep`): the number found decides the outcome and the next view
+  abbrev pub says_step : {X : Type 0} → Bool → C → (ℕ → Outcome A V) → (ℕ → X) → Says V C A X
+  says_step goes_on c end to own outs n v = (v ≡ to n) × IsOneStep goes_on c (end n) own outs
 
 module _ {W V C L A : Type 0} (m : Machine W V C L A) where
   -- the outcomes of the entries that one party made in this schedule
@@ -87,4 +87,4 @@ module _ {W V C L A : Type 0} (m : Machine W V C L A) where
   -- A party had the view `view` and knew the entries `old`, none of which it made after its last step. Now it has the
   -- view `view'` and knows `new`. In between it has made exactly the moves of this course.
   abbrev pub Made : {X : Type 0} → Option (Numbered X) → List (Entry C V) → Option (Numbered X) → List (Entry C V) → Course V C A → Type 0
-  Made view old view' new P = (p : ℕ) × MadeNone old p view × IsNumber p view' × (own : List (Move C V)) × (outs : List (Outcome A V)) × Did p old new own outs × P own outs
+  Made view old view' new P = (p : ℕ) × MadeNone old p view × HasNumber p view' × (own : List (Move C V)) × (outs : List (Outcome A V)) × Did p old new own outs × P own outs

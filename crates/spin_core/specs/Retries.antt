@@ -3,10 +3,10 @@ use Rattle.std.specs.Prelude.{◌≡◌, ℕ, zero, suc, Result, Ok, Err}
 
 module _ {S A : Type 0} (attempts : S → Result A S → Type 0) where
   -- n attempts in a row fail, from the state `first`; the next attempt begins in `last`
-  abbrev pub Fails : ℕ → S → S → Type 0
-  Fails zero first last = first ≡ last
-  Fails (suc n) first last = (next : S) × attempts first (Err next) × Fails n next last
+  abbrev pub FailsTimes : ℕ → S → S → Type 0
+  FailsTimes zero first last = first ≡ last
+  FailsTimes (suc n) first last = (next : S) × attempts first (Err next) × FailsTimes n next last
 
   -- from this state on n attempts fail, for some n, and the next attempt gives the answer
   abbrev pub Succeeds : S → A → Type 0
-  Succeeds first answer = (n : ℕ) × (last : S) × Fails n first last × attempts last (Ok answer)
+  Succeeds first answer = (n : ℕ) × (last : S) × FailsTimes n first last × attempts last (Ok answer)

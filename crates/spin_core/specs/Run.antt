@@ -23,9 +23,9 @@ is_played o = elim o [ Skipped ↦ false | _ ↦ true ]
 
 module _ {W V C L A : Type 0} (m : Machine W V C L A) where
   -- the outcomes of a schedule's entries
-  abbrev pub outcomes : State W V C L → List (Entry C V) → List (Outcome A V)
-  outcomes s [] = []
-  outcomes s (e ∷ es) = (happens m s e.0 e.1).outcome ∷ outcomes (happens m s e.0 e.1).next es
+  abbrev pub outcomes_of : State W V C L → List (Entry C V) → List (Outcome A V)
+  outcomes_of s [] = []
+  outcomes_of s (e ∷ es) = (happens m s e.0 e.1).outcome ∷ outcomes_of (happens m s e.0 e.1).next es
 
   -- each entry of the schedule is a move as in `is_of_call`
   abbrev pub AreOfCalls : List (Entry C V) → Type 0
@@ -33,12 +33,12 @@ module _ {W V C L A : Type 0} (m : Machine W V C L A) where
 
   -- in each world with at least `least` parties, no entry of the schedule is skipped
   abbrev pub IsPlayed : ℕ → List (Entry C V) → Type 0
-  IsPlayed least schedule = (more : ℕ) → list_all is_played (outcomes (at_first m (least + more)) schedule) ≡ true
+  IsPlayed least schedule = (more : ℕ) → list_all is_played (outcomes_of (at_first m (least + more)) schedule) ≡ true
 
   -- The entries `es` are these moves, made by one party. Played after `log` they have these outcomes, in each world of
   -- the model with enough parties. No entry of `log` or `es` is skipped there.
   abbrev pub AreOwn : List (Move C V) → List (Outcome A V) → List (Entry C V) → List (Entry C V) → Type 0
-  AreOwn own outs log es = (p least : ℕ) × (es ≡ map (λ move. (p, move)) own) × IsPlayed least (log ++ es) × ((more : ℕ) → outcomes (after m (at_first m (least + more)) log) es ≡ outs)
+  AreOwn own outs log es = (p least : ℕ) × (es ≡ map (λ move. (p, move)) own) × IsPlayed least (log ++ es) × ((more : ℕ) → outcomes_of (after m (at_first m (least + more)) log) es ≡ outs)
 
   module _ {X S : Type 0} (seat_of : X → Seat C L) (words_of : W → ℕ × S) where
     -- the party's seat in the model; a party that has left is idle
@@ -61,7 +61,7 @@ module _ {W V C L A : Type 0} (m : Machine W V C L A) where
     abbrev pub Goes : Option X → X → W → Option V → (ℕ × S) → (List (Move C V) → List (Outcome A V) → Type 0) → Type 0
     Goes view u w value s P =
         (own : List (Move C V)) × (outs : List (Outcome A V)) × P own outs × (list_all (is_of_call m) own ≡ true) × (list_all is_played outs ≡ true) × (w' : W) × (now : Option V)
-        × (after m (alone w value (sits view)) (of_one own) ≡ record { words = w'; value = now; seats = seat_of u ∷ [] }) × (outcomes (alone w value (sits view)) (of_one own) ≡ outs) × (words_of w' ≡ s)
+        × (after m (alone w value (sits view)) (of_one own) ≡ record { words = w'; value = now; seats = seat_of u ∷ [] }) × (outcomes_of (alone w value (sits view)) (of_one own) ≡ outs) × (words_of w' ≡ s)
 
     -- Take any words, and any next view for which `then` holds of the number that the step finds. The party has moves
     -- that lead to this view and to the words after the step. What `says` states holds of these moves.

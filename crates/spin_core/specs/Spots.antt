@@ -4,7 +4,7 @@ use Rattle.spin_step.specs.declared.schedule.Outcome.{Outcome}
 use Rattle.spin_step.specs.Machines.{Machine}
 use Rattle.spin_step.specs.Schedules.{Entry}
 use Rattle.spin_core.specs.Own.{Numbered, what}
-use Rattle.spin_core.specs.Passes.{Course, Made, IsCall, IsStep, Begins, Waits, WritesSome}
+use Rattle.spin_core.specs.Passes.{Course, Made, IsCall, IsOneStep, Begins, Waits, WritesSome}
 use Rattle.spin_core.specs.Values.{IsLast}
 use Rattle.spin_core.specs.declared.cell.Permit.{Permit}
 use Rattle.spin_core.specs.declared.tie.Opening.{Opening}
@@ -25,7 +25,7 @@ module _ {K W V C L A X : Type 0} (model : K → Machine W V C L A) where
 
   -- from p to q the party has made one step of this call, with this outcome, and at q it has this view
   abbrev pub Stepped : Bool → C → Outcome A V → X → Spot K X (Entry C V) → Spot K X (Entry C V) → Type 0
-  Stepped goes_on call end view p q = Since (IsStep goes_on call end) p q × (what q.1 ≡ Some view)
+  Stepped goes_on call end view p q = Since (IsOneStep goes_on call end) p q × (what q.1 ≡ Some view)
 
   -- at q the party waits in this call, which it began at p
   abbrev pub IsIn : C → Spot K X (Entry C V) → Spot K X (Entry C V) → Type 0

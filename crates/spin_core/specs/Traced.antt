@@ -4,7 +4,7 @@ use Rattle.std.specs.Prelude.{◌≡◌, ◌⊎◌, ℕ, ◌<◌, List, [], ◌+
 use mathlib.Core.List.{IsPrefix}
 use Rattle.spin_core.specs.declared.trace.Trace.{Trace}
 use Rattle.spin_core.specs.declared.trace.Watch.{Watch}
-use Rattle.spin_core.specs.Cell.{Use, Knowledge, no_fact, knows, Ways, Going, Carrying, Learns, Meets, Stands, OnWord, by_first, by_second, after, use_of, readers_of, words}
+use Rattle.spin_core.specs.Cell.{Use, Knowledge, no_fact, knows, Ways, Going, Carrying, Learns, MeetsRule, HasView, OnWord, by_first, by_second, after, use_of, readers_of, word_limit}
 
 module _ {E S : Type 0} where
   -- the trace with these entries appended
@@ -34,7 +34,7 @@ Found ways view new before after seen = Learnt ways.2 (use_of ways.1 view) (use_
 module _ {X V E S : Type 0} (holds : ℕ → Trace E S → List V → Type 0) (ways : Ways X V (Trace E S)) where
   -- the rule says that the trace has this name
   abbrev pub Named : ℕ → Type 0
-  Named name = (n : ℕ) (t : Trace E S) (vs : List V) → Meets holds ways n t vs → t.name ≡ name
+  Named name = (n : ℕ) (t : Trace E S) (vs : List V) → MeetsRule holds ways n t vs → t.name ≡ name
 
   -- the watch is a watch of this trace, or knows nothing yet
   abbrev pub MayKnow : Watch E → Type 0
@@ -44,10 +44,10 @@ module _ {X V E S : Type 0} (holds : ℕ → Trace E S → List V → Type 0) (w
   -- party and entries to append that keep the rule.
   abbrev pub TracesTo : Option V → Option X → OnWord S → (List E → List E → ℕ → V → Type 0) → Type 0
   TracesTo view shown g told = (id n : ℕ) (t : Trace E S) (vs : List V) → let s = g.0 (n, t.word) in
-      let found = g.1 (n, t.word) in Meets holds ways n t vs → Stands id view vs → found < words
+      let found = g.1 (n, t.word) in MeetsRule holds ways n t vs → HasView id view vs → found < word_limit
       → (w : V) × (es : List E) × Going ways.0 (use_of ways.1 view) (ways.1 w) shown (readers_of ways.1 vs)
       (Carrying ways.2 t (grown_at t s.1 es) (use_of ways.1 view) (ways.1 w) shown
-      (Meets holds ways s.0 (grown_at t s.1 es) (after id view vs w))) × told t.entries es found w
+      (MeetsRule holds ways s.0 (grown_at t s.1 es) (after id view vs w))) × told t.entries es found w
 
   -- a step that applies f to the first word
   abbrev pub Traces : Option V → Option X → (ℕ → ℕ) → (List E → List E → ℕ → V → Type 0) → Type 0

@@ -28,8 +28,8 @@ module _ {C V : Type 0} where
   IsLast opening entries x = opening.told ≡ true → latest opening.value entries ≡ x
 
   -- the fact known of a value that nobody writes: the value is the last one of the trace
-  abbrev pub last : {S : Type 0} → Opening V → Knowledge (Trace (Entry C V) S) V
-  last opening = knows (λ t x. IsLast opening t.entries x)
+  abbrev pub last_value : {S : Type 0} → Opening V → Knowledge (Trace (Entry C V) S) V
+  last_value opening = knows (λ t x. IsLast opening t.entries x)
 
   -- What a step's moves write, given the party's use before the step, its use after the step, and the value shown to
   -- it. A party that stops writing writes the value shown, if there is one. Nothing is said of a party that goes on

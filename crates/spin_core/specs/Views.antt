@@ -16,16 +16,16 @@ pub data Part : Type 0 where
   holds_starving : Part  -- it holds, and is still a starver: it uses the value once it has stopped starving
 
 -- the party's entries in the plain lock
-abbrev pub entries_of : ℕ → Part → Entries
-entries_of p (holds k) = record { holders = holder p k ∷ []; tickets = []; starvers = [] }
-entries_of p (queues n entered) = record { holders = []; tickets = ticket p n entered ∷ []; starvers = [] }
-entries_of p starves = record { holders = []; tickets = []; starvers = p ∷ [] }
-entries_of p holds_starving = record { holders = holder p writing ∷ []; tickets = []; starvers = p ∷ [] }
-entries_of p _ = no_entries
+abbrev pub entries_of_part : ℕ → Part → Entries
+entries_of_part p (holds k) = record { holders = holder p k ∷ []; tickets = []; starvers = [] }
+entries_of_part p (queues n entered) = record { holders = []; tickets = ticket p n entered ∷ []; starvers = [] }
+entries_of_part p starves = record { holders = []; tickets = []; starvers = p ∷ [] }
+entries_of_part p holds_starving = record { holders = holder p writing ∷ []; tickets = []; starvers = p ∷ [] }
+entries_of_part p _ = no_entries
 
 -- what a party with this part knows of the plain lock: after `knows_served n` the served number is at least n
-abbrev pub Knows : Plain → Part → Type 0
-Knows s x = elim x [ knows_served n ↦ n ≤ serving_word s | _ ↦ Unit {0} ]
+abbrev pub KnowsServed : Plain → Part → Type 0
+KnowsServed s x = elim x [ knows_served n ↦ n ≤ serving_word s | _ ↦ Unit {0} ]
 
 -- how a party with this part uses the value
 abbrev pub use_of_part : Part → Use
@@ -35,7 +35,7 @@ use_of_part _ = off
 
 -- the party with this number has this part in the lock
 abbrev pub HasPart : Plain → ℕ → Part → Type 0
-HasPart s p x = (entries p s ≡ entries_of p x) × Knows s x
+HasPart s p x = (entries p s ≡ entries_of_part p x) × KnowsServed s x
 
 module _ {V : Type 0} (part : V → Part) where
   -- the part of party p: the part of the p-th view; numbers past the list belong to nobody

@@ -7,7 +7,7 @@
 //! its caller what it appended.
 ghost use Rattle.std.specs.Prelude.{◌≡◌, ◌≢◌, ◌⊎◌, ℕ, List, [], Option};
 ghost use Rattle.std.specs.Coded.{coded_option};
-ghost use Rattle.spin_core.specs.Cell.{Ways, off, reads, writes, use_of, Opens, Starts, Fixes, Frees, Freeing, Lends, Seen, Rests};
+ghost use Rattle.spin_core.specs.Cell.{Ways, off, reads, writes, use_of, Opens, Starts, Fixes, Frees, Freeing, MayLend, Seen, Rests};
 ghost use Rattle.spin_core.specs.CellMemory.{Known, cell_owns, cell_shares, permit_owns, permit_shares, writer_owns, writer_shares};
 
 use crate::trace::{Trace, Watch};
@@ -185,11 +185,11 @@ impl<T, V, P: Rule<T, V>> Cell<T, V, P> {
     ///
     /// # Contract
     /// The cell gets the key that the rule names (`lent`). Where the rule holds under the old key, it has to hold
-    /// under the new one (`Lends`). It also has to allow any value in place of one that nobody uses (`Frees`,
+    /// under the new one (`MayLend`). It also has to allow any value in place of one that nobody uses (`Frees`,
     /// `Freeing`).
     pub fn get_mut(&mut self) -> &mut T
         requires free { Freeing (P.ways (P.lent self.old)).2 (Frees (P.ways (P.lent self.old)).0) }
-        requires lends { Lends (P.holds self.old) (P.ways self.old) (P.holds (P.lent self.old)) (P.ways (P.lent self.old)) }
+        requires lends { MayLend (P.holds self.old) (P.ways self.old) (P.holds (P.lent self.old)) (P.ways (P.lent self.old)) }
         ensures* keeps { sem 𝓛 (follows (the_row T.row V.row P.row P.Key.row P.Second.row (record { holds = P.holds; ways = P.ways; lent = P.lent })) T.row self.entry.ghost_name result.ghost_name (λ _. P.lent self.old)) }
     {
         &mut self.value
@@ -311,12 +311,12 @@ impl<T, V, P: Rule<T, V>> WritePermit<'_, T, V, P> {
     ghost use types.Logic.{sem};
     ghost use denote.Follow.{follows};
     ghost use Rattle.spin_core.specs.contracts.cell.WritePermit.{the_row};
-    ghost use Rattle.spin_core.specs.Writer.{with_value};
+    ghost use Rattle.spin_core.specs.Writer.{writer_of};
 
     /// Returns a mutable reference to the value. After the borrow the permit has the value that was written
     /// through it.
     pub fn get_mut(&mut self) -> &mut T
-        ensures* writes_back { sem 𝓛 (follows (the_row (record { mir = named 1; lft = [] }) T.row V.row P.row P.Key.row P.Second.row (record { holds = P.holds; ways = P.ways; lent = P.lent })) T.row self.entry.ghost_name result.ghost_name (with_value self.old)) }
+        ensures* writes_back { sem 𝓛 (follows (the_row (record { mir = named 1; lft = [] }) T.row V.row P.row P.Key.row P.Second.row (record { holds = P.holds; ways = P.ways; lent = P.lent })) T.row self.entry.ghost_name result.ghost_name (writer_of self.old)) }
         ensures value { result.now ≡ self.old.value }
     {
         unsafe { &mut *(&raw const (*self.cell).value as *mut T) }

@@ -8,5 +8,5 @@ module _ {K V : Type 0} (eq : K → K → Bool) where
   answer_in entries key = lookup (eq key) entries
 
   -- these entries have an answer for the key, and the value is a clone of it
-  abbrev pub IsKnown : (V → V → Type 0) → List (K × V) → K → V → Type 0
-  IsKnown is_clone entries key value = (answer : V) × ((answer_in entries key ≡ Some answer) × is_clone answer value)
+  abbrev pub IsLogged : (V → V → Type 0) → List (K × V) → K → V → Type 0
+  IsLogged is_clone entries key value = (answer : V) × ((answer_in entries key ≡ Some answer) × is_clone answer value)

@@ -8,13 +8,13 @@ use Rattle.spin_examples.specs.declared.settings.Settings.{Settings}
 use Rattle.spin_examples.specs.declared.settings.BadLine.{BadLine}
 
 -- the value is decimal digits of a number below 2^bits; a plus sign may come first
-abbrev pub IsNumber : ℕ → List ℕ → ℕ → Type 0
-IsNumber bits value n = let digits = without_leading_plus value in IsNumeral 10 digits × (digits_value 10 digits ≡ n) × (n < 2 ^ bits)
+abbrev pub SetsNumber : ℕ → List ℕ → ℕ → Type 0
+SetsNumber bits value n = let digits = without_leading_plus value in IsNumeral 10 digits × (digits_value 10 digits ≡ n) × (n < 2 ^ bits)
 
 -- the line is the name, an equals sign between spaces, and a value of the name's kind
 abbrev pub Sets : List ℕ → Setting → Type 0
-Sets line (Port n) = (value : List ℕ) × (line ≡ codes "port = " ++ value) × IsNumber 16 value n
-Sets line (Workers n) = (value : List ℕ) × (line ≡ codes "workers = " ++ value) × IsNumber 64 value n
+Sets line (Port n) = (value : List ℕ) × (line ≡ codes "port = " ++ value) × SetsNumber 16 value n
+Sets line (Workers n) = (value : List ℕ) × (line ≡ codes "workers = " ++ value) × SetsNumber 64 value n
 Sets line (Verbose b) = line ≡ codes "verbose = " ++ (if b then codes "true" else codes "false")
 
 abbrev pub SetsNothing : List ℕ → Type 0

@@ -2,7 +2,7 @@
 ghost use Rattle.std.specs.Prelude.{◌≡◌, ◌⊎◌, IfSome, [], ◌∷◌};
 ghost use Rattle.spin_once.specs.Lazy.{initialiser, promise};
 ghost use Rattle.spin_once.specs.LazyPasses.{opening as lazy_opening};
-ghost use Rattle.spin_once.specs.OncePasses.{◌⨾◌, AreOfOne, Calls, Has, OpensWith, TellsValue, WroteNone, lock_of, new_in, opening, opening_of};
+ghost use Rattle.spin_once.specs.OncePasses.{◌⨾◌, AreOfOne, Calls, Has, OpensWithValues, TellsValue, WroteNone, lock_of, new_in, opening, opening_of};
 ghost use Rattle.spin_step.specs.declared.answer.Answer.TheVariants.{Value, Is};
 ghost use Rattle.spin_step.specs.declared.once_calls.OnceCall.TheVariants.{CallOnce, IsCompleted};
 
@@ -14,7 +14,7 @@ use std::thread::{Threads, join};
 
 /// Reads a `Once` that was made with the value `n`.
 pub fn read_given(once: &Once<u64>, n: u64) -> Option<u64>
-    requires { OpensWith (n ∷ []) (opening once.now) }
+    requires { OpensWithValues (n ∷ []) (opening once.now) }
     ensures { IfSome result (λ x. x ≡ n) }
 {
     once.get().copied()

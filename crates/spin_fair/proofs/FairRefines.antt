@@ -19,8 +19,8 @@ use Rattle.spin_step_more.specs.declared.fair_calls.FairPoint.TheVariants.{First
 use Rattle.spin_step_more.specs.Starvers.{most_starvers}
 use Rattle.spin_step_more.specs.FairCalls.{fair_table}
 use Rattle.spin_step_more.proofs.FairSteps.{fair_lock-grants, fair_starve-grants, fair_lock_fair-grants, fair_lock_starved-grants, fair_unstarve-gives, fair_unlock-gives}
-use Rattle.spin_core.specs.Cell.{words, reads, reading, writing as writes_of, Meets}
-use Rattle.spin_core.specs.Views.{Part, HasPart, IsLockOf, entries_of}
+use Rattle.spin_core.specs.Cell.{word_limit, reads, reading, writing as writes_of, MeetsRule}
+use Rattle.spin_core.specs.Views.{Part, HasPart, IsLockOf, entries_of_part}
 use Rattle.spin_core.specs.declared.tie.Opening.{Opening}
 use Rattle.spin_core.specs.declared.trace.Trace.{Trace}
 use Rattle.spin_core.proofs.Leaving.{fair_word-up}
@@ -46,7 +46,7 @@ pub set_is : (n : ℕ) → bit_or n 1 ≡ (if n % 2 == 0 then n + 1 else n)
 set_is n = grind (arith, or_block 1 (n / 2) 0 (n % 2) 1, or_zero_r (n / 2))
 
 module _ {T : Type 0} (value : T) (p : ℕ) (s : Plain) (from : Part) (room : s.cap ≡ most_starvers) (order : IsInOrder s) (one : OneHolds s) (has : HasPart s p from) where
-  small : fair_word s < words
+  small : fair_word s < word_limit
   small = omega (arith, room, order.starvers_fit, one)
 
   -- what each step of a call is in the plain lock
@@ -60,7 +60,7 @@ module _ {T : Type 0} (value : T) (p : ℕ) (s : Plain) (from : Part) (room : s.
   sound c l h comes = grind (arith, comes, fair_lock-grants s p (fair_word s) refl)
 
 -- A party that uses the value holds the lock, and writes.
-facts : (v : View) → MayWrite (part_of fair_meaning) (part_of fair_meaning v) × (reading (use_at fair_meaning v) ≡ 0) × (writes_of (use_at fair_meaning v) ≤ length (entries_of 0 (part_of fair_meaning v)).holders)
+facts : (v : View) → MayWrite (part_of fair_meaning) (part_of fair_meaning v) × (reading (use_at fair_meaning v) ≡ 0) × (writes_of (use_at fair_meaning v) ≤ length (entries_of_part 0 (part_of fair_meaning v)).holders)
 facts (Holding hold.Write) = (λ p. refl, refl, omega arith)
 facts v = (λ p. grind arith, grind arith, grind arith)
 
@@ -87,7 +87,7 @@ module _ {T : Type 0} (value : T) where
     sound = λ c l h p plain vs from comes room order is fine has. sound value p plain from room order (one_holder vs plain order is) has c l h comes;
   }
 
-pub starts : {T : Type 0} (opening : Opening T) (trace : Trace (Done T) (Unit {0})) → trace.name ≡ opening.name → trace.entries ≡ [] → Meets (IsFair opening) (ways_of fair_meaning opening) 0 trace []
+pub starts : {T : Type 0} (opening : Opening T) (trace : Trace (Done T) (Unit {0})) → trace.name ≡ opening.name → trace.entries ≡ [] → MeetsRule (IsFair opening) (ways_of fair_meaning opening) 0 trace []
 starts opening trace named empty = session.starts (fair_table opening.value most_starvers patience) fair_meaning (fair_refines opening.value) opening trace named empty
 
 pub never_reads : (v : View) → use_at fair_meaning v ≡ reads → ⊥

@@ -12,7 +12,7 @@ use Rattle.spin_step.specs.declared.flag_calls.FlagPoint.{FlagPoint}
 use Rattle.spin_step.specs.declared.place.Hold.{Hold}
 use Rattle.spin_step.specs.declared.place.Hold.TheVariants.{Write}
 use Rattle.spin_step.specs.declared.place.Seat.{Seat}
-use Rattle.spin_core.specs.Cell.{reads, Meets}
+use Rattle.spin_core.specs.Cell.{reads, MeetsRule}
 use Rattle.spin_core.specs.Views.{Part, HasPart, IsLockOf}
 use Rattle.spin_core.specs.declared.tie.Opening.{Opening}
 use Rattle.spin_core.specs.declared.trace.Trace.{Trace}
@@ -46,7 +46,7 @@ module _ {T : Type 0} (value : T) where
     sound = sound;
   }
 
-pub starts : {T : Type 0} (opening : Opening T) (trace : Trace (Done T) (Unit {0})) → trace.name ≡ opening.name → trace.entries ≡ [] → Meets (IsFlag opening) (ways_of flag_meaning opening) 0 trace []
+pub starts : {T : Type 0} (opening : Opening T) (trace : Trace (Done T) (Unit {0})) → trace.name ≡ opening.name → trace.entries ≡ [] → MeetsRule (IsFlag opening) (ways_of flag_meaning opening) 0 trace []
 starts opening trace named empty = session.starts (flag_table opening.value) flag_meaning (flag_refines opening.value) opening trace named empty
 
 pub never_reads : (v : View) → use_at flag_meaning v ≡ reads → ⊥

@@ -21,8 +21,8 @@ module _ {L : Type 0} where
   FitsWhole fits parts share more = MatchBool fits (share.amount + more < 2 ^ 64) (share.parts ≡ parts → 2 ^ 64 ≤ share.amount + more)
 
 -- whether the sum of two numbers fits
-abbrev pub Fits : Bool → ℕ → ℕ → Type 0
-Fits fits n more = MatchBool fits (n + more < 2 ^ 64) ((n < 2 ^ 64) × (2 ^ 64 ≤ n + more))
+abbrev pub FitsWord : Bool → ℕ → ℕ → Type 0
+FitsWord fits n more = MatchBool fits (n + more < 2 ^ 64) ((n < 2 ^ 64) × (2 ^ 64 ≤ n + more))
 
 -- the number has grown, or is the same
 abbrev pub GrewIf : Bool → (more old new : ℕ) → Type 0

@@ -1,5 +1,5 @@
 -- In an endless fair schedule there are as many rounds as needed.
-use Rattle.spin_laws.proofs.Names.{◌≡◌, ℕ, zero, suc, ◌+◌, ◌<◌, ◌≤◌, Option, List, [], ◌∷◌, ◌++◌, length, slice_get, refl, ap, sym, ◌∙◌, subst, arith, cases_lt, slice_get_past, Machine, State, after, joined, max, ◌-◌, Move, cases_eq, Test, MovesOn, IsRound, AreRounds, stretch, IsFair, Seen, Hold, Entry, InRounds, AtLast, at_first}
+use Rattle.spin_laws.proofs.Names.{◌≡◌, ℕ, zero, suc, ◌+◌, ◌<◌, ◌≤◌, Option, List, [], ◌∷◌, ◌++◌, length, slice_get, refl, ap, sym, ◌∙◌, subst, arith, cases_lt, slice_get_past, Machine, State, after, joined, max, ◌-◌, Move, cases_eq, Test, MovesOn, IsRound, AreRounds, stretch, IsFairSchedule, Seen, Hold, Entry, InRounds, AtLast, at_first}
 use Rattle.spin_step.proofs.Schedules.{after-append}
 use Rattle.spin_laws.proofs.Waiting.{or_left, occurs-append}
 
@@ -9,7 +9,7 @@ stretch-append schedule start (suc a) b =
     let same : (suc a + b ≡ suc (a + b)) × (suc start + a ≡ start + suc a) = (omega arith, omega arith) in grind (arith, same, stretch-append schedule (suc start) a b)
 
 module _ {W V C L A : Type 0} (m : Machine W V C L A) where
-  module _ (s : State W V C L) (schedule : ℕ → ℕ × Move C V) (fair : IsFair m s schedule) where
+  module _ (s : State W V C L) (schedule : ℕ → ℕ × Move C V) (fair : IsFairSchedule m s schedule) where
     abbrev there : ℕ → State W V C L
     there place = after m s (stretch schedule 0 place)
 

@@ -22,7 +22,7 @@ pub use Rattle.spin_seats.specs.Seats.{seats}
 pub use Rattle.spin_step.specs.Parties.{no_entries}
 pub use Rattle.spin_world_core.proofs.Shapes.{Knows}
 pub use Rattle.std.specs.List.{list_any}
-pub use Rattle.spin_laws.specs.Rounds.{AreRounds, AtLast, InRounds, IsFair, IsRound, IsWaiting, MovesOn, Test, either, grants_party, grants_any, is_awaited, is_step, occurs, refuses_weakly, stretch}
+pub use Rattle.spin_laws.specs.Rounds.{AreRounds, AtLast, InRounds, IsFairSchedule, IsRound, IsWaiting, MovesOn, Test, either, grants_party, grants_any, is_awaited, is_call_step, occurs, refuses_weakly, stretch}
 pub use Rattle.spin_laws.specs.Rw.{HasAsked, UpgradesInThree, WaitsWithout}
 pub use Rattle.spin_step.specs.Schedules.{Entry}
 pub use Rattle.spin_laws.specs.Starving.{MayStarve, ends_or_weak}

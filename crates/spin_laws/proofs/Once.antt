@@ -3,7 +3,7 @@ use Rattle.spin_laws.proofs.Names.{seat_of, Bool, suc, eqb-true, eq-eqb, ◌≡�
 use Rattle.spin_world.proofs.OnceNames.{OnceCall, OncePoint, Look, TryBegin, Await, Run, asks_of, OnceSchedule, state_at, has_closure, OnceMachine}
 use Rattle.spin_world.proofs.OnceOwed.{once_notes, once_facts}
 use Rattle.spin_step.specs.OnceKind.{once}
-use Rattle.spin_world.proofs.Keeping.{run_here}
+use Rattle.spin_world.proofs.OneClosure.{run_here}
 use Rattle.spin_laws.specs.Once.{answers, answers_or_fails, AnswersInFour, AnswersInOne, SomebodyRuns}
 use Rattle.spin_laws.proofs.Waiting.{is_busy, same_beside, no_owner}
 use Rattle.spin_laws.proofs.Loads.{Wait}

@@ -10,7 +10,7 @@ use Rattle.spin_step.specs.Plain.{Plain, is_complete, once_word}
 use Rattle.spin_core.specs.Own.{Numbered, by_party, entries_by}
 use Rattle.spin_core.specs.Passes.{IsCall, outcomes_by}
 use Rattle.spin_core.specs.Passes as passes
-use Rattle.spin_core.specs.Run.{is_played, outcomes}
+use Rattle.spin_core.specs.Run.{is_played, outcomes_of}
 use Rattle.spin_step.specs.Calls as meaning
 use Rattle.spin_step.specs.declared.answer.Answer.{Answer}
 use Rattle.spin_step.specs.declared.answer.Answer.TheVariants.{Value}
@@ -30,7 +30,7 @@ use Rattle.spin_once.specs.OnceValues.{Made}
 use Rattle.spin_once.proofs.Foretold.{split, quiet, leads_on, all_alike, happens_alike, weak_alike, named_later, first_named, named_kept}
 use Rattle.spin_once.proofs.Named.{Object, seat_named, object, renamed, t, m, named_get}
 use Rattle.spin_once.proofs.Resting.{World}
-use Rattle.spin_world.proofs.Keeping.{a_value_stays}
+use Rattle.spin_world.proofs.OneClosure.{a_value_stays}
 use Rattle.spin_world.proofs.Unread.{looks_where_complete}
 use Rattle.spin_world_core.specs.Runs.{seat_of, Seen, opening}
 use Rattle.spin_world_core.specs.Users.{seen_after}
@@ -92,12 +92,12 @@ module _ (given : Option (Unit {0})) where
   HasAlways s es = (ys zs : List Made) → es ≡ ys ++ zs → HasIt (after (m given) s ys)
 
   -- the party's moves have the same outcomes in the object's schedule as in the history
-  outs_same : (p : ℕ) (es : List Made) (s : World) → list_all is_played (outcomes (m given) s es) ≡ true → HasAlways s es → are_plain (entries_by p es) ≡ true
+  outs_same : (p : ℕ) (es : List Made) (s : World) → list_all is_played (outcomes_of (m given) s es) ≡ true → HasAlways s es → are_plain (entries_by p es) ≡ true
       → outcomes_by (t given) p (object (will_fail es) s) (foretold es) ≡ outcomes_by (m given) p s es
   outs_same p [] s played has plain = refl
   outs_same p (e ∷ es) s played has plain =
       let s' : World = (happens (m given) s e.0 e.1).next in
-      let each = and_parts (is_played (happens (m given) s e.0 e.1).outcome) (list_all is_played (outcomes (m given) s' es)) played in
+      let each = and_parts (is_played (happens (m given) s e.0 e.1).outcome) (list_all is_played (outcomes_of (m given) s' es)) played in
       one_more e.0 e.1 (has [] (e ∷ es) refl) each.0 each.1 plain (outs_same p es s' each.1 (λ ys zs is. has (e ∷ ys) zs (ap (λ l. e ∷ l) is)) (later_plain p e es plain))
     where
       by_turn : (b : Bool) (h : Happened ℕ (Unit {0}) (OnceCall (Unit {0})) OncePoint (Answer (Unit {0}))) (k : Happened ℕ (Unit {0}) (OnceCall (Unit {0})) Point (Answer (Unit {0}))) → h.next ≡ object (will_fail es) k.next → (b ≡ true → h.outcome ≡ k.outcome) → outcomes_by (t given) p (object (will_fail es) k.next) (foretold es) ≡ outcomes_by (m given) p k.next es
@@ -105,7 +105,7 @@ module _ (given : Option (Unit {0})) where
       by_turn true h k next own later = rw (own refl, next, later) refl
       by_turn false h k next own later = rw (next, later) refl
 
-      one_more : (q : ℕ) (move : OneMove) → HasIt s → is_played (happens (m given) s q move).outcome ≡ true → list_all is_played (outcomes (m given) (happens (m given) s q move).next es) ≡ true
+      one_more : (q : ℕ) (move : OneMove) → HasIt s → is_played (happens (m given) s q move).outcome ≡ true → list_all is_played (outcomes_of (m given) (happens (m given) s q move).next es) ≡ true
           → are_plain (entries_by p ((q, move) ∷ es)) ≡ true → outcomes_by (t given) p (object (will_fail es) (happens (m given) s q move).next) (foretold es) ≡ outcomes_by (m given) p (happens (m given) s q move).next es
           → outcomes_by (t given) p (object (will_fail ((q, move) ∷ es)) s) (foretold ((q, move) ∷ es)) ≡ outcomes_by (m given) p s ((q, move) ∷ es)
       one_more q Weak has head tail plain later = rw (weak_alike given s q es (slice_get s.seats q) refl head) (grind (arith, plain, later))
@@ -121,7 +121,7 @@ module _ (given : Option (Unit {0})) where
   abbrev From : ℕ → World
   From n = at_first (m given) n
 
-  as_object : (n : ℕ) (es : List Made) → list_all is_played (outcomes (m given) (From n) es) ≡ true → after (t given) (at_first (t given) n) (foretold es) ≡ object (λ p. false) (after (m given) (From n) es)
+  as_object : (n : ℕ) (es : List Made) → list_all is_played (outcomes_of (m given) (From n) es) ≡ true → after (t given) (at_first (t given) n) (foretold es) ≡ object (λ p. false) (after (m given) (From n) es)
   as_object n es played = ap (λ o. after (t given) o (foretold es)) (sym (first_named given (will_fail es) n)) ∙ (all_alike given es (From n) played).0
 
   lies : (o : Option (Unit {0})) → is_some o ≡ true → o ≡ Some tt
@@ -137,21 +137,21 @@ module _ (given : Option (Unit {0})) where
       lies (after (t given) (at_first (t given) n) past).value (sym (a_value_stays given n past []).complete ∙ complete_by plain (sym word ∙ is))
 
   -- after a schedule without skipped moves, if the word says that there is a value, there is one
-  has_it : (n : ℕ) (es : List Made) → list_all is_played (outcomes (m given) (From n) es) ≡ true → HasIt (after (m given) (From n) es)
+  has_it : (n : ℕ) (es : List Made) → list_all is_played (outcomes_of (m given) (From n) es) ≡ true → HasIt (after (m given) (From n) es)
   has_it n es played is =
       let there = as_object n es played in
       ap (λ (o : Object). o.value) (sym there) ∙ told_there n (foretold es) (ap (λ (o : Object). o.words) there ∙ is)
 
   -- each part of a schedule without skipped moves has none
-  played_parts : (es later : List Made) (s : World) → list_all is_played (outcomes (m given) s (es ++ later)) ≡ true
-      → (list_all is_played (outcomes (m given) s es) ≡ true) × (list_all is_played (outcomes (m given) (after (m given) s es) later) ≡ true)
+  played_parts : (es later : List Made) (s : World) → list_all is_played (outcomes_of (m given) s (es ++ later)) ≡ true
+      → (list_all is_played (outcomes_of (m given) s es) ≡ true) × (list_all is_played (outcomes_of (m given) (after (m given) s es) later) ≡ true)
   played_parts [] later s is = (refl, is)
   played_parts (e ∷ es) later s is = grind (arith, is, played_parts es later (happens (m given) s e.0 e.1).next)
 
-  has_always : (n : ℕ) (old more : List Made) → list_all is_played (outcomes (m given) (From n) (old ++ more)) ≡ true → HasAlways (after (m given) (From n) old) more
+  has_always : (n : ℕ) (old more : List Made) → list_all is_played (outcomes_of (m given) (From n) (old ++ more)) ≡ true → HasAlways (after (m given) (From n) old) more
   has_always n old more played ys zs is =
       subst HasIt (after-append (m given) (From n) old ys)
-      (has_it n (old ++ ys) (played_parts (old ++ ys) zs (From n) (subst (λ l. list_all is_played (outcomes (m given) (From n) l) ≡ true) (ap (λ l. old ++ l) is ∙ sym (append_assoc old ys zs)) played)).0)
+      (has_it n (old ++ ys) (played_parts (old ++ ys) zs (From n) (subst (λ l. list_all is_played (outcomes_of (m given) (From n) l) ≡ true) (ap (λ l. old ++ l) is ∙ sym (append_assoc old ys zs)) played)).0)
 
   -- a party that has made its last step at the end of this schedule
   abbrev at_end : ℕ → List Made → Option (Numbered View)
@@ -163,7 +163,7 @@ module _ (given : Option (Unit {0})) where
   called c a before now old new (p, may, is, own, outs, (more, least, new_is, mine, played, came), (rest, comes, own_is, outs_is, (i, rest_is, comes_are))) =
       let own_are : own ≡ Begin c ∷ (replicate i Step ++ Step ∷ []) = own_is ∙ ap (λ l. Begin c ∷ l) rest_is in
       let plain : are_plain (entries_by p more) ≡ true = ap are_plain (mine ∙ ap (by_party p) own_are) ∙ made_plain p c i in
-      let all : (k : ℕ) → list_all is_played (outcomes (m given) (From (least + k)) (old ++ more)) ≡ true = λ k. subst (λ l. list_all is_played (outcomes (m given) (From (least + k)) l) ≡ true) new_is (played k) in (
+      let all : (k : ℕ) → list_all is_played (outcomes_of (m given) (From (least + k)) (old ++ more)) ≡ true = λ k. subst (λ l. list_all is_played (outcomes_of (m given) (From (least + k)) l) ≡ true) new_is (played k) in (
         p,
         (
           p,
@@ -176,7 +176,7 @@ module _ (given : Option (Unit {0})) where
             least,
             subst (λ l. foretold l ≡ foretold_till old l ++ foretold more) (sym new_is) (split old more),
             own_kept p more plain ∙ mine,
-            λ k. ap (λ o. list_all is_played (outcomes (t given) o (foretold new))) (sym (first_named given (will_fail new) (least + k))) ∙ (all_alike given new (From (least + k)) (played k)).1,
+            λ k. ap (λ o. list_all is_played (outcomes_of (t given) o (foretold new))) (sym (first_named given (will_fail new) (least + k))) ∙ (all_alike given new (From (least + k)) (played k)).1,
             λ k.
                 ap (λ o. outcomes_by (t given) p o (foretold more))
                 (ap (λ l. after (t given) (at_first (t given) (least + k)) (foretold_till old l)) new_is ∙ ap (λ o. after (t given) o (foretold_till old (old ++ more))) (sym (first_named given (will_fail (old ++ more)) (least + k))) ∙ (leads_on given old more (From (least + k)) (all k)).0)

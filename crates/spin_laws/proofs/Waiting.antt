@@ -1,5 +1,5 @@
 -- What events keep of a party that waits in a call, of a party that has leaked, and of others.
-use Rattle.spin_laws.proofs.Names.{seat_of, not, is_empty, goes_on, ◌⊎◌, ⊎_elim, is_step, ◌≡◌, ℕ, ◌==◌, ◌&&◌, ◌||◌, Bool, true, false, Option, Some, None, List, [], ◌∷◌, ◌++◌, refl, arith, eqb-true, false≢true, may_read, and_parts, Machine, State, happens, after, is_owners, Seen, Scene, scene, Hold, Seat, Calling, Holding, Leaked, Gone, Next, Move, Outcome, Test, occurs, is_awaited, MovesOn, get-set_other, slice_get}
+use Rattle.spin_laws.proofs.Names.{seat_of, not, is_empty, goes_on, ◌⊎◌, ⊎_elim, is_call_step, ◌≡◌, ℕ, ◌==◌, ◌&&◌, ◌||◌, Bool, true, false, Option, Some, None, List, [], ◌∷◌, ◌++◌, refl, arith, eqb-true, false≢true, may_read, and_parts, Machine, State, happens, after, is_owners, Seen, Scene, scene, Hold, Seat, Calling, Holding, Leaked, Gone, Next, Move, Outcome, Test, occurs, is_awaited, MovesOn, get-set_other, slice_get}
 use Rattle.spin_world_core.proofs.Names.{true≢false, scene_of, scene_at, skipped, StepKind, Step, Weak}
 pub use Rattle.std.proofs.lemmas.Bool.{or_left, or_right}
 use Rattle.spin_step.specs.StepKinds as step_kind
@@ -53,11 +53,11 @@ module _ {W V C L A : Type 0} (m : Machine W V C L A) where
 
   -- the event is a step of the party d, or begins the release of what it held
   abbrev pub awaited_of : ℕ → Option Hold → Test V C L A
-  awaited_of d held q move what x = (q == d) && (is_step what || lets_go held move what)
+  awaited_of d held q move what x = (q == d) && (is_call_step what || lets_go held move what)
 
   -- a move with an idle outcome is not awaited, and neither is a move of another party
   pub unawaited : (d q : ℕ) (held : Option Hold) (move : Move C V) (what : Outcome A V) → (q ≡ d → is_idle what ≡ true)
-      → ((q == d) && (is_step what || lets_go held move what)) ≡ false
+      → ((q == d) && (is_call_step what || lets_go held move what)) ≡ false
   unawaited d q held move what idle = grind (arith, idle, eqb-true)
 
   pub occurs-append : (test : Test V C L A) (s : State W V C L) (xs ys : List (ℕ × Move C V)) → occurs m test s (xs ++ ys) ≡ (occurs m test s xs || occurs m test (after m s xs) ys)

@@ -12,4 +12,4 @@ pub mod Counts
 pub mod Moments
 pub mod Onces
 pub mod Progress
-pub mod Turns
+pub mod TicketTurns

@@ -3,7 +3,7 @@ use Rattle.std.specs.Prelude.{◌≡◌, ℕ, Option, Some, None, List, [], ◌�
 use mathlib.Core.List.{IsPrefix}
 use Rattle.spin_step.specs.Plain.{Plain}
 use Rattle.spin_core.specs.Own.{Numbered}
-use Rattle.spin_core.specs.Passes.{IsNumber, IsCall, Made}
+use Rattle.spin_core.specs.Passes.{HasNumber, IsCall, Made}
 use Rattle.spin_core.specs.Run.{IsPlayed}
 use Rattle.spin_step.specs.declared.place.Hold.{Hold}
 use Rattle.spin_step.specs.declared.place.Seat.{Seat}
@@ -22,7 +22,7 @@ IsInCall {L = L} call seat = (l : L) × (held : Option Hold) × (seat ≡ Some (
 -- A pass with this view is a party of a world. The world has the history `new`, and none of its moves is skipped.
 pub record OfPass {W V C L A X : Type 0} (m : Machine W V C L A) (view : Option (Numbered X)) (new : List (Entry C V)) : Type 0 where
   pub party : ℕ
-  pub is_number : IsNumber party view
+  pub is_number : HasNumber party view
   pub parties : ℕ
   pub played : IsPlayed m parties new
 

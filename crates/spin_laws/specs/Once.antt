@@ -7,7 +7,7 @@ use Rattle.spin_step.specs.declared.place.Hold.{Hold}
 use Rattle.spin_step.specs.declared.once_calls.OnceCall.{OnceCall}
 use Rattle.spin_step.specs.OnceCalls.{OnceMachine}
 use Rattle.spin_world_core.specs.Runs.{Seen, state_at}
-use Rattle.spin_world.specs.Keeping.{OnceSchedule, RunsClosure, has_closure}
+use Rattle.spin_world.specs.OnceClosures.{OnceSchedule, RunsClosure, has_closure}
 use Rattle.spin_laws.specs.Rounds.{Test, InRounds, AtLast}
 use Rattle.spin_step.specs.declared.schedule.Outcome.TheVariants as outcome
 
@@ -19,12 +19,12 @@ abbrev pub answers_or_fails : {W V C L A : Type 0} → Machine W V C L A → ℕ
 answers_or_fails m p q move o x = elim o [ outcome.Answered a b ↦ (q == p) || says_failure (m.says a) | _ ↦ false ]
 
 -- the call has a closure
-abbrev pub HasClosure : {W V C L A : Type 0} → Machine W V C L A → Seen W V C L → ℕ → C → Option Hold → Type 0
-HasClosure m seen p c h = has_closure (m.asks c h) ≡ true
+abbrev pub BringsClosure : {W V C L A : Type 0} → Machine W V C L A → Seen W V C L → ℕ → C → Option Hold → Type 0
+BringsClosure m seen p c h = has_closure (m.asks c h) ≡ true
 
 -- In any four rounds, a call with a closure is answered, or some closure fails
 abbrev pub AnswersInFour : {V : Type 0} → OnceMachine V → ℕ → OnceSchedule V → List (OnceSchedule V) → Type 0
-AnswersInFour m = InRounds m (HasClosure m) 4 (answers_or_fails m)
+AnswersInFour m = InRounds m (BringsClosure m) 4 (answers_or_fails m)
 
 -- While the word says that a closure runs, some party runs it
 abbrev pub SomebodyRuns : {V : Type 0} → OnceMachine V → ℕ → OnceSchedule V → Type 0
@@ -40,4 +40,4 @@ AnswersInOne m n past = InRounds m (λ seen p c h. (state_at m n past).words ≡
 
 -- Starvation freedom of a call with a closure: in an endless fair schedule the call is answered, or some closure fails
 abbrev pub AnswersAtLast : {V : Type 0} → OnceMachine V → ℕ → OnceSchedule V → (ℕ → Entry (OnceCall V) V) → Type 0
-AnswersAtLast m = AtLast m (HasClosure m) (answers_or_fails m)
+AnswersAtLast m = AtLast m (BringsClosure m) (answers_or_fails m)

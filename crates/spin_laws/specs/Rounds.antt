@@ -26,16 +26,16 @@ occurs m test s [] = false
 occurs m test s (e ∷ es) = let h = happens m s e.0 e.1 in test e.0 e.1 h.outcome (slice_get h.next.seats e.0) || occurs m test h.next es
 
 -- a step of a call
-abbrev pub is_step : {V A : Type 0} → Outcome A V → Bool
-is_step o = elim o [ outcome.GoingOn ↦ true | outcome.Answered a b ↦ true | _ ↦ false ]
+abbrev pub is_call_step : {V A : Type 0} → Outcome A V → Bool
+is_call_step o = elim o [ outcome.GoingOn ↦ true | outcome.Answered a b ↦ true | _ ↦ false ]
 
 -- a plain step by which a party gives up what it has in the lock
-abbrev pub gives_up : Change → Bool
-gives_up change = elim change [ releases p kind ↦ true | serves p ↦ true | stops_starving p ↦ true | _ ↦ false ]
+abbrev pub is_giving_up : Change → Bool
+is_giving_up change = elim change [ releases p kind ↦ true | serves p ↦ true | stops_starving p ↦ true | _ ↦ false ]
 
--- the call is a release: its answer `done` implies a plain step that passes `gives_up`
+-- the call is a release: its answer `done` implies a plain step that passes `is_giving_up`
 abbrev pub is_release : Asked → Bool
-is_release what = list_any (list_any gives_up) (own_steps (what.answers done) 0)
+is_release what = list_any (list_any is_giving_up) (own_steps (what.answers done) 0)
 
 -- the event begins a call that releases what the party holds
 abbrev pub begins_release : {W V C L A : Type 0} → Machine W V C L A → Hold → Move C V → Outcome A V → Bool
@@ -44,7 +44,7 @@ begins_release m h _ _ = false
 
 -- others may wait for this event of a party with this seat: it is a step of the party's call, or begins the party's release
 abbrev pub is_awaited : {W V C L A : Type 0} → Machine W V C L A → Option (Seat C L) → Move C V → Outcome A V → Bool
-is_awaited m (Some (Calling c l h)) move o = is_step o
+is_awaited m (Some (Calling c l h)) move o = is_call_step o
 is_awaited m (Some (Holding h)) move o = begins_release m h move o
 is_awaited m _ move o = false
 
@@ -81,7 +81,7 @@ grants_any m q move o x = elim o [ outcome.Answered a b ↦ says_granted (m.says
 
 -- the party's exchange fails spuriously
 abbrev pub refuses_weakly : {V C L A : Type 0} → ℕ → Test V C L A
-refuses_weakly p q move o x = elim move [ Weak ↦ (q == p) && is_step o | _ ↦ false ]
+refuses_weakly p q move o x = elim move [ Weak ↦ (q == p) && is_call_step o | _ ↦ false ]
 
 -- Endless schedules
 
@@ -92,8 +92,8 @@ stretch schedule start (suc n) = schedule start ∷ stretch schedule (suc start)
 
 -- The schedule is fair. From each place on, each party in a call takes a step of this call at some time. Each party that
 -- holds the lock begins to release it at some time, and no party has leaked the lock.
-abbrev pub IsFair : {W V C L A : Type 0} → Machine W V C L A → State W V C L → (ℕ → ℕ × Move C V) → Type 0
-IsFair m s schedule =
+abbrev pub IsFairSchedule : {W V C L A : Type 0} → Machine W V C L A → State W V C L → (ℕ → ℕ × Move C V) → Type 0
+IsFairSchedule m s schedule =
     (place p : ℕ) → let there = after m s (stretch schedule 0 place) in (n : ℕ) × MovesOn m there (stretch schedule place n) p (slice_get there.seats p)
 
 -- Promises to a party in a call
@@ -118,7 +118,7 @@ AtLast {C = C} {L = L} m Q test n past schedule =
     let s = after m (at_first m n) past in
     (p : ℕ) (c : C) (l : L) (h : Option Hold) → slice_get s.seats p ≡ Some (Calling c l h)
     → Q (seen_after m (opening m n) past) p c h
-    → IsFair m s schedule → (place : ℕ) × (occurs m (test p) s (stretch schedule 0 place) ≡ true)
+    → IsFairSchedule m s schedule → (place : ℕ) × (occurs m (test p) s (stretch schedule 0 place) ≡ true)
 
 -- the event passes one of these tests
 abbrev pub either : {V C L A : Type 0} → Test V C L A → Test V C L A → Test V C L A

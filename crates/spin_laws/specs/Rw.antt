@@ -8,7 +8,7 @@ use Rattle.spin_step.specs.declared.place.Hold.{Hold}
 use Rattle.spin_step.specs.declared.schedule.Move.TheVariants.{Weak}
 use Rattle.spin_world_core.specs.Runs.{Seen, opening}
 use Rattle.spin_world_core.specs.Users.{seen_after}
-use Rattle.spin_laws.specs.Rounds.{Test, InRounds, AtLast, either, grants_party, grants_any, refuses_weakly, is_step}
+use Rattle.spin_laws.specs.Rounds.{Test, InRounds, AtLast, either, grants_party, grants_any, refuses_weakly, is_call_step}
 
 -- the party has asked to upgrade
 abbrev pub HasAsked : {W V C L : Type 0} → Seen W V C L → ℕ → C → Option Hold → Type 0
@@ -25,7 +25,7 @@ UpgradesAtLast m = AtLast m HasAsked (λ p. either (grants_party m p) (refuses_w
 
 -- some exchange fails spuriously
 abbrev pub refuses_any : {V C L A : Type 0} → Test V C L A
-refuses_any q move o x = elim move [ Weak ↦ is_step o | _ ↦ false ]
+refuses_any q move o x = elim move [ Weak ↦ is_call_step o | _ ↦ false ]
 
 -- the kind of the first holder that does not just read; `reading` if there is no such holder
 abbrev pub leading : List Holder → Kind

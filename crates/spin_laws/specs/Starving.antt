@@ -11,12 +11,12 @@ use Rattle.spin_step.specs.declared.place.Seat.TheVariants.{Calling, Holding}
 use Rattle.spin_step.specs.declared.schedule.Move.TheVariants.{Weak}
 use Rattle.spin_world_core.specs.Runs.{Seen, opening}
 use Rattle.spin_world_core.specs.Users.{seen_after}
-use Rattle.spin_laws.specs.Rounds.{grants_any, Test, occurs, is_step, stretch, IsFair}
+use Rattle.spin_laws.specs.Rounds.{grants_any, Test, occurs, is_call_step, stretch, IsFairSchedule}
 use Rattle.spin_step.specs.declared.schedule.Outcome.TheVariants as outcome
 
 -- the party's call is answered, or some exchange fails spuriously
 abbrev pub ends_or_weak : {V C L A : Type 0} → ℕ → Test V C L A
-ends_or_weak p q Weak o x = is_step o
+ends_or_weak p q Weak o x = is_call_step o
 ends_or_weak p q move (outcome.Answered a b) x = q == p
 ends_or_weak p q move _ x = false
 
@@ -28,7 +28,7 @@ MayWaitWhere {V = V} {C = C} {L = L} P test m n what =
     (past : List (Entry C V)) × (schedule : ℕ → Entry C V) × (p : ℕ) × (c : C) × (l : L) × (h : Option Hold)
     × P (seen_after m (opening m n) past) p
     × (let s = after m (at_first m n) past in (slice_get s.seats p ≡ Some (Calling c l h)) × (m.asks c h ≡ what)
-    × IsFair m s schedule × ((place : ℕ) → occurs m (test p) s (stretch schedule 0 place) ≡ false))
+    × IsFairSchedule m s schedule × ((place : ℕ) → occurs m (test p) s (stretch schedule 0 place) ≡ false))
 
 -- A call with the promise `what` may starve: some endless fair schedule never answers it, and in that schedule no
 -- exchange fails spuriously.
@@ -53,7 +53,7 @@ WaitsBesideIdleStarver seen p = (is_starver p seen.plain.starvers ≡ false) × 
 
 -- some party is granted what it asks, or some exchange fails spuriously
 abbrev pub grants_or_weak : {W V C L A : Type 0} → Machine W V C L A → Test V C L A
-grants_or_weak m q move o x = elim move [ Weak ↦ is_step o | other ↦ grants_any m q other o x ]
+grants_or_weak m q move o x = elim move [ Weak ↦ is_call_step o | other ↦ grants_any m q other o x ]
 
 -- Calls with the promise `what` are not free of deadlock. After some schedule of n parties, a party is in such a call,
 -- and P holds of this party and this state. From there some endless fair schedule grants nobody anything, and in that

@@ -3,22 +3,18 @@ use Rattle.std.specs.Prelude.{◌≡◌, ℕ, ◌+◌, ◌-◌, ◌*◌, ◌<◌
 use Rattle.spin_step.specs.Plain.{ticket_limit}
 use Rattle.spin_step.specs.Machines.{Machine}
 use Rattle.spin_step.specs.Schedules.{Entry, after, at_first}
-use Rattle.spin_step.specs.declared.answer.Answer.{Answer}
 use Rattle.spin_step.specs.declared.place.Hold.{Hold}
 use Rattle.spin_step.specs.declared.place.Seat.TheVariants.{Calling}
 use Rattle.spin_step.specs.declared.schedule.Move.{Move}
 use Rattle.spin_step.specs.declared.ticket_calls.TicketCall.{TicketCall}
 use Rattle.spin_step.specs.declared.ticket_calls.TicketPoint.{TicketPoint}
-use Rattle.spin_step.specs.declared.ticket_calls.TicketWords.{TicketWords}
 use Rattle.spin_world_core.specs.Joined.{joined}
 use Rattle.spin_world_core.specs.Runs.{Seen}
 use Rattle.spin_step.specs.Parties.{entries}
 use Rattle.spin_laws.specs.Rounds.{occurs, AreRounds, InRounds, AtLast, grants_party}
 use Rattle.spin_step.specs.declared.ticket_calls.TicketCall.TheVariants.{Lock}
-use Rattle.spin_world.specs.Turns.{waits_with}
-
-abbrev pub TicketMachine : Type 0 → Type 0
-TicketMachine V = Machine TicketWords V TicketCall TicketPoint (Answer V)
+use Rattle.spin_world.specs.Ticket.{TicketMachine}
+use Rattle.spin_world.specs.TicketOrder.{waits_with}
 
 -- the party waits with the ticket t
 abbrev pub WaitsWith : {W V C L : Type 0} → ℕ → Seen W V C L → ℕ → C → Option Hold → Type 0

@@ -22,7 +22,7 @@ ghost use Rattle.spin_seats.specs.Rule as seats;
 ghost use Rattle.spin_mutex.specs.Queue as ticket_mutex;
 ghost use Rattle.spin_mutex.specs.Queue.{View as TicketMutexView};
 ghost use Rattle.spin_laws.specs.Counts.{KeepsLimits, StepsOfCall, TakesTicketWithin, HasChanged};
-ghost use Rattle.spin_laws.specs.Turns.{EntersInTurn};
+ghost use Rattle.spin_laws.specs.TicketTurns.{EntersInTurn};
 
 /// A try, an `is_locked` and a release of a pass of a `SpinMutex` take one step each.
 ///

@@ -19,7 +19,7 @@ ghost use Rattle.spin_step_more.specs.declared.rw_calls.RwCall.{RwCall};
 ghost use Rattle.spin_world.specs.declared.rw.Rw.{Rw};
 ghost use Rattle.spin_world.specs.declared.once.OnceObject.{OnceObject};
 ghost use Rattle.spin_step.specs.declared.once_calls.OnceCall.{OnceCall};
-ghost use Rattle.spin_world.specs.Keeping.{OnceSchedule};
+ghost use Rattle.spin_world.specs.OnceClosures.{OnceSchedule};
 ghost use Rattle.spin_world.specs.declared.barrier.BarrierObject.{BarrierObject};
 ghost use Rattle.spin_seats.specs.declared.calls.SeatsCall.{SeatsCall};
 ghost use Rattle.spin_world_seats.specs.declared.seats.Seats.{Seats};

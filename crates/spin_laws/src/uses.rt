@@ -77,8 +77,8 @@ pub fn count_the_readers<T, R>(pass: RwPass<'_, T, R>) -> (usize, RwPass<'_, T, 
 /// Asks once whether a `Once` has a value.
 pub fn look_at_a_once<T, R>(pass: OncePass<'_, T, R>) -> (bool, OncePass<'_, T, R>)
     ensures { AtAMoment (once_machine (once_passes.given pass.entry)) once.IsCompleted (once_passes.party result.1)
-        (foretold_till (once_passes.schedule pass.entry) (once_passes.schedule result.1))
-        (foretold (once_passes.schedule result.1)) (Was has_value result.0) }
+        (foretold_till (once_passes.moves_made pass.entry) (once_passes.moves_made result.1))
+        (foretold (once_passes.moves_made result.1)) (Was has_value result.0) }
 {
     a_look_at_a_once_was_so_at_a_moment();
     pass.is_completed()

@@ -21,7 +21,7 @@ use Rattle.spin_core.specs.Views.{Part, queues, HasPart, IsLockOf}
 use Rattle.spin_core.proofs.Leaving.{serving_word-up}
 use Rattle.spin_core.proofs.Owners.{OfTickets, one_ticket}
 use Rattle.spin_session.specs.Meaning.{Peeks, use_at, ways_of, with_second, FindsAt, SoundOn, part_of, seat_after, ComesFrom, RefinesOn}
-use Rattle.spin_core.specs.Cell.{reads, writes, Meets}
+use Rattle.spin_core.specs.Cell.{reads, writes, MeetsRule}
 use Rattle.spin_core.specs.declared.tie.Opening.{Opening}
 use Rattle.spin_core.specs.declared.trace.Trace.{Trace}
 use Rattle.spin_session.specs.Operating.{Executes, SameSteps}
@@ -93,7 +93,7 @@ module _ {T : Type 0} (value : T) (first : ℕ) where
   pub alike : SameSteps (ticket_table value 0) (ticket_table value first)
   alike = record { begins = λ c h. refl; places = λ l. refl; operations = λ c l h. refl; goes = λ c l h n. grind arith }
 
-pub starts : {T : Type 0} (key : Opening T) (t : Trace (Made T) ℕ) → t.name ≡ key.name → t.entries ≡ [] → t.word ≡ key.start → key.start ≤ ticket_limit → Meets (IsQueue key) (ways_of ticket_meaning key) key.start t []
+pub starts : {T : Type 0} (key : Opening T) (t : Trace (Made T) ℕ) → t.name ≡ key.name → t.entries ≡ [] → t.word ≡ key.start → key.start ≤ ticket_limit → MeetsRule (IsQueue key) (ways_of ticket_meaning key) key.start t []
 unfolding ticket_refines
 starts key t named empty word small =
     starts_on with_second (ticket_table key.value key.start) ticket_meaning (ticket_refines key.value key.start) key small t named empty (word ∙ opened key.start)

@@ -3,7 +3,7 @@ use Rattle.std.proofs.Common.{◌≡◌, ◌≤◌, le_of_eq, ◌++◌, ℕ, ◌
 use mathlib.Core.Logic.{◌⊎◌, inl, inr}
 use Rattle.spin_core.specs.Cell.{Moved, Keeps, use_of, off, writes}
 use Rattle.spin_core.specs.Own.{Numbered, what}
-use Rattle.spin_core.specs.Passes.{mark_of, IsCall, Begins as BeginsWith, IsStep, Waits}
+use Rattle.spin_core.specs.Passes.{own_mark, IsCall, Begins as BeginsWith, IsOneStep, Waits}
 use Rattle.spin_core.specs.Spots as spots
 use Rattle.spin_core.specs.Stable.{maybe_stable}
 use Rattle.spin_core.specs.Traced.{Watches, Named, Found}
@@ -23,7 +23,7 @@ use Rattle.spin_step.specs.declared.place.Seat.TheVariants.{Idle}
 use Rattle.spin_step.specs.declared.schedule.Move.TheVariants.{Step, Weak}
 use Rattle.spin_step.specs.declared.schedule.Outcome.TheVariants.{GoingOn, Answered}
 use Rattle.spin_step.specs.declared.stepped.Next.TheVariants.{Continue, Answers}
-use Rattle.spin_once.specs.Accounts.{Place, bare_place, model_of, Moves, Since, WroteNone, Entered, Comes, Under}
+use Rattle.spin_once.specs.Accounts.{Place, bare_place, model_of, Moves, MadeSince, WroteNone, Entered, Comes, Under}
 use Rattle.spin_once.specs.OnceValues.{Valued, bare_watch, Sees}
 use Rattle.spin_once.specs.OnceValues.{made as made_in}
 use Rattle.spin_once.specs.Once.{is_run, runs_closure, reader, in_call, Call, View, Onward, Moving, Says, OneMove, IsAt, IsFailure, Fails, IsFailedCall, IsOnce, Told, once_ways, seat_of, words_of, use_of_view, use_of_party, next_at, view_of, turn}
@@ -35,11 +35,11 @@ use Rattle.spin_once.proofs.Valued.{as_long, both_none, learns, stays, sees_on}
 
 -- ---- the moves of the model
 module _ {T S : Type 0} (p q : Place T S) (course : Moving) where
-  pub opened : Since p course q → spots.Since model_of course (bare_place p) (bare_place q)
+  pub opened : MadeSince p course q → spots.Since model_of course (bare_place p) (bare_place q)
   unfolding Moves
   opened since = since.2
 
-  pub sealed : spots.Since model_of course (bare_place p) (bare_place q) → Since p course q
+  pub sealed : spots.Since model_of course (bare_place p) (bare_place q) → MadeSince p course q
   unfolding Moves
   sealed moves = (moves.2, moves.1, moves)
 
@@ -53,23 +53,23 @@ module _ {T S : Type 0} (p q r : Place T S) where
       (k, may, rw (← same) is', more ++ more', whole' ∙ ap (λ l. l ++ more') whole ∙ append_assoc p.2.entries more more', both_none k more more' none (rw (← same) none'))
 
   module _ (c : Call) where
-    comes_by : Under c p q → (next : Onward) → Since q (IsStep (has_begun (what q.1)) c (outcome_of next)) r → WroteNone q r → Comes c next p r
+    comes_by : Under c p q → (next : Onward) → MadeSince q (IsOneStep (has_begun (what q.1)) c (outcome_of next)) r → WroteNone q r → Comes c next p r
     comes_by (inl ((is_in, none), begun)) (Continue k) since silent =
-        (sealed p r (BeginsWith c Waits) (stays_in model_of c (bare_place p) (bare_place q) (bare_place r) (opened p q (BeginsWith c Waits) is_in) (opened q r (IsStep true c (outcome_of (Continue k))) (rw begun at since))), silent_on none silent)
+        (sealed p r (BeginsWith c Waits) (stays_in model_of c (bare_place p) (bare_place q) (bare_place r) (opened p q (BeginsWith c Waits) is_in) (opened q r (IsOneStep true c (outcome_of (Continue k))) (rw begun at since))), silent_on none silent)
     comes_by (inl ((is_in, none), begun)) (Answers a h) since silent =
-        (sealed p r (IsCall c a) (is_answered model_of c (bare_place p) (bare_place q) (bare_place r) (opened p q (BeginsWith c Waits) is_in) a (opened q r (IsStep true c (outcome_of {L = OncePoint} (Answers a h))) (rw begun at since))), silent_on none silent)
+        (sealed p r (IsCall c a) (is_answered model_of c (bare_place p) (bare_place q) (bare_place r) (opened p q (BeginsWith c Waits) is_in) a (opened q r (IsOneStep true c (outcome_of {L = OncePoint} (Answers a h))) (rw begun at since))), silent_on none silent)
     comes_by (inr (same, not)) (Continue k) since silent =
-        subst (λ x. Entered c x r) same (sealed q r (BeginsWith c Waits) (comes_in model_of c (bare_place q) (bare_place r) (opened q r (IsStep false c (outcome_of (Continue k))) (rw not at since))), silent)
+        subst (λ x. Entered c x r) same (sealed q r (BeginsWith c Waits) (comes_in model_of c (bare_place q) (bare_place r) (opened q r (IsOneStep false c (outcome_of (Continue k))) (rw not at since))), silent)
     comes_by (inr (same, not)) (Answers a h) since silent =
-        subst (λ x. Comes c (Answers a h) x r) same (sealed q r (IsCall c a) (in_one model_of c (bare_place q) (bare_place r) a (opened q r (IsStep false c (outcome_of {L = OncePoint} (Answers a h))) (rw not at since))), silent)
+        subst (λ x. Comes c (Answers a h) x r) same (sealed q r (IsCall c a) (in_one model_of c (bare_place q) (bare_place r) a (opened q r (IsOneStep false c (outcome_of {L = OncePoint} (Answers a h))) (rw not at since))), silent)
 
 -- a call whose closure gives a value
-pub completes : {T S : Type 0} (p q r : Place T S) (c : Call) → Entered c p q → Since q (IsStep true c (Answered (Value tt) None)) r → Since p (IsCall c (Value tt)) r
+pub completes : {T S : Type 0} (p q r : Place T S) (c : Call) → Entered c p q → MadeSince q (IsOneStep true c (Answered (Value tt) None)) r → MadeSince p (IsCall c (Value tt)) r
 completes p q r c (is_in, none) since =
-    sealed p r (IsCall c (Value tt)) (is_answered model_of c (bare_place p) (bare_place q) (bare_place r) (opened p q (BeginsWith c Waits) is_in) (Value tt) (opened q r (IsStep true c (Answered (Value tt) None)) since))
+    sealed p r (IsCall c (Value tt)) (is_answered model_of c (bare_place p) (bare_place q) (bare_place r) (opened p q (BeginsWith c Waits) is_in) (Value tt) (opened q r (IsOneStep true c (Answered (Value tt) None)) since))
 
 -- a call whose closure fails
-pub fails : {T S : Type 0} (p q r : Place T S) → Entered (TryCallOnceOk tt) p q → Since q IsFailure r → Since p IsFailedCall r
+pub fails : {T S : Type 0} (p q r : Place T S) → Entered (TryCallOnceOk tt) p q → MadeSince q IsFailure r → MadeSince p IsFailedCall r
 fails p q r (is_in, none) since =
     sealed p r IsFailedCall (both model_of (bare_place p) (bare_place q) (bare_place r) (BeginsWith (TryCallOnceOk tt) Waits) IsFailure IsFailedCall
     (passes.begun (TryCallOnceOk tt) Waits IsFailure Fails (λ own own' outs outs' (i, is, are) (own_is, outs_are).
@@ -90,7 +90,7 @@ module _ {T S : Type 0} (makes : S → T → Type 0) where
   may_know key seen named = passes.may_know (IsOnce key.opening) (once_ways makes key) key.opening.name (λ n t vs is. is.0.0) seen.name named
 
   -- for a party that makes one step, from the point `p` to the point `q`
-  module _ (p q : Place T S) (found : ℕ) (knew : mark_of p.1 ≤ length p.2.entries) (named : p.0.opening.name ≡ p.2.name) (same : q.0 ≡ p.0) where
+  module _ (p q : Place T S) (found : ℕ) (knew : own_mark p.1 ≤ length p.2.entries) (named : p.0.opening.name ≡ p.2.name) (same : q.0 ≡ p.0) where
     abbrev pub Took : Says → Type 0
     Took says = Moved (Watches (Of p.0 p.2.name) p.2 q.2 (Told p.0.opening says p.1) found) q.1
 
@@ -98,9 +98,9 @@ module _ {T S : Type 0} (makes : S → T → Type 0) where
     module _ (says : Says) (to : ℕ → View) (course : ℕ → Moving) (means : (own : List OneMove) (outs : List _) (n : ℕ) (v : View) → says own outs n v → (v ≡ to n) × course n own outs) (moved : Took says) where
       told : Learnt (model_of p.0) p.1 q.1 (bare_watch p.2) (bare_watch q.2) (to found) (course found)
       told = passes.learnt (model_of p.0) seat_of words_of says to course means (Of p.0 p.2.name) (may_know p.0 p.2 named) p.1 q.1 (bare_watch p.2) (bare_watch q.2) found
-          (subst (λ k. mark_of p.1 ≤ k) (sym (as_long p.2.entries)) knew) (learns makes p.0 says (Of p.0 p.2.name) p.1 p.2 q.2 found q.1 knew moved).0
+          (subst (λ k. own_mark p.1 ≤ k) (sym (as_long p.2.entries)) knew) (learns makes p.0 says (Of p.0 p.2.name) p.1 p.2 q.2 found q.1 knew moved).0
 
-      pub took : Since p (course found) q × (what q.1 ≡ Some (to found))
+      pub took : MadeSince p (course found) q × (what q.1 ≡ Some (to found))
       took = (sealed p q (course found) (told.made, told.named, same), told.is)
 
       -- only a party that runs its closure writes a value
@@ -111,7 +111,7 @@ module _ {T S : Type 0} (makes : S → T → Type 0) where
       abbrev Knows : Option (MaybeStable (Stage T S)) → Type 0
       Knows shown = record {
         named : q.0.opening.name ≡ q.2.name;
-        knows : mark_of q.1 ≤ length q.2.entries;
+        knows : own_mark q.1 ≤ length q.2.entries;
         few : length (made_in q.0.opening.value q.2.entries) ≤ 1;
         finds : Sees q.0.opening q.2.entries (use_of use_of_party q.1) shown;
       }
@@ -134,9 +134,9 @@ module _ {T S : Type 0} (makes : S → T → Type 0) where
       ends n = view_of c (next_at c l n)
 
       abbrev pub steps : ℕ → Moving
-      steps n = IsStep (has_begun (what p.1)) c (outcome_of (next_at c l n))
+      steps n = IsOneStep (has_begun (what p.1)) c (outcome_of (next_at c l n))
 
-      made : Since p (steps found) q × (what q.1 ≡ Some (ends found))
+      made : MadeSince p (steps found) q × (what q.1 ≡ Some (ends found))
       made = took (turn (has_begun (what p.1)) c l) ends steps (λ own outs n v said. said) moved
 
       module _ (next : Onward) (is : next ≡ next_at c l found) where

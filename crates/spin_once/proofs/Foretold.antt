@@ -15,7 +15,7 @@ use Rattle.spin_step.specs.declared.schedule.Move.TheVariants.{Weak}
 use Rattle.spin_step.specs.Schedules.{after, happens, moves_at, at_first}
 use Rattle.spin_step.proofs.Lists.{get-set_same}
 use Rattle.spin_core.specs.Own.{Numbered, IsRun, Rested, present_from, kind, entries_by}
-use Rattle.spin_core.specs.Run.{is_played, outcomes, AreOfCalls, IsPlayed, LeadsTo, sits}
+use Rattle.spin_core.specs.Run.{is_played, outcomes_of, AreOfCalls, IsPlayed, LeadsTo, sits}
 use Rattle.spin_once.specs.Foretold.{fails_by, will_fail, named, foretold, place_of, counted}
 use Rattle.spin_once.specs.Model.{Point, at, failed}
 use Rattle.spin_once.specs.OnceValues.{Made}
@@ -34,16 +34,16 @@ split (e ∷ es) later = grind (arith, split es later)
 
 module _ (given : Option (Unit {0})) where
   -- A party that is in no call makes no step before it begins a call. Until then no closure of this party fails.
-  pub quiet : (es : List Made) (s : World) (p : ℕ) → list_all is_played (outcomes (m given) s es) ≡ true → rests (slice_get s.seats p) ≡ true → will_fail es p ≡ false
+  pub quiet : (es : List Made) (s : World) (p : ℕ) → list_all is_played (outcomes_of (m given) s es) ≡ true → rests (slice_get s.seats p) ≡ true → will_fail es p ≡ false
   quiet [] s p played is = refl
   quiet ((q, move) ∷ es) s p played is =
       let now = happens (m given) s q move in
-      let each = and_parts (is_played now.outcome) (list_all is_played (outcomes (m given) now.next es)) played in
+      let each = and_parts (is_played now.outcome) (list_all is_played (outcomes_of (m given) now.next es)) played in
       grind (arith, is, each.0, λ (ne : is_step move ≡ true → q ≡ p → ⊥). quiet es now.next p each.1 (rests_after given s q p is move (slice_get s.seats q) ne))
 
   -- from the state `o` these entries lead the object to the state `end`, and none of them is skipped
   abbrev Leads : Object → List Made → Object → Type 0
-  Leads o es end = (after (t given) o es ≡ end) × (list_all is_played (outcomes (t given) o es) ≡ true)
+  Leads o es end = (after (t given) o es ≡ end) × (list_all is_played (outcomes_of (t given) o es) ≡ true)
 
   pub happens_alike : (f : ℕ → Bool) (s : World) (p : ℕ) (move : OneMove) → (rests (slice_get (happens (m given) s p move).next.seats p) ≡ true → f p ≡ false) → (move ≡ Weak → ⊥)
       → Alike f (happens (m given) s p move) (happens (t given) (object f s) p (renamed move (f p)))
@@ -74,16 +74,16 @@ module _ (given : Option (Unit {0})) where
       by_place q b same = grind (arith, played, ne, same)
 
   -- if the moves `later` follow the moves `es`, the part of the schedule for `es` leads the object where `es` lead the model
-  pub leads_on : (es later : List Made) (s : World) → list_all is_played (outcomes (m given) s (es ++ later)) ≡ true
+  pub leads_on : (es later : List Made) (s : World) → list_all is_played (outcomes_of (m given) s (es ++ later)) ≡ true
       → Leads (object (will_fail (es ++ later)) s) (before es later) (object (will_fail later) (after (m given) s es))
   leads_on [] later s played = (refl, refl)
   leads_on ((p, Weak) ∷ es) later s played =
       let now = happens (m given) s p Weak in
-      let each = and_parts (is_played now.outcome) (list_all is_played (outcomes (m given) now.next (es ++ later))) played in
+      let each = and_parts (is_played now.outcome) (list_all is_played (outcomes_of (m given) now.next (es ++ later))) played in
       rw (weak_alike s p (es ++ later) (slice_get s.seats p) refl each.0) (leads_on es later now.next each.1)
   leads_on ((p, move) ∷ es) later s played =
       let now = happens (m given) s p move in let f = will_fail (es ++ later) in
-      let each = and_parts (is_played now.outcome) (list_all is_played (outcomes (m given) now.next (es ++ later))) played in
+      let each = and_parts (is_played now.outcome) (list_all is_played (outcomes_of (m given) now.next (es ++ later))) played in
       let alike = happens_alike f s p move (λ still. quiet (es ++ later) now.next p each.1 still) (λ e. absurd (cc e)) in
       let end : Object = object (will_fail later) (after (m given) s ((p, move) ∷ es)) in
       subst (λ o. Leads o ((p, renamed move (f p)) ∷ before es later) end)
@@ -91,7 +91,7 @@ module _ (given : Option (Unit {0})) where
       (rw (alike.0, alike.1, each.0, after) (leads_on es later now.next each.1))
 
   -- the whole schedule leads the object where all moves lead the model
-  pub all_alike : (es : List Made) (s : World) → list_all is_played (outcomes (m given) s es) ≡ true → Leads (object (will_fail es) s) (foretold es) (object (λ p. false) (after (m given) s es))
+  pub all_alike : (es : List Made) (s : World) → list_all is_played (outcomes_of (m given) s es) ≡ true → Leads (object (will_fail es) s) (foretold es) (object (λ p. false) (after (m given) s es))
   all_alike es s played = rw (append-nil es, take-length (foretold es)) at (leads_on es [] s (rw (append-nil es) played))
 
 -- ---- a run from the beginning leads to the seats of all parties
@@ -113,7 +113,7 @@ module _ (given : Option (Unit {0})) where
   leads log w value came led played = (
     λ more. ap (λ o. after (t given) o (foretold log)) (sym (first_named (will_fail log) (length came + more))) ∙ (all_alike given log (at_first (m given) (length came + more)) (played more)).0 ∙ ap (object (λ p. false)) (led more)
         ∙ ap (λ xs. let o : Object = record { words = w; value = value; seats = xs } in o) (places came more),
-    λ more. ap (λ o. list_all is_played (outcomes (t given) o (foretold log))) (sym (first_named (will_fail log) (length came + more))) ∙ (all_alike given log (at_first (m given) (length came + more)) (played more)).1,
+    λ more. ap (λ o. list_all is_played (outcomes_of (t given) o (foretold log))) (sym (first_named (will_fail log) (length came + more))) ∙ (all_alike given log (at_first (m given) (length came + more)) (played more)).1,
   )
 
 -- ---- the marks of the parties

@@ -4,9 +4,9 @@ use mathlib.Core.Logic.{◌⊎◌}
 use Rattle.std.specs.Option.{MatchOption}
 use Rattle.std.proofs.lemmas.List.Folds.{fold-map}
 use Rattle.spin_once.specs.Passes.{Ends}
-use Rattle.spin_core.specs.Cell.{off, reads, writes, writing, use_of, alone, Fixed, Opens, Starts, Rests, Lends, Knowing, readers_of, writers_of, no_fact}
-use Rattle.spin_core.specs.Own.{Numbered, what, IsRun, Runs, Tells}
-use Rattle.spin_core.specs.Passes.{IsStep, Ending}
+use Rattle.spin_core.specs.Cell.{off, reads, writes, writing, use_of, alone, Fixed, Opens, Starts, Rests, MayLend, Knowing, readers_of, writers_of, no_fact}
+use Rattle.spin_core.specs.Own.{Numbered, what, IsRun, RunsByRule, Tells}
+use Rattle.spin_core.specs.Passes.{IsOneStep, Ending}
 use Rattle.spin_core.specs.Stable.{maybe_stable, StableAt}
 use Rattle.spin_core.specs.Traced.{Traces}
 use Rattle.spin_core.specs.declared.tie.Opening.{Opening}
@@ -58,13 +58,13 @@ module _ {T S : Type 0} (makes : S → T → Type 0) (key : Key T S) where
 
   traces : (view : Option (Numbered View)) (shown : Option (Content T S)) (f : ℕ → ℕ) (leads : ℕ → View → Type 0) (says : Says)
       → Moves given (what view) f leads says → steps.Allowed makes key (what view) shown f leads
-      → Traces (Runs (model given) seat_of words_of Word key.opening.name) (steps.way makes key, use_of_party, no_fact) view shown f (Tells (model given) seat_of words_of says view)
+      → Traces (RunsByRule (model given) seat_of words_of Word key.opening.name) (steps.way makes key, use_of_party, no_fact) view shown f (Tells (model given) seat_of words_of says view)
   traces view shown f leads says moves allows =
       tie.traces (model given) seat_of words_of Word key.opening.name (Content T S) (steps.way makes key) use_of_view no_fact view shown
       (by_first f) leads says moves (λ own outs n u said t word p. tt) allows
 
   -- the history's moves for a step that writes nothing are those of the model
-  lifts : (on : Bool) (c : Call) (o : Ending (Unit {0})) (own : List OneMove) (outs : List (Ending (Unit {0}))) → IsStep on c o own outs → bare_moves (plainly {T = T} own) ≡ own
+  lifts : (on : Bool) (c : Call) (o : Ending (Unit {0})) (own : List OneMove) (outs : List (Ending (Unit {0}))) → IsOneStep on c o own outs → bare_moves (plainly {T = T} own) ≡ own
   lifts on c o own outs is = grind (arith, is)
 
   module _ (c : Call) (l : OncePoint) (view : Option (Numbered View)) (shown : Option (Content T S)) (at : IsAt c l (what view)) where
@@ -191,7 +191,7 @@ module _ {T S : Type 0} (makes : S → T → Type 0) (key : Key T S) where
 
 -- the owner may borrow the value; from then on the trace does not tell the value
 module _ {T S : Type 0} (makes : S → T → Type 0) (key : Key T S) where
-  pub lends : Lends (IsOnce key.opening) (once_ways makes key) (IsOnce (lent_key key).opening) (once_ways makes (lent_key key))
+  pub lends : MayLend (IsOnce key.opening) (once_ways makes key) (IsOnce (lent_key key).opening) (once_ways makes (lent_key key))
   unfolding IsOnce
   lends = (
     (λ shared. shared),

@@ -4,7 +4,7 @@ use Rattle.std.proofs.Common.{◌≡◌, true, false, ℕ, [], ◌∷◌, Option
 use mathlib.Core.Logic.{◌⊎◌, inl, inr}
 use Rattle.std.specs.List.{list_all}
 use Rattle.spin_core.specs.Run.{AreMoves, is_played, by_first}
-use Rattle.spin_core.specs.Passes.{IsStep}
+use Rattle.spin_core.specs.Passes.{IsOneStep}
 use Rattle.spin_core.specs.Cell.{Use, off, reads, writes, use_of}
 use Rattle.spin_session.specs.Turns.{outcome_of, has_begun}
 use Rattle.spin_step.specs.declared.answer.Answer.{Answer}
@@ -35,7 +35,7 @@ after_word c l n = performed (operation_by (act_of c l None)) n
 
 -- what the last step of a call tells whose closure gave a value
 abbrev pub gives_by : Says
-gives_by own outs n v = (v ≡ reader) × IsStep true (CallOnce tt) (Answered (Value tt) None) own outs
+gives_by own outs n v = (v ≡ reader) × IsOneStep true (CallOnce tt) (Answered (Value tt) None) own outs
 
 -- a party whose call is answered by this step holds nothing
 abbrev pub IsFree : Onward → Type 0

@@ -1,7 +1,7 @@
 -- The steps of a value that is made once keep its rule. What a step has to show depends on the use of the content before and after it.
 use Rattle.std.proofs.Common.{◌≡◌, ℕ, ◌+◌, ◌≤◌, List, ◌++◌, ◌∷◌, Option, Some, refl, ap, arith}
 use Rattle.std.specs.Prelude.{sum_by}
-use Rattle.spin_core.specs.Cell.{Use, off, reads, writes, reading, writing, use_of, Way, Ways, no_fact, Meets, Limits, Owes, Stands, after, AllowsAt, Rests}
+use Rattle.spin_core.specs.Cell.{Use, off, reads, writes, reading, writing, use_of, Way, Ways, no_fact, MeetsRule, Limits, Owes, HasView, after, AllowsAt, Rests}
 use Rattle.spin_core.proofs.CellCounts.{moves, without}
 use Rattle.spin_step.specs.declared.place.Seat.TheVariants.{Idle}
 use Rattle.spin_once.specs.OnceValues.{Content}
@@ -28,7 +28,7 @@ Fits _ _ n k = ⊥
 abbrev pub ComesTo : (ℕ → View) → (ℕ → Type 0) → ℕ → View → Type 0
 ComesTo to Q n v = (v ≡ to n) × Q n
 
-module _ (id : ℕ) (view : Option View) (vs : List View) (w : View) (at : Stands id view vs) where
+module _ (id : ℕ) (view : Option View) (vs : List View) (w : View) (at : HasView id view vs) where
   -- how many parties have a use, after a party has got another view
   use_after : (g : Use → ℕ) → g off ≡ 0
       → sum_by (λ v. g (use_of_view v)) (after id view vs w) + g (use_of use_of_view view) ≡ sum_by (λ v. g (use_of_view v)) vs + g (use_of_view w)
@@ -59,7 +59,7 @@ module _ {T S : Type 0} (makes : S → T → Type 0) (key : Key T S) where
   abbrev pub Allowed : Option View → Option (Content T S) → (ℕ → ℕ) → (ℕ → View → Type 0) → Type 0
   Allowed = AllowsAt Word plain_ways
 
-  pub meets : (n : ℕ) (m : Unit {0}) (vs : List View) → Word n m vs → Meets Word plain_ways n m vs
+  pub meets : (n : ℕ) (m : Unit {0}) (vs : List View) → Word n m vs → MeetsRule Word plain_ways n m vs
   meets n m vs has = (has, limits n (readers vs) (running vs) has)
     where
       limits : (n r w : ℕ) → IsPhase n r w → Limits way r w

@@ -10,8 +10,8 @@ use Rattle.std.proofs.lemmas.List.Elements.{filter-append}
 use Rattle.std.proofs.lemmas.Simd.{map-map}
 use mathlib.Core.List.{IsPrefix}
 use mathlib.Core.Logic.{◌⊎◌, inl, inr}
-use Rattle.spin_core.specs.Cell.{Use, writes, use_of, no_fact, Carries, Carrying, Meets, Moved, Shows, readers_of, after as views_after}
-use Rattle.spin_core.specs.Own.{Numbered, what, mark_of, Runs, IsRun, Tells, by_party, entries_by}
+use Rattle.spin_core.specs.Cell.{Use, writes, use_of, no_fact, Carries, Carrying, MeetsRule, Moved, Shows, readers_of, after as views_after}
+use Rattle.spin_core.specs.Own.{Numbered, what, own_mark, RunsByRule, IsRun, Tells, by_party, entries_by}
 use Rattle.spin_core.specs.Passes.{Ending}
 use Rattle.spin_core.specs.Traced.{Traces, Watches, Learnt, grown}
 use Rattle.spin_core.specs.declared.tie.Opening.{Opening}
@@ -24,7 +24,7 @@ use Rattle.spin_step.specs.declared.schedule.Move.TheVariants.{Begin, Step, Weak
 use Rattle.spin_once.specs.Accounts.{WroteNone}
 use Rattle.spin_once.specs.Model.{model}
 use Rattle.spin_once.specs.Once.{OneMove, View, Says, Word, use_of_view, use_of_party, once_ways, seat_of, words_of, IsOnce, Told, runs_closure}
-use Rattle.spin_once.specs.OnceValues.{Content, Valued, Made, bare_move, bare, bare_trace, bare_watch, value_of, values, written_by, given_of, made, AtMostOne, IsMade, IsValue, Sees}
+use Rattle.spin_once.specs.OnceValues.{Content, Valued, Made, bare_move, bare, bare_trace, bare_watch, value_of, values, values_by, given_of, made, AtMostOne, IsMade, IsValue, Sees}
 use Rattle.spin_once.proofs.Steps.{way}
 use Rattle.spin_once.specs.declared.once_core.rule.Key.{Key}
 use Rattle.spin_once.specs.declared.once_core.rule.Stage.{Stage}
@@ -46,16 +46,16 @@ module _ {T : Type 0} where
   values_of own = flat_map value_of own
 
   -- a party that makes none of the model's entries `xs ++ bare ys` writes nothing by `ys`
-  behind : (p : ℕ) (xs : List Made) (ys : List (Valued T)) → entries_by p (xs ++ bare ys) ≡ [] → written_by p ys ≡ []
+  behind : (p : ℕ) (xs : List Made) (ys : List (Valued T)) → entries_by p (xs ++ bare ys) ≡ [] → values_by p ys ≡ []
   behind p [] [] none = refl
   behind p [] (y ∷ ys) none = grind (arith, none, behind p [] ys)
   behind p (x ∷ xs) ys none = grind (arith, none, behind p xs ys)
 
-  by_none : (p : ℕ) (es : List (Valued T)) → values es ≡ [] → written_by p es ≡ []
+  by_none : (p : ℕ) (es : List (Valued T)) → values es ≡ [] → values_by p es ≡ []
   by_none p [] none = refl
   by_none p (e ∷ es) none = grind (arith, none, by_none p es)
 
-  pub both_none : (p : ℕ) (xs ys : List (Valued T)) → written_by p xs ≡ [] → written_by p ys ≡ [] → written_by p (xs ++ ys) ≡ []
+  pub both_none : (p : ℕ) (xs ys : List (Valued T)) → values_by p xs ≡ [] → values_by p ys ≡ [] → values_by p (xs ++ ys) ≡ []
   both_none p xs ys first next = rw (filter-append, flat_map-append, first, next) refl
 
   -- the moves of the history for moves of the model that write nothing
@@ -109,7 +109,7 @@ module _ {T S : Type 0} (makes : S → T → Type 0) (key : Key T S) where
   Is vs x = IsMade key.opening.told vs x.value
 
   abbrev Bare : ℕ → Trace Made (Unit {0}) → List (Numbered View) → Type 0
-  Bare = Runs (model (given_of key.opening.value)) seat_of words_of Word key.opening.name
+  Bare = RunsByRule (model (given_of key.opening.value)) seat_of words_of Word key.opening.name
 
   module _ (view : Option (Numbered View)) (shown : Option (Content T S)) (f : ℕ → ℕ) (exact says : Says) (put : List OneMove → List (ValueMove T)) where
     abbrev pub Each : (List OneMove → ℕ → View → Type 0) → Type 0
@@ -137,8 +137,8 @@ module _ {T S : Type 0} (makes : S → T → Type 0) (key : Key T S) where
         let owed = subst (λ l. Carries (Is had) (Is l) (use_of use_of_party view) (use_of_party w) shown) (sym now) left.1 in
         let Kept : Type 0 =
         Carrying (once_ways makes key).2 t (grown t es') (use_of use_of_party view) (use_of_party w) shown
-        (Meets (IsOnce key.opening) (once_ways makes key) (f n) (grown t es') us) in
-        let keeps : Meets Bare (way makes key, use_of_party, no_fact) (f n) (grown (bare_trace t) es) us → Kept = λ met.
+        (MeetsRule (IsOnce key.opening) (once_ways makes key) (f n) (grown t es') us) in
+        let keeps : MeetsRule Bare (way makes key, use_of_party, no_fact) (f n) (grown (bare_trace t) es) us → Kept = λ met.
         (owed, (((met.0.0, met.0.1, subst (λ l. IsRun m seat_of words_of l (f n, t.word) us) (sym whole) met.0.2), few), met.1)) in (
           w,
           es',
@@ -157,19 +157,19 @@ module _ {T S : Type 0} (makes : S → T → Type 0) (key : Key T S) where
   -- ---- what a step tells
   module _ (says : Says) (named : Type 0) (view : Option (Numbered View)) (before now : Watch (Valued T)) (n : ℕ) where
     -- the step in the model, and the history after it; only a party that runs its closure writes a value
-    pub learns : (view' : Option (Numbered View)) → mark_of view ≤ length before.entries → Moved (Watches named before now (Told key.opening says view) n) view'
+    pub learns : (view' : Option (Numbered View)) → own_mark view ≤ length before.entries → Moved (Watches named before now (Told key.opening says view) n) view'
         → Moved (Watches named (bare_watch before) (bare_watch now) (Tells (model (given_of key.opening.value)) seat_of words_of says view) n) view'
         × (IsPrefix before.entries now.entries × (length (made key.opening.value now.entries) ≤ 1)) × (runs_closure (what view) ≡ false → WroteNone (key, view, before) (key, view', now))
     unfolding Told WroteNone
     learns None knew moved = absurd moved
     learns (Some v) knew (same, (log, es, (between, here), is, (tells, few, hush))) =
-        let old : List Made = bare before.entries in let long = subst (λ k. mark_of view ≤ k) (sym (as_long before.entries)) knew in let none = tells.4 in
+        let old : List Made = bare before.entries in let long = subst (λ k. own_mark view ≤ k) (sym (as_long before.entries)) knew in let none = tells.4 in
         let whole : bare log ≡ old ++ bare between = ap bare (sym here) ∙ bare_append before.entries between in
-        let apart : entries_by v.1 (drop (mark_of view) old ++ bare between) ≡ [] = rw (← drop-append-le (mark_of view) old (bare between) long, ← whole) none.1 in
+        let apart : entries_by v.1 (drop (own_mark view) old ++ bare between) ≡ [] = rw (← drop-append-le (own_mark view) old (bare between) long, ← whole) none.1 in
         let longer : now.entries ≡ before.entries ++ (between ++ es) = is ∙ ap (λ l. l ++ es) (sym here) ∙ append_assoc before.entries between es in (
           (same, (bare log, bare es, (bare between, sym whole), ap bare is ∙ bare_append log es, tells)),
           ((between ++ es, sym longer), subst (λ l. length (made key.opening.value l) ≤ 1) (sym is) few),
-          λ quiet. (v.1, none.0, refl, between ++ es, longer, both_none v.1 between es (behind v.1 (drop (mark_of view) old) between apart) (by_none v.1 es (hush quiet))),
+          λ quiet. (v.1, none.0, refl, between ++ es, longer, both_none v.1 between es (behind v.1 (drop (own_mark view) old) between apart) (by_none v.1 es (hush quiet))),
         )
 
   -- What a party that uses the content sees after a step. If it had the same use before, it sees what it saw before. If not, it sees what

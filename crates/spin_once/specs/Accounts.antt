@@ -4,7 +4,7 @@ use Rattle.std.specs.Borrow.{Bor}
 use Rattle.std.specs.Option.{IfSome}
 use Rattle.spin_core.specs.Cell.{use_of, writes}
 use Rattle.spin_core.specs.Own.{MayBe, what}
-use Rattle.spin_core.specs.Passes.{Begins as Starts, IsCall, IsNumber, Waits}
+use Rattle.spin_core.specs.Passes.{Begins as Starts, IsCall, HasNumber, Waits}
 use Rattle.spin_core.specs.Spots as spots
 use Rattle.spin_core.specs.Spots.{Spot}
 use Rattle.spin_core.specs.Stable.{maybe_stable}
@@ -15,7 +15,7 @@ use Rattle.spin_step.specs.declared.answer.Answer.TheVariants.{Value, NoValue}
 use Rattle.spin_step.specs.declared.once_calls.OncePoint.TheVariants.{TryBegin, Run}
 use Rattle.spin_step.specs.declared.stepped.Next.TheVariants.{Continue, Answers}
 use Rattle.spin_once.specs.Model.{Point, model}
-use Rattle.spin_once.specs.OnceValues.{Valued, Made, IsValue, bare_watch, given_of, written_by}
+use Rattle.spin_once.specs.OnceValues.{Valued, Made, IsValue, bare_watch, given_of, values_by}
 use Rattle.spin_once.specs.Once.{Call, View, Onward, Moving, use_of_party, in_call}
 use Rattle.spin_once.specs.declared.once_core.account.Account.{Account}
 use Rattle.spin_once.specs.declared.once_core.account.Found.{Found}
@@ -46,20 +46,20 @@ module _ {T S : Type 0} where
   Moves p course q = spots.Since model_of course (bare_place p) (bare_place q)
 
   -- from the point `p` to the point `q` the party has made exactly the moves of this course, in one history of one cell
-  abbrev pub Since : Place T S → Moving → Place T S → Type 0
-  Since p course q = (q.0 ≡ p.0) × (q.2.name ≡ p.2.name) × Moves p course q
+  abbrev pub MadeSince : Place T S → Moving → Place T S → Type 0
+  MadeSince p course q = (q.0 ≡ p.0) × (q.2.name ≡ p.2.name) × Moves p course q
 
   -- from the point `p` to the point `q` the party has written no value
   unfoldable pub WroteNone : Place T S → Place T S → Type 0
-  WroteNone p q = (k : ℕ) × MayBe k p.1 × IsNumber k q.1 × (more : List (Valued T)) × (q.2.entries ≡ p.2.entries ++ more) × (written_by k more ≡ [])
+  WroteNone p q = (k : ℕ) × MayBe k p.1 × HasNumber k q.1 × (more : List (Valued T)) × (q.2.entries ≡ p.2.entries ++ more) × (values_by k more ≡ [])
 
   -- at `q` the party is in this call, which it began at `p`, and in which it has written no value
   abbrev pub Entered : Call → Place T S → Place T S → Type 0
-  Entered c = λ p q. Since p (Starts c Waits) q × WroteNone p q
+  Entered c = λ p q. MadeSince p (Starts c Waits) q × WroteNone p q
 
   -- from the point `p` to the point `q` the party has made exactly this call, with this answer, and has written no value
   abbrev pub Answered : Call → Answer (Unit {0}) → Place T S → Place T S → Type 0
-  Answered c a = λ p q. Since p (IsCall c a) q × WroteNone p q
+  Answered c a = λ p q. MadeSince p (IsCall c a) q × WroteNone p q
 
   -- from the point `p` to the point `q` the party has begun this call, and made steps of it, after which the call goes on so
   abbrev pub Comes : Call → Onward → Place T S → Place T S → Type 0
@@ -90,7 +90,7 @@ module _ {T S : Type 0} where
 
   -- The party has made this call, and has found a value. If it wrote a value in this call, the value that it sees satisfies Q.
   abbrev pub Finds : Call → (T → Type 0) → Place T S → Account T S → Type 0
-  Finds c Q p it = Since p (IsCall c (Value tt)) (here it) × ((v : T) → Shows it v → Q v ⊎ WroteNone p (here it))
+  Finds c Q p it = MadeSince p (IsCall c (Value tt)) (here it) × ((v : T) → Shows it v → Q v ⊎ WroteNone p (here it))
 
   -- the value is the only one in the history that the party knows; nothing is said once the lock's owner has borrowed its value
   abbrev pub Has : Place T S → T → Type 0

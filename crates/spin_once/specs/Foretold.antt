@@ -27,14 +27,14 @@ named (TryCallOnceOk v) true = TryCallOnceErr
 named c fails = c
 
 -- the object's entry for this move, if it has one, followed by the entries for the later moves
-abbrev pub told_of : ℕ → OneMove → Bool → List Made → List Made
-told_of p (Begin c) fails later = (p, Begin (named c fails)) ∷ later
-told_of p Weak fails later = later
-told_of p move fails later = (p, move) ∷ later
+abbrev pub told_earlier : ℕ → OneMove → Bool → List Made → List Made
+told_earlier p (Begin c) fails later = (p, Begin (named c fails)) ∷ later
+told_earlier p Weak fails later = later
+told_earlier p move fails later = (p, move) ∷ later
 
 abbrev pub foretold : List Made → List Made
 foretold [] = []
-foretold (e ∷ es) = told_of e.0 e.1 (will_fail es e.0) (foretold es)
+foretold (e ∷ es) = told_earlier e.0 e.1 (will_fail es e.0) (foretold es)
 
 -- where a party sits in the object; a party that reads has its answer, so it is idle there
 abbrev pub place_of : View → View

@@ -3,7 +3,7 @@ use Rattle.std.specs.Prelude.{ℕ, Option}
 use Rattle.spin_core.specs.declared.trace.Trace.{Trace}
 use Rattle.spin_once.specs.OnceValues.{Valued}
 use Rattle.spin_once.specs.Passes as passes
-pub use Rattle.spin_once.specs.Passes.{◌⨾◌, After, AreOfOne, Calls, Gets, Gives, Has, Includes, Never, OpensWith, Recalls, TellsValue, WroteNone, given, history, lock_of, new_in, opening_of, party, schedule}
+pub use Rattle.spin_once.specs.Passes.{◌⨾◌, After, AreOfOne, Calls, Gets, Gives, Has, Includes, Never, OpensWithValues, Recalls, TellsValue, WroteNone, given, history, lock_of, new_in, opening_of, party, moves_made}
 use Rattle.spin_step.specs.declared.once_calls.OnceCall.TheVariants.{CallOnce}
 use Rattle.spin_once.specs.Accounts.{Place}
 use Rattle.spin_once.specs.declared.lazylock.LazyLock.{LazyLock}

@@ -3,9 +3,9 @@
 use Rattle.std.specs.Prelude.{is_some, ◌≡◌, ◌<◌, ◌≤◌, ◌⊎◌, ℕ, zero, suc, Bool, true, false, Option, Some, None, List, [], ◌∷◌, ◌++◌, length, replicate}
 use Rattle.core.specs.declared.snapshot.Snapshot.{Snapshot}
 use Rattle.spin_core.specs.Cell.{Use, off, reads, writes, fixes, knows, Ways, readers_of, writers_of}
-use Rattle.spin_core.specs.Own.{Numbered, what, Runs, Tells}
+use Rattle.spin_core.specs.Own.{Numbered, what, RunsByRule, Tells}
 use Rattle.spin_core.specs.Passes as passes
-use Rattle.spin_core.specs.Passes.{Course, Ending, Begins, step_by}
+use Rattle.spin_core.specs.Passes.{Course, Ending, Begins, says_step}
 use Rattle.spin_core.specs.declared.cell.stable.MaybeStable.{MaybeStable}
 use Rattle.spin_core.specs.declared.tie.Opening.{Opening}
 use Rattle.spin_core.specs.declared.trace.Trace.{Trace}
@@ -112,7 +112,7 @@ runs_closure _ = false
 module _ {T S : Type 0} where
   -- what holds of the first word, the trace and the parties of a cell with this opening
   unfoldable pub IsOnce : Opening (Stage T S) → ℕ → Trace (Valued T) (Unit {0}) → List (Numbered View) → Type 0
-  IsOnce opening n t vs = Runs (model (given_of opening.value)) seat_of words_of Word opening.name n (bare_trace t) vs × AtMostOne n (made opening.value t.entries)
+  IsOnce opening n t vs = RunsByRule (model (given_of opening.value)) seat_of words_of Word opening.name n (bare_trace t) vs × AtMostOne n (made opening.value t.entries)
 
   -- What a step tells of its moves. It also tells that the history still has at most one value, and that only a party that runs its closure
   -- writes one.
@@ -140,7 +140,7 @@ view_of c (Answers a h) = answered a
 
 -- what the step of the call at this point tells; it is the call's first if `goes_on` is false
 abbrev pub turn : Bool → Call → OncePoint → Says
-turn goes_on c l = step_by goes_on c (λ n. outcome_of (next_at c l n)) (λ n. view_of c (next_at c l n))
+turn goes_on c l = says_step goes_on c (λ n. outcome_of (next_at c l n)) (λ n. view_of c (next_at c l n))
 
 -- the party is at this point of the call, or is in no call, and may begin this one here
 abbrev pub IsAt : Call → OncePoint → Option View → Type 0

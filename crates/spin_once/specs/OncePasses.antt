@@ -3,7 +3,7 @@ use Rattle.std.specs.Prelude.{ℕ, Option}
 use Rattle.spin_core.specs.declared.trace.Trace.{Trace}
 use Rattle.spin_once.specs.OnceValues.{Valued}
 use Rattle.spin_once.specs.Passes as passes
-pub use Rattle.spin_once.specs.Passes.{◌⨾◌, After, AreOfOne, Calls, Gets, Gives, Has, Includes, Never, OkGets, OkGives, OpensWith, Recalls, TellsValue, Tried, WroteNone, found_or_none, given, history, lock_of, new_in, opening_of, party, schedule}
+pub use Rattle.spin_once.specs.Passes.{◌⨾◌, After, AreOfOne, Calls, Gets, Gives, Has, Includes, Never, OkGets, OkGives, OpensWithValues, Recalls, TellsValue, Tried, WroteNone, found_or_none, given, history, lock_of, new_in, opening_of, party, moves_made}
 use Rattle.spin_once.specs.declared.once.Once.{Once}
 use Rattle.spin_once.specs.declared.once_core.rule.Key.{Key}
 

@@ -58,8 +58,8 @@ module _ {T : Type 0} where
   values es = flat_map (λ e. value_of e.1) es
 
   -- the values that the party with this number writes by these entries
-  abbrev pub written_by : ℕ → List (Valued T) → List T
-  written_by p es = values (entries_by p es)
+  abbrev pub values_by : ℕ → List (Valued T) → List T
+  values_by p es = values (entries_by p es)
 
   -- Which values a history may have if the word is `n`. There is none unless the word is 2 (complete), and there is never a second one.
   abbrev pub AtMostOne : ℕ → List T → Type 0
@@ -95,8 +95,8 @@ module _ {T S : Type 0} where
   made first es = lies_in first ++ values es
 
   -- the lock opens with these values, at most one, and its history tells the value that it has
-  abbrev pub OpensWith : List T → Key T S → Type 0
-  OpensWith vs key = (lies_in key.opening.value ≡ vs) × (key.opening.told ≡ true)
+  abbrev pub OpensWithValues : List T → Key T S → Type 0
+  OpensWithValues vs key = (lies_in key.opening.value ≡ vs) × (key.opening.told ≡ true)
 
   -- A value that lies in the cell is the only one of these values. Nothing is said once the owner has borrowed the value (`told` is false).
   abbrev pub IsMade : Bool → List T → Stage T S → Type 0

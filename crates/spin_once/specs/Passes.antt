@@ -15,9 +15,9 @@ use Rattle.spin_step.specs.declared.answer.Answer.{Answer}
 use Rattle.spin_step.specs.declared.answer.Answer.TheVariants.{Value}
 use Rattle.spin_step.specs.declared.once_calls.OnceCall.TheVariants.{TryCallOnceOk}
 pub use Rattle.spin_session.specs.Passes.{◌⨾◌}
-use Rattle.spin_once.specs.Accounts.{Place, Since}
+use Rattle.spin_once.specs.Accounts.{Place, MadeSince}
 pub use Rattle.spin_once.specs.Accounts.{Has, WroteNone, found_or_none, new_in}
-pub use Rattle.spin_once.specs.OnceValues.{OpensWith}
+pub use Rattle.spin_once.specs.OnceValues.{OpensWithValues}
 use Rattle.spin_once.specs.OnceValues.{Valued, Made, IsValue, bare, given_of, made}
 use Rattle.spin_once.specs.Once.{Call, View, IsFailedCall, IsOnce, use_of_party}
 use Rattle.spin_once.specs.declared.once_core.rule.Key.{Key}
@@ -32,8 +32,8 @@ module _ {T S : Type 0} where
   history pass = pass.2.entries
 
   -- the same moves without the values, as the model has them
-  abbrev pub schedule : Place T S → List Made
-  schedule pass = bare (history pass)
+  abbrev pub moves_made : Place T S → List Made
+  moves_made pass = bare (history pass)
 
   -- the name of the history of the pass's lock
   abbrev pub lock_of : Place T S → ℕ
@@ -65,12 +65,12 @@ module _ {T S : Type 0} where
 
   -- from `before` to `now` the pass has made exactly this call, with this answer
   abbrev pub Calls : Call → Answer (Unit {0}) → Place T S → Place T S → Type 0
-  Calls call answer before now = Since before (IsCall call answer) now
+  Calls call answer before now = MadeSince before (IsCall call answer) now
 
   -- From `before` to `now` the pass has made one call with a closure that may fail. Either the call got the value, or its closure failed.
   abbrev pub Tried : {X E : Type 0} → Result X E → Place T S → Place T S → Type 0
   Tried (Ok value) before now = Calls (TryCallOnceOk tt) (Value tt) before now
-  Tried (Err e) before now = Since before IsFailedCall now
+  Tried (Err e) before now = MadeSince before IsFailedCall now
 
   -- The pass has made this call, and has got this value, the only one in the history. If the pass wrote it in this call, it satisfies Q.
   abbrev pub Gets : Call → (T → Type 0) → Place T S → T → Place T S → Type 0

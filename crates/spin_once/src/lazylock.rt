@@ -5,7 +5,7 @@ ghost use Rattle.spin_core.specs.Own.{what};
 ghost use Rattle.spin_step.specs.declared.once_calls.OnceCall.TheVariants.{CallOnce};
 ghost use Rattle.spin_once.specs.Accounts.{Place, here, seed_of, Entered, Finds};
 ghost use Rattle.spin_once.specs.Lazy.{initialiser, promise};
-ghost use Rattle.spin_once.specs.LazyPasses.{Ends, Forced, OpensWith, new_in, opening};
+ghost use Rattle.spin_once.specs.LazyPasses.{Ends, Forced, OpensWithValues, new_in, opening};
 ghost use Rattle.spin_step.specs.declared.once_calls.OncePoint.TheVariants.{TryBegin};
 ghost use Rattle.spin_once.specs.Once.{in_call};
 ghost use Rattle.spin_once.specs.declared.lazylock.Initialiser.{Initialiser as AnInitialiser};
@@ -121,7 +121,7 @@ impl<T, F: FnOnce() -> T, R> LazyLock<T, F, R> {
     /// The `initialiser` of the `LazyLock` is `f`. The `LazyLock` opens without a value (`opens`).
     pub fn new(f: F) -> Self
         ensures made { initialiser result ≡ f }
-        ensures opens { OpensWith [] (opening result) }
+        ensures opens { OpensWithValues [] (opening result) }
     {
         Self::promising((), f)
     }
@@ -154,7 +154,7 @@ impl<T, F, R, M: Promise<T>> LazyLock<T, F, R, M> {
     pub fn promising(promised: M, f: F) -> Self
         ensures made { initialiser result ≡ f }
         ensures kept { promise result ≡ promised }
-        ensures opens { OpensWith [] (opening result) }
+        ensures opens { OpensWithValues [] (opening result) }
     {
         LazyLock {
             core: OnceCore::new(Initialiser {

@@ -1,7 +1,7 @@
 //! A value that one closure makes. Begin with [`Once::new`] and [`Once::call_once`].
 ghost use Rattle.std.specs.Prelude.{◌≡◌, [], ◌∷◌, IfSome, IfErr, Err};
 ghost use Rattle.spin_step.specs.declared.once_calls.OnceCall.TheVariants.{CallOnce, Get, Poll as PollCall, Wait as WaitCall};
-ghost use Rattle.spin_once.specs.OncePasses.{Ends, Gives, Never, OkGives, OpensWith, new_in, opening};
+ghost use Rattle.spin_once.specs.OncePasses.{Ends, Gives, Never, OkGives, OpensWithValues, new_in, opening};
 
 use self::make::make;
 pub use crate::once_core::{Entry, History};
@@ -53,7 +53,7 @@ impl<T, R> Once<T, R> {
     /// # Contract
     /// The `Once` opens without a value, and its history will have the value that a closure gives (`opens`).
     pub fn new() -> Self
-        ensures opens { OpensWith [] (opening result) }
+        ensures opens { OpensWithValues [] (opening result) }
     {
         Once {
             core: OnceCore::new(()),
@@ -66,7 +66,7 @@ impl<T, R> Once<T, R> {
     /// # Contract
     /// The `Once` opens with this value, so none is made (`opens`).
     pub fn initialized(value: T) -> Self
-        ensures opens { OpensWith (value ∷ []) (opening result) }
+        ensures opens { OpensWithValues (value ∷ []) (opening result) }
     {
         Once {
             core: OnceCore::initialized(value, &()),

@@ -1,7 +1,7 @@
 //! A value that is made once, from a seed: what `Once` and `LazyLock` share. Begin with [`OnceCore::account`].
 ghost use Rattle.std.specs.Prelude.{◌≡◌, [], ◌∷◌};
 ghost use Rattle.spin_once.specs.Accounts.{here, new_in};
-ghost use Rattle.spin_once.specs.OnceValues.{OpensWith};
+ghost use Rattle.spin_once.specs.OnceValues.{OpensWithValues};
 ghost use Rattle.spin_once.specs.Passes.{Ends};
 
 use self::rule::{COMPLETE, Key, NOTHING, SeedCell, Stage};
@@ -35,7 +35,7 @@ impl<T, S: Seed<T>> OnceCore<T, S> {
     /// Creates a cell with a seed, which no party has used.
     pub(crate) fn new(seed: S) -> Self
         ensures seed { result.cell.seed.value ≡ seed }
-        ensures opens { OpensWith [] result.cell }
+        ensures opens { OpensWithValues [] result.cell }
     {
         let trace = Trace::new(());
         let known = Snapshot::of(&seed);
@@ -53,7 +53,7 @@ impl<T, S: Seed<T>> OnceCore<T, S> {
     pub(crate) fn initialized(value: T, seed: &S) -> Self
         requires { S.makes seed.now value }
         ensures seed { result.cell.seed.value ≡ seed.now }
-        ensures opens { OpensWith (value ∷ []) result.cell }
+        ensures opens { OpensWithValues (value ∷ []) result.cell }
     {
         let trace = Trace::new(());
         let stage = Stage::Done(value);

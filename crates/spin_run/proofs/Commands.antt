@@ -5,7 +5,7 @@ use Rattle.std.proofs.lemmas.Slice.Eq.{bytes_eq-Decides}
 use Rattle.spin_text.specs.Failures.{Told}
 use Rattle.spin_text.specs.Lines.{texts_of}
 use Rattle.spin_text.specs.Numbers.{IsNumber}
-use Rattle.spin_run.specs.Command.{AsksCount, AsksWorld, AsksNothing, Stops, StopsCount, usage}
+use Rattle.spin_run.specs.Command.{AsksCount, AsksWorld, AsksNothing, StopsCommand, StopsCount, usage}
 use Rattle.spin_text.specs.Texts.{Streams}
 use Rattle.spin_run.specs.declared.faults.Fault.{Fault}
 use Rattle.spin_run.specs.declared.faults.Fault.TheVariants.{Usage, Refused, Memory, Write}
@@ -32,11 +32,11 @@ asks_world (a ∷ b ∷ words) d one same = absurd (omega (arith, one))
 
 -- a fault of a count is a fault of the program
 pub count_stops : (words : List (List ℕ)) (workers times : ℕ) (Unread Unwritten : Type 0) (t : Streams) (r : Result (Unit {0}) Fault) → AsksCount words workers times → Unread
-    → IfErr r (StopsCount workers times Unwritten t.sink_failed t.written t.written_after) → IfErr r (Stops words Unread Unwritten t)
+    → IfErr r (StopsCount workers times Unwritten t.sink_failed t.written t.written_after) → IfErr r (StopsCommand words Unread Unwritten t)
 count_stops words workers times Unread Unwritten t r asks unread stops = grind arith
 
 -- a command line that is no command gets the usage line and the status 2
-pub told_usage : (words : List (List ℕ)) (Unread Unwritten : Type 0) (t : Streams) (failed : Bool) (old new : Option (List ℕ)) (f : Fault) (status : ℕ) → Stops words Unread Unwritten t f → status ≡ status_of f → Told failed old new (line_of usage f)
+pub told_usage : (words : List (List ℕ)) (Unread Unwritten : Type 0) (t : Streams) (failed : Bool) (old new : Option (List ℕ)) (f : Fault) (status : ℕ) → StopsCommand words Unread Unwritten t f → status ≡ status_of f → Told failed old new (line_of usage f)
     → AsksNothing words → (status ≡ 2) × Told failed old new (line_of usage Usage)
 told_usage words Unread Unwritten t failed old new Usage status stops is told none = (is, told)
 told_usage words Unread Unwritten t failed old new Refused status stops is told none = absurd (none.0 stops.0.0 stops.0.1 stops.0.2)

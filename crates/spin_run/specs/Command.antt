@@ -51,13 +51,13 @@ StopsCount workers times Unwritten failed old new _ = ⊥
 
 -- Why a run stopped at this fault: what the words asked for, what was read, and what was written. Only a failed write leaves a beginning of
 -- the text.
-abbrev pub Stops : List (List ℕ) → Type 0 → Type 0 → Streams → Fault → Type 0
-Stops words Unread Unwritten t Usage = AsksNothing words × Unread × Unwritten
-Stops words Unread Unwritten t Refused = AsksSomeCount words × Unread × Unwritten
-Stops words Unread Unwritten t Memory = (AsksSomeCount words × Unread × Unwritten) ⊎ (AsksWorld words × WorldStops t Unwritten errors.Memory)
-Stops words Unread Unwritten t Read = AsksWorld words × WorldStops t Unwritten errors.Read
-Stops words Unread Unwritten t (BadLine n) = AsksWorld words × WorldStops t Unwritten (errors.BadLine n)
-Stops words Unread Unwritten t Write =
+abbrev pub StopsCommand : List (List ℕ) → Type 0 → Type 0 → Streams → Fault → Type 0
+StopsCommand words Unread Unwritten t Usage = AsksNothing words × Unread × Unwritten
+StopsCommand words Unread Unwritten t Refused = AsksSomeCount words × Unread × Unwritten
+StopsCommand words Unread Unwritten t Memory = (AsksSomeCount words × Unread × Unwritten) ⊎ (AsksWorld words × WorldStops t Unwritten errors.Memory)
+StopsCommand words Unread Unwritten t Read = AsksWorld words × WorldStops t Unwritten errors.Read
+StopsCommand words Unread Unwritten t (BadLine n) = AsksWorld words × WorldStops t Unwritten (errors.BadLine n)
+StopsCommand words Unread Unwritten t Write =
     (Unread × (t.sink_failed ≡ true) × ((workers : ℕ) × (times : ℕ) × AsksCount words workers times × AppendsBeginning t.written t.written_after (total_text workers times)))
     ⊎ (AsksWorld words × WorldStops t Unwritten errors.Write)
-Stops words Unread Unwritten t _ = ⊥
+StopsCommand words Unread Unwritten t _ = ⊥

@@ -16,9 +16,9 @@ use Rattle.spin_step_more.specs.declared.rw_calls.RwPoint.{RwPoint}
 use Rattle.spin_step_more.specs.declared.rw_calls.RwPoint.TheVariants.{First, Exchange, Asking}
 use Rattle.spin_step_more.proofs.Readers.{one_of_each, word_of}
 use Rattle.spin_step_more.proofs.ReaderSteps.{rw_read-grants, rw_upgradable-grants, rw_write-grants, rw_upgrade-grants, rw_upgrade_asked-grants}
-use Rattle.spin_core.specs.Views.{Part, idle, holds, HasPart, entries_of}
+use Rattle.spin_core.specs.Views.{Part, idle, holds, HasPart, entries_of_part}
 use Rattle.spin_core.proofs.Leaving.{sum-up}
-use Rattle.spin_core.specs.Cell.{Meets}
+use Rattle.spin_core.specs.Cell.{MeetsRule}
 use Rattle.spin_core.specs.declared.tie.Opening.{Opening}
 use Rattle.spin_core.specs.declared.trace.Trace.{Trace}
 use Rattle.spin_core.proofs.Owners.{OfReaders, readers_or_writer}
@@ -83,7 +83,7 @@ module _ {T : Type 0} (value : T) where
 
     -- an exchange of a call that asks to hold so, where the word may be another one by now
     exchanges : (to : Next RwPoint (Answer T) → Part) (f : ℕ → Option ℕ) (ask : Ask) (k : Kind) (won missed : Next RwPoint (Answer T)) (n : ℕ) → from ≡ idle → Decides s (gets p ask) rw_word (f w)
-        → (to won ≡ holds k) × ((j : ℕ) → to (goes_for j) ≡ idle) × (to missed ≡ idle) → entries_after s (Some (gets p ask)) (entries_of p idle) ≡ entries_of p (holds k)
+        → (to won ≡ holds k) × ((j : ℕ) → to (goes_for j) ≡ idle) × (to missed ≡ idle) → entries_after s (Some (gets p ask)) (entries_of_part p idle) ≡ entries_of_part p (holds k)
         → SoundAct one_number 0 rw_word (λ j. Unit {0}) (retry n f (λ q. gets q ask) won goes_for missed) to p s from
     exchanges to f ask k won missed n is grants parts comes = grind (arith, is, grants, parts, comes)
 
@@ -114,5 +114,5 @@ module _ {T : Type 0} (value : T) where
     sound = λ c l h p plain vs from comes room order is fine has. sound p plain from room order has c l h comes;
   }
 
-pub starts : {T : Type 0} (opening : Opening T) (trace : Trace (Entries T) (Unit {0})) → trace.name ≡ opening.name → trace.entries ≡ [] → Meets (IsRw opening) (ways_of rw_meaning opening) 0 trace []
+pub starts : {T : Type 0} (opening : Opening T) (trace : Trace (Entries T) (Unit {0})) → trace.name ≡ opening.name → trace.entries ≡ [] → MeetsRule (IsRw opening) (ways_of rw_meaning opening) 0 trace []
 starts opening trace named empty = session.starts (rw_table opening.value reader_limit) rw_meaning (rw_refines opening.value) opening trace named empty

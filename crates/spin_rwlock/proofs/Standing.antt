@@ -6,7 +6,7 @@ use Rattle.spin_step_more.specs.Readers.{tells, released, turned}
 use Rattle.spin_step.proofs.Holders.{is_holder-from_entries}
 use Rattle.spin_step_more.proofs.Readers.{tells-holder}
 use Rattle.spin_step.proofs.Sums.{upgrader, one_of, by_kinds, all_kinds, sum-less, sum-turned, length-with_kind}
-use Rattle.spin_core.specs.Views.{Part, entries_of}
+use Rattle.spin_core.specs.Views.{Part, entries_of_part}
 use Rattle.spin_core.proofs.Owners.{exactly}
 use Rattle.spin_rwlock.specs.Rw.{part, Word, View}
 use Rattle.spin_rwlock.specs.Standing.{is_of_kind, has_kind, held, readers, upgradables, askers, writers, holders, ReadersOrWriter, HoldsAt}
@@ -16,13 +16,13 @@ abbrev one_if : Bool → ℕ
 one_if b = cond b 1 0
 
 -- a party whose part is of the kind `k` is one holder of this kind in the plain lock, and any other party is none
-one_holder : (k : Kind) (p : ℕ) (x : Part) → one_if (is_of_kind k x) ≡ count_kind k (entries_of p x).holders
+one_holder : (k : Kind) (p : ℕ) (x : Part) → one_if (is_of_kind k x) ≡ count_kind k (entries_of_part p x).holders
 one_holder k p x = grind (arith, sum_by-cons (λ (h : Holder). one_of k h.kind))
 
 -- as many parties are of the kind `k` as the plain lock has holders of this kind
 as_many : (k : Kind) (word : ℕ) (vs : List View) (rule : Word word tt vs) → held k vs ≡ count_kind k rule.0.holders
 as_many k word vs rule =
-    exactly (λ h. h.party) (λ h. one_if (same_kind k h.kind)) part (λ v. one_if (has_kind k v)) (λ p x. count_kind k (entries_of p x).holders) (λ p v. one_holder k p (part v)) vs rule.0.holders
+    exactly (λ h. h.party) (λ h. one_if (same_kind k h.kind)) part (λ v. one_if (has_kind k v)) (λ p x. count_kind k (entries_of_part p x).holders) (λ p v. one_holder k p (part v)) vs rule.0.holders
     (λ p. ap (λ e. count_kind k e.holders) (rule.3 p).0) (λ p. refl)
 
 pub counts_parties : (word : ℕ) (vs : List View) → Word word tt vs → word ≡ ((weight reading * readers vs + weight upgradable * upgradables vs) + weight asking * askers vs) + weight writing * writers vs
@@ -43,7 +43,7 @@ zero_when_free word vs rule = let e = counts_parties word vs rule in ((λ z. ome
 -- An addition without an earlier load gives the same word as the step function
 
 stands : (vs : List View) (p : ℕ) (k : Kind) (word : ℕ) (rule : Word word tt vs) → HoldsAt vs p k → is_holder p k rule.0.holders ≡ true
-stands vs p k word rule at = is_holder-from_entries p k rule.0.holders (ap (λ e. e.holders) (rule.3 p).0 ∙ ap (λ x. (entries_of p x).holders) at)
+stands vs p k word rule at = is_holder-from_entries p k rule.0.holders (ap (λ e. e.holders) (rule.3 p).0 ∙ ap (λ x. (entries_of_part p x).holders) at)
 
 told : (vs : List View) (p : ℕ) (k : Kind) (word : ℕ) (rule : Word word tt vs) → HoldsAt vs p k → tells k word ≡ true
 told vs p k word rule at =

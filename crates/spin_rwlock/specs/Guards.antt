@@ -1,7 +1,7 @@
 -- The value of a guard, the write guard with another value in its place, and what the party of a guard knows of the history.
 use Rattle.std.specs.Prelude.{◌≡◌, ◌≤◌, Option, Some, length}
-use Rattle.spin_core.specs.Own.{mark_of}
-use Rattle.spin_core.specs.Writer.{with_value}
+use Rattle.spin_core.specs.Own.{own_mark}
+use Rattle.spin_core.specs.Writer.{writer_of}
 use Rattle.spin_session.specs.Turns.{SeatSpot, spot_of}
 use Rattle.spin_step_more.specs.declared.rw_calls.RwCall.{RwCall}
 use Rattle.spin_step_more.specs.declared.rw_calls.RwPoint.{RwPoint}
@@ -28,14 +28,14 @@ module _ {T R : Type 0} where
   write_value it = it.writer.value
 
   abbrev pub write_with : RwLockWriteGuard T R → T → RwLockWriteGuard T R
-  write_with it x = record { writer = with_value it.writer x; seen = it.seen; strategy = it.strategy }
+  write_with it x = record { writer = writer_of it.writer x; seen = it.seen; strategy = it.strategy }
 
   abbrev pub write_spot : RwLockWriteGuard T R → RwSpot T
   write_spot it = (it.writer.key, Some it.writer.view, it.seen)
 
   -- the guard knows the history of its lock, at least up to the last step of its party
-  abbrev pub Holds : RwLockWriteGuard T R → Type 0
-  Holds it = (it.writer.key.name ≡ it.seen.name) × (mark_of (Some it.writer.view) ≤ length it.seen.entries)
+  abbrev pub KnowsItsSteps : RwLockWriteGuard T R → Type 0
+  KnowsItsSteps it = (it.writer.key.name ≡ it.seen.name) × (own_mark (Some it.writer.view) ≤ length it.seen.entries)
 
   -- the value of a hold; nobody writes it while the hold lives
   abbrev pub read_held_value : ReadHeld T R → Option T

@@ -13,7 +13,7 @@ pub use Rattle.spin_session.specs.Ending.{Includes, Recalls}
 use Rattle.spin_session.specs.Turns as turns
 pub use Rattle.spin_session.specs.Passes.{◌⨾◌, After, history, lock_of, new_in, opening_of, party, OpensWith}
 use Rattle.spin_rwlock.specs.Rw.{View, rw_tables}
-pub use Rattle.spin_rwlock.specs.Guards.{RwSpot, shared_spot, write_spot, Holds}
+pub use Rattle.spin_rwlock.specs.Guards.{RwSpot, shared_spot, write_spot, KnowsItsSteps}
 use Rattle.spin_rwlock.specs.Guards.{shared_value, write_value}
 use Rattle.spin_rwlock.specs.declared.rwlock.RwLock.{RwLock}
 use Rattle.spin_rwlock.specs.declared.rwlock.reader.SharedGuard.{SharedGuard}
@@ -62,7 +62,7 @@ module _ {T : Type 0} where
   module _ {R : Type 0} where
     -- By this call the party at `before` is the writer with this guard, whose value is the one written last.
     abbrev pub Grants : RwCall → RwSpot T → RwLockWriteGuard T R → Type 0
-    Grants call before guard = let now = write_spot guard in Holds guard × IsLast (opening_of now) (history now) (write_value guard) × Calls call Granted before now
+    Grants call before guard = let now = write_spot guard in KnowsItsSteps guard × IsLast (opening_of now) (history now) (write_value guard) × Calls call Granted before now
 
     -- The writer has written the guard's value, so this is the one written last, and has then made this call.
     abbrev pub Unlocks : RwCall → RwLockWriteGuard T R → RwSpot T → Type 0
@@ -71,4 +71,4 @@ module _ {T : Type 0} where
   module _ {R K : Type 0} {kind : Ghosts K} where
     -- If the writer knows its lock's history, it has written its value, and has become the reader with this guard by this call.
     abbrev pub Lowers : RwCall → RwLockWriteGuard T R → SharedGuard T K R kind → Type 0
-    Lowers call writer reader = Holds writer → Unlocks call writer (shared_spot reader)
+    Lowers call writer reader = KnowsItsSteps writer → Unlocks call writer (shared_spot reader)

@@ -5,7 +5,7 @@ use Rattle.spin_step.specs.Plain.{Plain, writing, releases, is_open, apply, flag
 use Rattle.spin_seated.specs.declared.mutex.Call.{Call}
 use Rattle.spin_seated.specs.declared.mutex.Call.TheVariants.{Unlock}
 use Rattle.spin_seated.specs.declared.lock.Answer.TheVariants.{Done}
-use Rattle.spin_seated.specs.Histories.{holds, Owes}
+use Rattle.spin_seated.specs.Histories.{holds, OwesAlways}
 use Rattle.spin_seated.specs.Mutex.{mutex}
 use Rattle.spin_seated.specs.Passes.{KnownOf}
 use Rattle.spin_seated.proofs.Holders.{alone_state, alone_is}
@@ -14,5 +14,5 @@ use Rattle.spin_seated.proofs.Holders.{alone_state, alone_is}
 abbrev pub Leaves : ℕ → Type 0
 Leaves new = (s : Plain) (p : ℕ) → flag_word s ≡ 1 → is_open s (releases p writing) ≡ true → new ≡ flag_word (apply s (releases p writing))
 
-pub frees_owed : (x : KnownOf Call) (new : ℕ) → Leaves new → holds mutex x ≡ true → Owes mutex x 0 (λ _. new) (λ _. Some (Unlock, Done))
+pub frees_owed : (x : KnownOf Call) (new : ℕ) → Leaves new → holds mutex x ≡ true → OwesAlways mutex x 0 (λ _. new) (λ _. Some (Unlock, Done))
 frees_owed x new leaves held = grind (arith, alone_is, alone_state)

@@ -8,7 +8,7 @@ use Rattle.atomic_table.specs.Table.{State, Step, Me, Act, keeps, Valid, Allows,
 use Rattle.atomic_table.proofs.Lists.{at_set, at_snoc, set_else}
 use Rattle.spin_seated.specs.declared.history.Entry.{Entry}
 use Rattle.spin_seated.specs.declared.history.Known.{Known}
-use Rattle.spin_seated.specs.Histories.{PlainObject, entry, newcomer, names, total, One, state, IsLegal, Made, Met, Fits, AllFit, OneHistory, all_passes, IsTracked, Turned, Tells, Shows, Owed, Owes}
+use Rattle.spin_seated.specs.Histories.{PlainObject, entry, newcomer, names, total, One, state, IsLegal, Made, Met, Fits, AllFit, OneHistory, all_passes, IsTracked, Turned, Tells, Shows, IsOwedAt, OwesAlways}
 use Rattle.spin_seated.proofs.Totals.{total-append, total-set, at_most}
 use Rattle.spin_seated.proofs.Histories.{begins_here, begins_longer, calls_by-append, calls_by-own, calls_by-other, after-append, legal-append, still}
 
@@ -104,19 +104,19 @@ module _ {K S C A H : Type 0} (m : PlainObject K S C A H) where
         (w : List (Known K C A)) × (act : Act X) × Valid s.homes [] act × OneHistory m x.opening (stepped (record s { words = words }) i (f (slice_index words i)) id [] w act)
         × (One (λ y. Turned m t x y) w × (carried_after [] act ≡ []))
 
-    steps : (t : Option (C × A)) → Owed m x.pass i f now t → Steps (m.words now) t
+    steps : (t : Option (C × A)) → IsOwedAt m x.pass i f now t → Steps (m.words now) t
     steps None owed = (x ∷ [], keeps, tt, idles owed, (refl, refl))
     steps (Some t) owed =
         (knowing x (longer t.0 t.1 owed.0 owed.1 owed.2) ∷ [], keeps, tt, makes t.0 t.1 owed.0 owed.1 owed.2, (made t.0 t.1 owed.0 owed.1 owed.2, refl))
 
-    steps_here : IsTracked m → (told : ℕ → Option (C × A)) → Owes m x i f told → slice_index s.words i < 18446744073709551616 → Steps s.words (told (slice_index s.words i))
+    steps_here : IsTracked m → (told : ℕ → Option (C × A)) → OwesAlways m x i f told → slice_index s.words i < 18446744073709551616 → Steps s.words (told (slice_index s.words i))
     steps_here tracked told owes small =
         subst (λ (words : List ℕ). Steps words (told (slice_index words i))) (sym kept.words)
         (steps (told (slice_index (m.words now) i)) (owes kept.log kept.legal (still m tracked x kept.log own_fits.begins own_fits.own) (subst (λ (words : List ℕ). slice_index words i < 18446744073709551616) kept.words small)))
 
-  -- a step of a pass keeps the rule, if the lock shows what `Owes` asks of that step
+  -- a step of a pass keeps the rule, if the lock shows what `OwesAlways` asks of that step
   pub allows : {X : Type 0} → IsTracked m → (k : K) (slots id : ℕ) (me : Me X (List (Known K C A))) (x : Known K C A) (i : ℕ) (f : ℕ → ℕ) (st : Step X) (told : ℕ → ℕ → Option (C × A))
-      → me ≡ (x ∷ [], []) → x.opening ≡ k → Owes m x i f (told st.first) → Allows (OneHistory m k) slots id me i f (Tells m told st me)
+      → me ≡ (x ∷ [], []) → x.opening ≡ k → OwesAlways m x i f (told st.first) → Allows (OneHistory m k) slots id me i f (Tells m told st me)
   allows {X} tracked k slots id me x i f st told is opening owes =
       subst (λ (o : K). Allows (OneHistory m o) slots id me i f (Tells m told st me)) opening
       (subst (λ (u : Me X (List (Known K C A))). Allows (OneHistory m x.opening) slots id u i f (Tells m told st u)) (sym is)

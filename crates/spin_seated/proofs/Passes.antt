@@ -7,7 +7,7 @@ use Rattle.atomic_table.specs.Seated.{TableId}
 use Rattle.atomic_table.specs.Table.{Step, Me, Allows, step}
 use Rattle.spin_seated.specs.declared.lock.Opening.{Opening}
 use Rattle.spin_seated.specs.declared.lock.Answer.{Answer}
-use Rattle.spin_seated.specs.Histories.{PlainObject, newcomer, holds, One, Two, OneHistory, IsTracked, Met, Turned, held_then, Tells, Shows, Owes}
+use Rattle.spin_seated.specs.Histories.{PlainObject, newcomer, holds, One, Two, OneHistory, IsTracked, Met, Turned, held_then, Tells, Shows, OwesAlways}
 use Rattle.spin_seated.specs.Passes.{KnownOf, Seated, seated_of, first_of_view, IsOneSeat}
 use Rattle.spin_seated.proofs.Histories.{after_step}
 use Rattle.spin_seated.proofs.Keeping.{allows}
@@ -21,8 +21,8 @@ module _ {S C H : Type 0} (m : PlainObject Opening S C Answer H) where
     pub its_view : s.me ≡ (v.known ∷ [], [])
     its_view = grind (arith, is, one, view)
 
-    -- the table lets the pass make a step, if the lock shows what `Owes` asks of that step
-    pub may_step : IsTracked m → (t : TableId) (k : Opening) (i a b : ℕ) (f : ℕ → ℕ) (told : ℕ → ℕ → Option (C × Answer)) → (v.table ≡ t) × (v.known.opening ≡ k) → i < 2 → t.words ≡ 2 → Owes m v.known i f (told a)
+    -- the table lets the pass make a step, if the lock shows what `OwesAlways` asks of that step
+    pub may_step : IsTracked m → (t : TableId) (k : Opening) (i a b : ℕ) (f : ℕ → ℕ) (told : ℕ → ℕ → Option (C × Answer)) → (v.table ≡ t) × (v.known.opening ≡ k) → i < 2 → t.words ≡ 2 → OwesAlways m v.known i f (told a)
         → (s.table_id ≡ t) × (i < t.words) × Allows (OneHistory m k) t.slots s.id s.me i f (Tells m told (step t.slots i a b none) s.me)
     may_step tracked t k i a b f told own below two owes = (its_table ∙ own.0, omega (arith, below, two), allows m tracked k t.slots s.id s.me v.known i f (step t.slots i a b none) told its_view own.1 owes)
 

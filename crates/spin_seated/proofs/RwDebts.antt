@@ -8,7 +8,7 @@ use Rattle.spin_step_more.proofs.Readers.{one_of_each, read-word, reader-word, w
 use Rattle.spin_step_more.proofs.ReaderSteps.{rw_release-gives, rw_turn-gives}
 use Rattle.spin_seated.specs.declared.history.Entry.{Entry}
 use Rattle.spin_seated.specs.declared.rwlock.SeatedHold.TheVariants as hold
-use Rattle.spin_seated.specs.Histories.{state, holds, Turned, Owed, Owes}
+use Rattle.spin_seated.specs.Histories.{state, holds, Turned, IsOwedAt, OwesAlways}
 use Rattle.spin_seated.specs.Passes.{KnownOf, Seated}
 use Rattle.spin_seated.specs.Rw.{Locked, Answer, Truth, Value, Done, Call, TryRead, ReaderCount, WriterCount, UnlockRead, UnlockWrite, Downgrade, SeatedHold, kind_of, hold_in, may_with, rw, refused_by}
 use Rattle.spin_seated.proofs.Histories.{after_own}
@@ -35,13 +35,13 @@ module _ (p : ℕ) (s : Locked) (st : Standing s) where
   ends : (d : Change) (b : Bool) (n : ℕ) → is_open s.lock d ≡ b → n ≡ rw_word (apply_some s.lock (if b then Some d else None)) → n ∷ s.value ∷ [] ≡ words_if d (is_open s.lock d)
   ends d b n is to = ap (λ (n : ℕ). n ∷ s.value ∷ []) to ∙ sym (ap (words_if d) is)
 
-  refused : (b : Bool) → hold_in p s ≡ None → is_open s.lock (gets p to_read) ≡ b → Owed rw p 0 (λ _. word) s (if b then None else Some (TryRead, Truth false))
+  refused : (b : Bool) → hold_in p s ≡ None → is_open s.lock (gets p to_read) ≡ b → IsOwedAt rw p 0 (λ _. word) s (if b then None else Some (TryRead, Truth false))
   refused b free is = grind (arith, ends)
 
-  looks_at : hold_in p s ≡ None → Owed rw p 0 (λ _. word) s (refused_by word)
+  looks_at : hold_in p s ≡ None → IsOwedAt rw p 0 (λ _. word) s (refused_by word)
   looks_at free = refused (has_room reading word reader_limit) free (read-word s.lock word reader_limit one st.cap refl)
 
-  comes_at : (old new : ℕ) (b : Bool) → hold_in p s ≡ None → (word == old) ≡ b → LetsRead old new → Owed rw p 0 (λ _. either b new word) s (if b then Some (TryRead, Truth true) else refused_by word)
+  comes_at : (old new : ℕ) (b : Bool) → hold_in p s ≡ None → (word == old) ≡ b → LetsRead old new → IsOwedAt rw p 0 (λ _. either b new word) s (if b then Some (TryRead, Truth true) else refused_by word)
   comes_at old new b free same lets = grind (arith, one, eqb-true, ends, looks_at)
 
   -- if a pass holds, the plain lock has it as a holder of that kind
@@ -52,10 +52,10 @@ module _ (p : ℕ) (s : Locked) (st : Standing s) where
 abbrev found : KnownOf Call → List (Entry Call Answer) → Locked
 found x log = state rw x.opening log
 
-pub loads_owed : (x : KnownOf Call) → holds rw x ≡ None → Owes rw x 0 (λ n. n) refused_by
+pub loads_owed : (x : KnownOf Call) → holds rw x ≡ None → OwesAlways rw x 0 (λ n. n) refused_by
 loads_owed x free log legal has small = looks_at x.pass (found x log) (standing x.opening log legal) (has ∙ free)
 
-pub acquires_read_owed : (x : KnownOf Call) (old new : ℕ) → LetsRead old new → holds rw x ≡ None → Owes rw x 0 (λ n. either (n == old) new n) (λ found. if found == old then Some (TryRead, Truth true) else refused_by found)
+pub acquires_read_owed : (x : KnownOf Call) (old new : ℕ) → LetsRead old new → holds rw x ≡ None → OwesAlways rw x 0 (λ n. either (n == old) new n) (λ found. if found == old then Some (TryRead, Truth true) else refused_by found)
 acquires_read_owed x old new lets free log legal has small = comes_at x.pass (found x log) (standing x.opening log legal) old new (rw_word (found x log).lock == old) (has ∙ free) refl lets
 
 -- The pass of a call under way has the same value now as when the call began.
@@ -63,25 +63,25 @@ module _ {v w : Seated Call} (same : v ≡ w) where
   held_now : holds rw v.known ≡ holds rw w.known
   held_now = ap (λ (u : Seated Call). holds rw u.known) same
 
-  pub counts_readers_owed : Owes rw v.known 0 (λ n. n) (λ found. Some (ReaderCount, Value (readers_in found)))
+  pub counts_readers_owed : OwesAlways rw v.known 0 (λ n. n) (λ found. Some (ReaderCount, Value (readers_in found)))
   counts_readers_owed log legal has small = (refl, refl, ap Value (sym (readers-word (found v.known log).lock _ (one v.known.pass (found v.known log) (standing v.known.opening log legal)) refl)))
 
-  pub counts_writers_owed : Owes rw v.known 0 (λ n. n) (λ found. Some (WriterCount, Value (writers_in found)))
+  pub counts_writers_owed : OwesAlways rw v.known 0 (λ n. n) (λ found. Some (WriterCount, Value (writers_in found)))
   counts_writers_owed log legal has small = (refl, refl, ap Value (sym (writers-word (found v.known log).lock _ (one v.known.pass (found v.known log) (standing v.known.opening log legal)) refl)))
 
-  pub reader_goes_owed : holds rw w.known ≡ Some hold.Read → Owes rw v.known 0 (λ n. (n + (2 ^ 64 - weight reading)) % 2 ^ 64) (λ _. Some (UnlockRead, Done))
+  pub reader_goes_owed : holds rw w.known ≡ Some hold.Read → OwesAlways rw v.known 0 (λ n. (n + (2 ^ 64 - weight reading)) % 2 ^ 64) (λ _. Some (UnlockRead, Done))
   reader_goes_owed held log legal has small =
       let s : Locked = found v.known log in let st = standing v.known.opening log legal in let mine = stands v.known.pass s st hold.Read (has ∙ (held_now ∙ held)) in
       let to = rw_release-gives s.lock v.known.pass reading (rw_word s.lock) refl mine in let some = reader-word s.lock v.known.pass mine in
       (ap (may_with UnlockRead) (has ∙ (held_now ∙ held)), ends v.known.pass s st (releases v.known.pass reading) true _ mine (omega (arith, to, some, small)), refl)
 
-  pub writer_goes_owed : holds rw w.known ≡ Some hold.Write → Owes rw v.known 0 (λ n. (n + (2 ^ 64 - weight writing)) % 2 ^ 64) (λ _. Some (UnlockWrite, Done))
+  pub writer_goes_owed : holds rw w.known ≡ Some hold.Write → OwesAlways rw v.known 0 (λ n. (n + (2 ^ 64 - weight writing)) % 2 ^ 64) (λ _. Some (UnlockWrite, Done))
   writer_goes_owed held log legal has small =
       let s : Locked = found v.known log in let st = standing v.known.opening log legal in let mine = stands v.known.pass s st hold.Write (has ∙ (held_now ∙ held)) in
       let to = rw_release-gives s.lock v.known.pass writing (rw_word s.lock) refl mine in let alone = writer-word s.lock v.known.pass st.exclusive mine in
       (ap (may_with UnlockWrite) (has ∙ (held_now ∙ held)), ends v.known.pass s st (releases v.known.pass writing) true _ mine (omega (arith, to, alone)), refl)
 
-  pub reads_on_owed : holds rw w.known ≡ Some hold.Write → Owes rw v.known 0 (λ n. (n + (weight reading - weight writing)) % 2 ^ 64) (λ _. Some (Downgrade, Done))
+  pub reads_on_owed : holds rw w.known ≡ Some hold.Write → OwesAlways rw v.known 0 (λ n. (n + (weight reading - weight writing)) % 2 ^ 64) (λ _. Some (Downgrade, Done))
   reads_on_owed held log legal has small =
       let s : Locked = found v.known log in let st = standing v.known.opening log legal in let mine = stands v.known.pass s st hold.Write (has ∙ (held_now ∙ held)) in
       let may : is_open s.lock (turns v.known.pass writing reading) ≡ true = ap (λ (b : Bool). b && true) mine in

@@ -159,14 +159,14 @@ module _ {K S C A H : Type 0} (m : PlainObject K S C A H) where
   -- What a lock must show for a step that applies f to the word i in the state s. If the step is no call, the words
   -- stay the same. If it is a call, the pass may make it, the words become those of the next state, and the answer is
   -- the machine's.
-  abbrev pub Owed : (p i : ℕ) → (ℕ → ℕ) → S → Option (C × A) → Type 0
-  Owed p i f s None = slice_set (m.words s) i (f (slice_index (m.words s) i)) ≡ m.words s
-  Owed p i f s (Some t) =
+  abbrev pub IsOwedAt : (p i : ℕ) → (ℕ → ℕ) → S → Option (C × A) → Type 0
+  IsOwedAt p i f s None = slice_set (m.words s) i (f (slice_index (m.words s) i)) ≡ m.words s
+  IsOwedAt p i f s (Some t) =
       (m.may p t.0 s ≡ true) × (slice_set (m.words s) i (f (slice_index (m.words s) i)) ≡ m.words (m.next p t.0 s)) × (t.1 ≡ m.answer p t.0 s)
 
-  -- The lock shows this (`Owed`) in the state after each legal history, if the pass then holds what it knows that it
+  -- The lock shows this (`IsOwedAt`) in the state after each legal history, if the pass then holds what it knows that it
   -- holds.
-  abbrev pub Owes : Known K C A → (i : ℕ) → (ℕ → ℕ) → (ℕ → Option (C × A)) → Type 0
-  Owes x i f told =
+  abbrev pub OwesAlways : Known K C A → (i : ℕ) → (ℕ → ℕ) → (ℕ → Option (C × A)) → Type 0
+  OwesAlways x i f told =
       (log : List (Entry C A)) → IsLegal x.opening log → m.holds x.pass (state x.opening log) ≡ holds x → slice_index (m.words (state x.opening log)) i < 18446744073709551616
-      → Owed x.pass i f (state x.opening log) (told (slice_index (m.words (state x.opening log)) i))
+      → IsOwedAt x.pass i f (state x.opening log) (told (slice_index (m.words (state x.opening log)) i))

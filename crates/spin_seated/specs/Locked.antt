@@ -38,7 +38,7 @@ pub data InOrderOf : List ℕ → List ℕ → Type 0 where
   goes_on : {value : ℕ} {values seen : List ℕ} → InOrderOf values seen → InOrderOf (value ∷ values) seen
 
 -- what a lock shows of its machine: its number of passes, its first words, and that a pass's own calls decide what it holds
-pub record IsLock {C H : Type 0} (m : PlainObject Opening Locked C Answer H) : Type 0 where
+pub record IsLockObject {C H : Type 0} (m : PlainObject Opening Locked C Answer H) : Type 0 where
   pub passes : (k : Opening) → m.passes k ≡ k.passes
   pub words : (k : Opening) → m.words (m.start k) ≡ 0 ∷ k.value ∷ []
   pub tracked : IsTracked m

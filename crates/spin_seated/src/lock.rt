@@ -2,7 +2,7 @@
 //! machine says which calls a pass may make and what they answer ([`Calls`]).
 ghost use Rattle.std.specs.Prelude.{◌≡◌, ℕ};
 ghost use Rattle.spin_seated.specs.Histories.{PlainObject};
-ghost use Rattle.spin_seated.specs.Locked.{Locked, IsLock};
+ghost use Rattle.spin_seated.specs.Locked.{Locked, IsLockObject};
 
 use crate::history::View;
 use atomic_table::{Table, TableRule};
@@ -52,9 +52,9 @@ pub trait Calls {
     /// Does nothing. A caller calls it to learn its contract.
     ///
     /// # Contract
-    /// The machine is that of a lock (`IsLock`).
+    /// The machine is that of a lock (`IsLockObject`).
     fn laws()
-        ensures { IsLock machine };
+        ensures { IsLockObject machine };
 }
 
 /// The rule of the table: there is one legal history, and the words are those of the plain lock after it. No

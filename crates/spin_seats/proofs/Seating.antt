@@ -9,7 +9,7 @@ use Rattle.spin_step.specs.declared.place.Seat.TheVariants.{Holding}
 use Rattle.spin_step.specs.declared.answer.Answer.TheVariants.{Granted}
 use Rattle.spin_step.proofs.Holders.{is_holder-from_entries, length-held, length-without_holder}
 use Rattle.spin_core.specs.Cell.{reading as reads_of, readers_of}
-use Rattle.spin_core.specs.Views.{Part, holds, entries_of, part_at, HasPart, IsLockOf}
+use Rattle.spin_core.specs.Views.{Part, holds, entries_of_part, part_at, HasPart, IsLockOf}
 use Rattle.spin_core.specs.declared.tie.Opening.{Opening}
 use Rattle.spin_core.proofs.Leaving.{flag_word-up}
 use Rattle.spin_core.proofs.Views.{release-own}
@@ -79,5 +79,5 @@ module _ (n : ℕ) where
   pub gets_up_as_step : (word : ℕ) (vs : List View) (p : ℕ) → IsWord n word tt vs → part_at (part n) vs p ≡ holds reading
       → (1 ≤ word) × ((word + (2 ^ 64 - 1)) % 2 ^ 64 ≡ word - 1)
   gets_up_as_step word vs p (is, few) at =
-      let some = length-held p reading is.0.holders (ap (λ e. e.holders) ((is.3 p).0 ∙ ap (entries_of p) at)) in
+      let some = length-held p reading is.0.holders (ap (λ e. e.holders) ((is.3 p).0 ∙ ap (entries_of_part p) at)) in
       (omega (arith, is.4, some), omega (arith, is.4, some, few))

@@ -21,5 +21,5 @@ abbrev pub entered : ℕ → ℕ → Option ℕ
 entered n w = if nat_lt w (seats n) then Some (w + 1) else None
 
 -- the word after a party has freed its seat
-abbrev pub left : ℕ → ℕ
-left w = w - 1
+abbrev pub freed : ℕ → ℕ
+freed w = w - 1

@@ -20,18 +20,18 @@ use Rattle.spin_step.specs.Acts.{one_number, Act, load, load_for, attempt, retry
 use Rattle.spin_step.specs.Tables.{usual_table}
 use Rattle.spin_step.specs.declared.table.Operation.TheVariants as op
 
-abbrev pub Answered : Type 0
-Answered = Next SeatsPoint (Answer (Unit {0}))
+abbrev pub SeatsNext : Type 0
+SeatsNext = Next SeatsPoint (Answer (Unit {0}))
 
-abbrev pub granted : Answered
+abbrev pub granted : SeatsNext
 granted = Answers Granted (Some Read)
 
 -- a call that takes a seat goes on to an exchange that expects the word found
-abbrev pub goes_for : ℕ → Answered
+abbrev pub goes_for : ℕ → SeatsNext
 goes_for w = Continue (Exchange w)
 
 -- A call that takes a seat loads first. Then it repeats its exchange as long as the word found has a free seat.
-abbrev pub enters_by : ℕ → Answered → SeatsPoint → Act ℕ SeatsPoint (Answer (Unit {0}))
+abbrev pub enters_by : ℕ → SeatsNext → SeatsPoint → Act ℕ SeatsPoint (Answer (Unit {0}))
 enters_by n missed First = load_for (entered n) (λ p. gets p to_read) goes_for missed
 enters_by n missed (Exchange k) = retry k (entered n) (λ p. gets p to_read) granted goes_for missed
 

@@ -5,7 +5,7 @@ ghost use Rattle.spin_core.specs.Own.{Numbered, IsRun};
 ghost use Rattle.spin_core.specs.Views.{holds, part_at};
 ghost use Rattle.spin_core.specs.declared.tie.Opening.{Opening};
 ghost use Rattle.spin_core.specs.declared.trace.Trace.{Trace};
-ghost use Rattle.spin_seats.specs.Seats.{left};
+ghost use Rattle.spin_seats.specs.Seats.{freed};
 ghost use Rattle.spin_seats.specs.Rule.{Done, IsSeats, IsWord, View, model, part, seats_taken, words_of};
 
 /// States what the rule of a lock of `n` seats says of its word: the word is the number of parties that sit,
@@ -17,7 +17,7 @@ pub fn no_more_sit_than_there_are_seats()
 /// States that the subtraction of a party that sits frees a seat as the step function says, on each word that the
 /// rule allows. A thread that frees its seat subtracts without a load.
 pub fn a_subtraction_is_its_step_function()
-    ensures { (n word : ℕ) (views : List View) (p : ℕ) → IsWord n word tt views → part_at (part n) views p ≡ holds reading → (1 ≤ word) × ((word + (2 ^ 64 - 1)) % 2 ^ 64 ≡ left word) }
+    ensures { (n word : ℕ) (views : List View) (p : ℕ) → IsWord n word tt views → part_at (part n) views p ≡ holds reading → (1 ≤ word) × ((word + (2 ^ 64 - 1)) % 2 ^ 64 ≡ freed word) }
 {}
 
 /// States that each run of a [`Seats`](crate::seats::Seats) on threads is a schedule of its model.

@@ -10,8 +10,8 @@
 //! ```
 ghost use Rattle.std.specs.Prelude.{◌≡◌, ◌≤◌, ℕ};
 ghost use Rattle.spin_step.specs.Plain.{Plain, gets, releases, to_read, reading};
-ghost use Rattle.spin_step.specs.Steps.{Decides, Gives};
-ghost use Rattle.spin_seats.specs.Seats.{AllRead, entered, left, seats, seats_word};
+ghost use Rattle.spin_step.specs.Steps.{Decides, GivesWord};
+ghost use Rattle.spin_seats.specs.Seats.{AllRead, entered, freed, seats, seats_word};
 
 /// The most seats of a lock. A lock that is made for more has this many.
 pub const MAX_SEATS: usize = usize::MAX / 8;
@@ -37,11 +37,11 @@ pub fn enter(word: usize, room: usize) -> Option<usize>
 ///
 /// # Contract
 /// A seat has to be taken. Where the plain lock allows the step, the answer is the word of the next state
-/// (`Gives`).
+/// (`GivesWord`).
 pub fn leave(word: usize) -> usize
     requires { 1 ≤ word }
-    ensures exact { result ≡ left word }
-    ensures plain { (s : Plain) (party : ℕ) → seats_word s ≡ word → Gives s (releases party reading) seats_word result }
+    ensures exact { result ≡ freed word }
+    ensures plain { (s : Plain) (party : ℕ) → seats_word s ≡ word → GivesWord s (releases party reading) seats_word result }
 {
     word - 1
 }

@@ -18,7 +18,7 @@ use Rattle.spin_step.specs.declared.stepped.Next.TheVariants.{Continue, Answers}
 use Rattle.spin_session.specs.Meaning.{Meaning, model_at, seat_after, seat_now, use_at, rests_at, table_at}
 use Rattle.spin_session.specs.declared.session.Session.{Session}
 use Rattle.spin_session.specs.Passes.{Writes}
-use Rattle.spin_session.specs.Turns.{MayFind, IsReached, IsLed, IsLedTo, Lands, SeesOn, course_of, next_after, outcome_of, has_begun, held_now, SeatSpot, Comes, GoesBy, GoesOn, Under, Ended, Quiet, StaysQuiet, IsAtPoint, Knows, StandsAt, EachAnswer, Tries, IsAnsweredBy, IsAnswered, Acquires, TriesToAcquire, IsTry, IsLook, Tells, AnswersWith, is_granted}
+use Rattle.spin_session.specs.Turns.{MayFind, RestsAt, IsLed, IsLedTo, Lands, SeesOn, course_of, next_after, outcome_of, has_begun, held_now, SeatSpot, Comes, GoesBy, GoesOn, Under, Ended, Quiet, StaysQuiet, IsAtPoint, Knows, StandsAt, EachAnswer, Tries, IsAnsweredBy, IsAnswered, Acquires, TriesToAcquire, IsTry, IsLook, Tells, AnswersWith, is_granted}
 
 -- the seat of a party does not depend on what its answer says
 pub same_seat : {C L : Type 0} (V : Type 0) (c : C) (h : Option Hold) (next : Next L (Answer (Unit {0}))) → seat_after c h (filled {V = V} None next) ≡ seat_after c h next
@@ -190,7 +190,7 @@ module _ {W V C L : Type 0} (t : ℕ → V → Table W V C L (Answer V)) (s : Me
       (now, inl (subst (λ x. Since (model_at t) (course_of c x) p q) goes since, ap has_begun now))
 
 -- the point at which a party makes a step of its call
-pub reached : {W V C L : Type 0} (t : ℕ → V → Table W V C L (Answer V)) (s : Meaning C L) (c : C) (l : L) (h : Option Hold) (key : Opening V) (view : Option (Seat C L)) → IsAtPoint (table_at t key) c l h view → rests_at s (seat_now view) ≡ true → IsReached t s c l h key
+pub reached : {W V C L : Type 0} (t : ℕ → V → Table W V C L (Answer V)) (s : Meaning C L) (c : C) (l : L) (h : Option Hold) (key : Opening V) (view : Option (Seat C L)) → IsAtPoint (table_at t key) c l h view → rests_at s (seat_now view) ≡ true → RestsAt t s c l h key
 reached t s c l h key view (inl is) rests = inl (subst (λ o. rests_at s (seat_now o) ≡ true) is rests)
 reached t s c l h key view (inr (point, is, may)) rests = inr point
 

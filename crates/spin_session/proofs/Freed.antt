@@ -2,7 +2,7 @@
 use Rattle.std.proofs.Common.{◌≡◌, ◌≤◌, ℕ, true, false, Option, Some, None, length, sym, ap, ◌∙◌, subst}
 use Rattle.spin_core.specs.Cell.{Moved}
 use Rattle.spin_core.specs.Own.{Numbered, what}
-use Rattle.spin_core.specs.Passes.{IsCall, WritesSome, mark_of}
+use Rattle.spin_core.specs.Passes.{IsCall, WritesSome, own_mark}
 use Rattle.spin_core.specs.Spots.{Releases}
 use Rattle.spin_core.specs.Traced.{Watches}
 use Rattle.spin_core.specs.Values.{IsLast}
@@ -37,7 +37,7 @@ module _ {W V C L : Type 0} (t : ℕ → V → Table W V C L (Answer V)) (s : Me
   keeps_name None moved so = absurd moved
   keeps_name (Some w) moved so = moved.0 so
 
-  pub knows : (w : Option (Numbered (Seat C L))) → Moves w → mark_of w ≡ length q.2.entries
+  pub knows : (w : Option (Numbered (Seat C L))) → Moves w → own_mark w ≡ length q.2.entries
   knows None moved = absurd moved
   knows (Some w) moved = let (same, (log, es, known, grew, (own, outs, mine, mark, none, alike, so))) = as_step (Some w) moved in mark ∙ ap length (sym grew)
 
@@ -45,7 +45,7 @@ module _ {W V C L : Type 0} (t : ℕ → V → Table W V C L (Answer V)) (s : Me
   abbrev IsIt : V → V → Type 0
   IsIt x y = p.0.told ≡ true → y ≡ x
 
-  pub releases : named → q.0 ≡ p.0 → mark_of p.1 ≤ length p.2.entries → (x : V) → IsLast p.0 q.2.entries x → Moves q.1 → Releases (model_at t) (λ o. o) c Done x p q
+  pub releases : named → q.0 ≡ p.0 → own_mark p.1 ≤ length p.2.entries → (x : V) → IsLast p.0 q.2.entries x → Moves q.1 → Releases (model_at t) (λ o. o) c Done x p q
   releases is_named same knew x last moved =
       let says : Says (table_at t p.0) s = gives_up (table_at t p.0) s (IsIt x) c (Some (Holding h)) in
       let all = spots.took (model_at t) (λ z. z) (words_of (table_at t p.0)) p q same knew is_named n says (λ k. resting after) (λ k. WritesSome (IsIt x) (IsCall c Done))

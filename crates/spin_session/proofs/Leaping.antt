@@ -4,7 +4,7 @@ use lib.ListN.{get_elem?}
 use mathlib.Core.Option.{some}
 use Rattle.std.specs.List.{list_all}
 use Rattle.std.proofs.Math.Seq.{set-append_seam}
-use Rattle.spin_step.specs.Acts.{Table, operation_by, next_of, number_at, machine_of, begin_of}
+use Rattle.spin_step.specs.Acts.{Table, operation_by, next_of, word_number, machine_of, begin_of}
 use Rattle.spin_step.specs.Operations.{performed}
 use Rattle.spin_step.specs.Schedules.{State, after, resting, placed, begun, happens}
 use Rattle.spin_step.specs.declared.answer.Answer.{Answer}
@@ -17,16 +17,16 @@ use Rattle.spin_step.specs.declared.schedule.Outcome.TheVariants.{Begun, GoingOn
 use Rattle.spin_step.specs.declared.stepped.Next.{Next}
 use Rattle.spin_step.specs.declared.stepped.Next.TheVariants.{Continue, Answers}
 use Rattle.spin_core.specs.Cell as cell
-use Rattle.spin_core.specs.Cell.{Use, Ways, use_of, Going, AllowsTo, Meets, Stands, readers_of}
+use Rattle.spin_core.specs.Cell.{Use, Ways, use_of, Going, AllowsTo, MeetsRule, HasView, readers_of}
 use Rattle.spin_core.specs.Own.{Numbered, by_party, what}
-use Rattle.spin_core.specs.Run.{is_of_call, is_played, outcomes}
+use Rattle.spin_core.specs.Run.{is_of_call, is_played, outcomes_of}
 use Rattle.spin_core.specs.Passes.{Course, Ending, Waits, Ends}
 use Rattle.spin_core.specs.Values.{left}
-use Rattle.spin_core.specs.Views.{Part, idle, entries_of, HasPart}
+use Rattle.spin_core.specs.Views.{Part, idle, entries_of_part, HasPart}
 use Rattle.spin_core.specs.declared.tie.Opening.{Opening}
 use Rattle.spin_core.proofs.Plays.{ways}
 use Rattle.spin_core.proofs.Views.{part_before, number as number_of, own_part, lock_after}
-use Rattle.spin_session.specs.Meaning.{Meaning, Beside, worked, number_in, put_in, on_place, way_of, part_of, seat_now, rests_at, seat_after, use_at, words_in, AreWords, FindsAt, ComesFrom, RefinesOn}
+use Rattle.spin_session.specs.Meaning.{Meaning, Beside, worked, number_in, put_in, on_place, lends_if, part_of, seat_now, rests_at, seat_after, use_at, words_in, AreWords, FindsAt, ComesFrom, RefinesOn}
 use Rattle.spin_session.specs.Turns.{outcome_of, Says, Quiet, Told, GoesTo, IsLed, FusesBy, Lands, Reaches, leap, next_after, course_of, held_now}
 use Rattle.spin_session.specs.Operating.{Operates}
 use Rattle.spin_session.proofs.Course.{held_resting}
@@ -87,7 +87,7 @@ module _ {V : Type 0} where
   set_again zero w u (x ∷ xs) = refl
   set_again (suc i) w u (x ∷ xs) = ap (λ ys. x ∷ ys) (set_again i w u xs)
 
-  stands_then : (id : ℕ) (view : Option V) (vs : List V) (w : V) → Stands id view vs → Stands (place id view vs) (Some w) (cell.after id view vs w)
+  stands_then : (id : ℕ) (view : Option V) (vs : List V) (w : V) → HasView id view vs → HasView (place id view vs) (Some w) (cell.after id view vs w)
   stands_then id None vs w at = there vs w
   stands_then id (Some v) vs w at = set_there id v w vs at
 
@@ -95,7 +95,7 @@ module _ {V : Type 0} where
   after_then id None vs w u = set-append_seam vs w [] u
   after_then id (Some v) vs w u = set_again id w u vs
 
-met : (b : Bool) (u v : Use) (readers : ℕ) (A : Type 0) → Going {X = Unit {0}} (way_of b) u v None readers A → A
+met : (b : Bool) (u v : Use) (readers : ℕ) (A : Type 0) → Going {X = Unit {0}} (lends_if b) u v None readers A → A
 met true u v readers A a = a
 met false u v readers A a = a
 
@@ -108,13 +108,13 @@ module _ {W V C L S : Type 0} (k : Beside S) (t : Table W V C L (Answer V)) (s :
   Goes from course c h w value n' next =
       (own : List (Move C V)) × (outs : List (Ending V)) × course own outs × (list_all (is_of_call (machine_of t)) own ≡ true) × (list_all is_played outs ≡ true) × (w' : W) × (now : Option V)
       × (after (machine_of t) (world w value from) (by_party 0 own) ≡ world w' now (seat_after c h next))
-      × (outcomes (machine_of t) (world w value from) (by_party 0 own) ≡ outs) × (words_in t k w' ≡ (n', (words_in t k w).1))
+      × (outcomes_of (machine_of t) (world w value from) (by_party 0 own) ≡ outs) × (words_in t k w' ≡ (n', (words_in t k w).1))
 
   abbrev Walk : C → Option Hold → L → W → Option V → ℕ → Next L (Answer V) → Type 0
   Walk c h l w value n' next = Goes (Calling c l h) (course_on next) c h w value n' next
 
   abbrev number : W → ℕ
-  number w = number_at t.memory 0 w
+  number w = word_number t.memory 0 w
 
   -- the step of a party that is alone
   steps_here : (c : C) (l : L) (h : Option Hold) (w : W) (value : Option V) → let z = st k t s d opening c l h w value in let next = next_of t c l h (number w) in
@@ -148,7 +148,7 @@ module _ {W V C L S : Type 0} (k : Beside S) (t : Table W V C L (Answer V)) (s :
         w',
         value',
         ap (λ x. after (machine_of t) x.next (by_party 0 own)) now ∙ leads,
-        ap (λ x. x.outcome ∷ outcomes (machine_of t) x.next (by_party 0 own)) now ∙ ap (λ o. GoingOn ∷ o) came,
+        ap (λ x. x.outcome ∷ outcomes_of (machine_of t) x.next (by_party 0 own)) now ∙ ap (λ o. GoingOn ∷ o) came,
         words ∙ ap (λ x. (n', x.1)) one.1,
       )
 
@@ -173,7 +173,7 @@ module _ {W V C L S : Type 0} (k : Beside S) (t : Table W V C L (Answer V)) (s :
         w',
         value',
         ap (λ y. after (machine_of t) y.next (by_party 0 own)) now ∙ leads,
-        ap (λ y. y.outcome ∷ outcomes (machine_of t) y.next (by_party 0 own)) now ∙ ap (λ o. Begun ∷ o) came,
+        ap (λ y. y.outcome ∷ outcomes_of (machine_of t) y.next (by_party 0 own)) now ∙ ap (λ o. Begun ∷ o) came,
         words ∙ ap (λ y. (y, (words_in t k w).1)) (sym is),
       )
 
@@ -190,16 +190,16 @@ module _ {W V C L S : Type 0} (k : Beside S) (t : Table W V C L (Answer V)) (s :
   -- a party with this view gets a seat of which P holds, and the first word becomes n'
   abbrev Gets : Option (Seat C L) → ℕ → ℕ → S → List (Seat C L) → (Seat C L → Type 0) → Type 0
   Gets view id n' m vs P =
-      (u : Seat C L) × Going Lock.0 (use_of Lock.1 view) (Lock.1 u) None (readers_of Lock.1 vs) (Meets (AreWords k s) Lock n' m (cell.after id view vs u)) × P u
+      (u : Seat C L) × Going Lock.0 (use_of Lock.1 view) (Lock.1 u) None (readers_of Lock.1 vs) (MeetsRule (AreWords k s) Lock n' m (cell.after id view vs u)) × P u
 
-  step_here : (view : Option (Seat C L)) (c : C) (l : L) (h : Option Hold) → ComesFrom t s c l h (part_before (part_of s) view) → (id n : ℕ) (m : S) (vs : List (Seat C L)) → Meets (AreWords k s) Lock n m vs → Stands id view vs
+  step_here : (view : Option (Seat C L)) (c : C) (l : L) (h : Option Hold) → ComesFrom t s c l h (part_before (part_of s) view) → (id n : ℕ) (m : S) (vs : List (Seat C L)) → MeetsRule (AreWords k s) Lock n m vs → HasView id view vs
       → Gets view id (performed (operation_by (t.act c l h)) n) m vs (λ u. (u ≡ seat_after c h (next_of t c l h n)) × FindsAt s (t.word l) n)
   step_here view c l h comes id n m vs meets at =
       let Out = λ (i : ℕ). let g = on_place k i (worked (operation_by (t.act c l h))) in let x = g.1 (n, m) in
-      (u : Seat C L) × Going Lock.0 (use_of Lock.1 view) (Lock.1 u) None (readers_of Lock.1 vs) (Meets (AreWords k s) Lock (g.0 (n, m)).0 (g.0 (n, m)).1 (cell.after id view vs u))
+      (u : Seat C L) × Going Lock.0 (use_of Lock.1 view) (Lock.1 u) None (readers_of Lock.1 vs) (MeetsRule (AreWords k s) Lock (g.0 (n, m)).0 (g.0 (n, m)).1 (cell.after id view vs u))
       × ((u ≡ seat_after c h (next_of t c l h x)) × (worked (operation_by (t.act c l h)) x ≡ performed (operation_by (t.act c l h)) x) × FindsAt s (t.word l) x) in
       let (u, going, (is, same, finds)) = subst Out (first l) (allows_step k t s d opening view c l h comes id n m vs meets at) in
-      (u, subst (λ x. Going Lock.0 (use_of Lock.1 view) (Lock.1 u) None (readers_of Lock.1 vs) (Meets (AreWords k s) Lock x m (cell.after id view vs u))) same going, (is, finds))
+      (u, subst (λ x. Going Lock.0 (use_of Lock.1 view) (Lock.1 u) None (readers_of Lock.1 vs) (MeetsRule (AreWords k s) Lock x m (cell.after id view vs u))) same going, (is, finds))
 
   reaches : (c : C) (l : L) (h : Option Hold) (from : Part) → ComesFrom t s c l h from → Reaches t s c l h
   reaches c l h from (inl is) = inl (ap is_some is)
@@ -210,7 +210,7 @@ module _ {W V C L S : Type 0} (k : Beside S) (t : Table W V C L (Answer V)) (s :
   Sits c h l m u = ((u ≡ seat_after c h (next_of t c l h m)) × (rests_at s u ≡ true)) × (FindsAt s (t.word l) m × Reaches t s c l h)
 
   walk_allowed : (c : C) (h : Option Hold) (j : ℕ) (l : L) (n : ℕ) (l' : L) (m' : ℕ) → GoesTo t s c h j l n l' m' → (view : Option (Seat C L)) → ComesFrom t s c l h (part_before (part_of s) view)
-      → (id : ℕ) (m : S) (vs : List (Seat C L)) → Meets (AreWords k s) Lock n m vs → Stands id view vs → Gets view id (performed (operation_by (t.act c l' h)) m') m vs (Sits c h l' m')
+      → (id : ℕ) (m : S) (vs : List (Seat C L)) → MeetsRule (AreWords k s) Lock n m vs → HasView id view vs → Gets view id (performed (operation_by (t.act c l' h)) m') m vs (Sits c h l' m')
   walk_allowed c h zero l n l' m' goes view comes id m vs meets at =
       let (u, going, (is, finds)) = step_here view c l h comes id n m vs meets at in
       let rests = subst (λ x. rests_at s x ≡ true) (sym is) (d.goes c l h (part_before (part_of s) view) n comes) in
@@ -220,19 +220,19 @@ module _ {W V C L S : Type 0} (k : Beside S) (t : Table W V C L (Answer V)) (s :
       let n₁ = performed (operation_by (t.act c l h)) n in let now : Seat C L = Calling c i h in
       let sits : u ≡ now = is ∙ ap (seat_after c h) to in
       let rests : rests_at s now ≡ true = subst (λ x. rests_at s (seat_after c h x) ≡ true) to (d.goes c l h (part_before (part_of s) view) n comes) in
-      let meets₁ : Meets (AreWords k s) Lock n₁ m (cell.after id view vs now) = subst (λ x. Meets (AreWords k s) Lock n₁ m (cell.after id view vs x)) sits (met s.shares _ _ _ _ going) in
+      let meets₁ : MeetsRule (AreWords k s) Lock n₁ m (cell.after id view vs now) = subst (λ x. MeetsRule (AreWords k s) Lock n₁ m (cell.after id view vs x)) sits (met s.shares _ _ _ _ going) in
       let (w, on, so) = walk_allowed c h j i n₁ l' m' rest (Some now) (inl (some_part k t s d opening (s.part c i h) rests)) (place id view vs) m (cell.after id view vs now) meets₁ (stands_then id view vs now at) in
       let n₂ = performed (operation_by (t.act c l' h)) m' in
-      (w, going_of s.shares _ _ _ _ (subst (λ us. Meets (AreWords k s) Lock n₂ m us) (after_then id view vs now w) (met s.shares _ _ _ _ on)), so)
+      (w, going_of s.shares _ _ _ _ (subst (λ us. MeetsRule (AreWords k s) Lock n₂ m us) (after_then id view vs now w) (met s.shares _ _ _ _ on)), so)
 
   -- a call that only begins
   only_begins : (c : C) (h : Option Hold) → s.part c (t.start c h) h ≡ Some (part_of s (resting h)) → (view : Option (Seat C L)) → seat_now view ≡ resting h
-      → (id n : ℕ) (m : S) (vs : List (Seat C L)) → Meets (AreWords k s) Lock n m vs → Stands id view vs → Gets view id n m vs (Lands t s c h None)
+      → (id n : ℕ) (m : S) (vs : List (Seat C L)) → MeetsRule (AreWords k s) Lock n m vs → HasView id view vs → Gets view id n m vs (Lands t s c h None)
   only_begins c h part view is id n m vs meets at =
       let (plain, room, order, is_lock, n_is, m_is) = meets.0.0 in let u : Seat C L = Calling c (t.start c h) h in let p : ℕ = number_of (part_of s) id view vs in
       let same : part_before (part_of s) view ≡ part_of s u = part_now k t s d opening view ∙ ap (part_of s) is ∙ sym (ap (λ o. unwrap_or o idle) part) in
       let has : HasPart plain p (part_of s u) = subst (HasPart plain p) same (own_part (part_of s) id view vs plain at is_lock) in
-      let is' = lock_after (part_of s) id view vs u plain None at order is_lock tt (ap (entries_of p) same) has.1 in
+      let is' = lock_after (part_of s) id view vs u plain None at order is_lock tt (ap (entries_of_part p) same) has.1 in
       (u, going_of s.shares _ (use_at s u) _ _ (((plain, room, order, is', n_is, m_is), meets.0.1), d.fits (cell.after id view vs u) plain room order is'), ((refl, ap is_some part), tt))
 
   module _ (c : ℕ → C) (h : Option Hold) (last : ℕ → Option (L × ℕ)) (old new : ℕ) (fuses : FusesBy t s c h last old new) (may : (n : ℕ) → (t.asks (c n) h).begins h ≡ true) where

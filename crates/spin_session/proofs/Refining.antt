@@ -4,7 +4,7 @@ use mathlib.Core.Logic.{◌⊎◌}
 use Rattle.std.specs.List.{list_all}
 use Rattle.spin_step.specs.Plain.{Plain, fresh, ticket_limit}
 use Rattle.spin_step.specs.Orders.{IsInOrder}
-use Rattle.spin_step.specs.Acts.{Table, Act, step_at, step_by, change_at, operation_by, next_of, number_at, is_section, place_of, machine_of, begin_of}
+use Rattle.spin_step.specs.Acts.{Table, Act, step_at, step_by, change_at, operation_by, next_of, word_number, is_section, place_of, machine_of, begin_of}
 use Rattle.spin_step.specs.Operations.{performed, wrapped}
 use Rattle.spin_step.specs.Schedules.{State, Entry, after, resting, goes_on, placed, begun, happens, may_write, written_by}
 use Rattle.spin_step.specs.declared.answer.Answer.{Answer}
@@ -16,11 +16,11 @@ use Rattle.spin_step.specs.declared.schedule.Outcome.TheVariants.{Begun, Written
 use Rattle.spin_step.specs.declared.stepped.Next.{Next}
 use Rattle.spin_step.specs.declared.stepped.Next.TheVariants.{Continue, Answers}
 use Rattle.spin_step.specs.declared.stepped.Stepped.{Stepped}
-use Rattle.spin_core.specs.Cell.{Use, writes, no_fact, Ways, Going, use_of, readers_of, OnWord, AllowsTo, Meets, Stands, Rests, after as after_views}
-use Rattle.spin_core.specs.Own.{Numbered, Runs, what}
-use Rattle.spin_core.specs.Run.{AreMoves, is_played, outcomes}
+use Rattle.spin_core.specs.Cell.{Use, writes, no_fact, Ways, Going, use_of, readers_of, OnWord, AllowsTo, MeetsRule, HasView, Rests, after as after_views}
+use Rattle.spin_core.specs.Own.{Numbered, RunsByRule, what}
+use Rattle.spin_core.specs.Run.{AreMoves, is_played, outcomes_of}
 use Rattle.spin_core.specs.Own.{by_party}
-use Rattle.spin_core.specs.Views.{Part, idle, entries_of, HasPart}
+use Rattle.spin_core.specs.Views.{Part, idle, entries_of_part, HasPart}
 use Rattle.spin_core.specs.Passes.{Ending, IsOut}
 use Rattle.spin_core.specs.declared.tie.Opening.{Opening}
 use Rattle.spin_core.specs.declared.trace.Trace.{Trace}
@@ -33,9 +33,9 @@ use Rattle.spin_core.proofs.Values.{step_leaves, write_leaves, owed}
 use Rattle.spin_core.proofs.Views.{part_before, number, own_part, lock_after}
 use Rattle.spin_step.proofs.InOrder.{in_order-kept, in_order-fresh, cap-kept}
 use Rattle.spin_step.specs.Parties.{apply_some}
-use Rattle.spin_core.specs.Values.{left, last, Leaves}
+use Rattle.spin_core.specs.Values.{left, last_value, Leaves}
 use Rattle.spin_step.specs.declared.schedule.Move.{Move}
-use Rattle.spin_session.specs.Meaning.{Meaning, Beside, just_one, HasSecond, number_in, put_in, on_place, IsAccess, way_of, part_of, seat_now, rests_at, seat_after, use_at, words_in, worked, AreWords, Peeks, FindsAt, ComesFrom, Refines, RefinesOn}
+use Rattle.spin_session.specs.Meaning.{Meaning, Beside, just_one, HasSecond, number_in, put_in, on_place, IsAccess, lends_if, part_of, seat_now, rests_at, seat_after, use_at, words_in, worked, AreWords, Peeks, FindsAt, ComesFrom, Refines, RefinesOn}
 use Rattle.spin_session.specs.Turns.{outcome_of, Says, turn, Quiet, Told, turn_by, gives_up, has_begun, IsAtPoint, peeks}
 use Rattle.spin_session.specs.Operating.{Operates}
 use Rattle.spin_session.proofs.Course.{uses_now}
@@ -44,7 +44,7 @@ use Rattle.spin_step.specs.declared.table.Operation.TheVariants as op
 
 module _ {W V C L A : Type 0} (t : Table W V C L A) where
   -- how a call goes on depends only on the number found
-  next-is : (i : ℕ) (act : Act W L A) → is_section act ≡ false → (w : W) → (step_by {V = V} t.memory i act w).next ≡ (step_at {V = Unit {0}} t.memory 0 (number_at t.memory (place_of i act) w) act t.words).next
+  next-is : (i : ℕ) (act : Act W L A) → is_section act ≡ false → (w : W) → (step_by {V = V} t.memory i act w).next ≡ (step_at {V = Unit {0}} t.memory 0 (word_number t.memory (place_of i act) w) act t.words).next
   next-is i act one w = grind (arith, one)
 
   -- after a store the call goes on in the same way, whatever the store finds
@@ -88,17 +88,17 @@ module _ {W V C L : Type 0} (t : Table W V C L (Answer V)) where
 
 -- The way in which parties share the value
 
-pub going_of : (b : Bool) (u v : Use) (readers : ℕ) (A : Type 0) → A → Going {X = Unit {0}} (way_of b) u v None readers A
+pub going_of : (b : Bool) (u v : Use) (readers : ℕ) (A : Type 0) → A → Going {X = Unit {0}} (lends_if b) u v None readers A
 going_of true u v readers A a = a
 going_of false u v readers A a = a
 
 -- what a step may do does not depend on the values
 as_value : {X Y S : Type 0} (b : Bool) (f : X → Use) (holds : ℕ → S → List X → Type 0) (view : Option X) (shown : Option Y) (g : OnWord S) (comes : ℕ → X → Type 0)
-    → AllowsTo {X = Unit {0}} holds (way_of b, f, no_fact) view None g comes → AllowsTo holds (way_of b, f, no_fact) view shown g comes
+    → AllowsTo {X = Unit {0}} holds (lends_if b, f, no_fact) view None g comes → AllowsTo holds (lends_if b, f, no_fact) view shown g comes
 as_value true f holds view shown g comes all = all
 as_value false f holds view shown g comes all = all
 
-as_meets : {X S : Type 0} (Y : Type 0) (b : Bool) (f : X → Use) (holds : ℕ → S → List X → Type 0) (n : ℕ) (m : S) → Meets {X = Unit {0}} holds (way_of b, f, no_fact) n m [] → Meets {X = Y} holds (way_of b, f, no_fact) n m []
+as_meets : {X S : Type 0} (Y : Type 0) (b : Bool) (f : X → Use) (holds : ℕ → S → List X → Type 0) (n : ℕ) (m : S) → MeetsRule {X = Unit {0}} holds (lends_if b, f, no_fact) n m [] → MeetsRule {X = Y} holds (lends_if b, f, no_fact) n m []
 as_meets Y true f holds n m meets = meets
 as_meets Y false f holds n m meets = meets
 
@@ -117,9 +117,9 @@ module _ {S : Type 0} (k : Beside S) where
   abbrev IsPlace : ℕ → Type 0
   IsPlace i = (i ≡ 0) ⊎ ((i ≡ 1) × HasSecond k)
 
-  number_is : {W V C L A : Type 0} (t : Table W V C L A) (i : ℕ) → IsPlace i → (w : W) → number_at t.memory i w ≡ number_in k i (words_in t k w)
+  number_is : {W V C L A : Type 0} (t : Table W V C L A) (i : ℕ) → IsPlace i → (w : W) → word_number t.memory i w ≡ number_in k i (words_in t k w)
   number_is t i (inl e) w = rw e refl
-  number_is t i (inr (e, keeps)) w = rw e (sym (keeps (number_at t.memory 0 w) (number_at t.memory 1 w)))
+  number_is t i (inr (e, keeps)) w = rw e (sym (keeps (word_number t.memory 0 w) (word_number t.memory 1 w)))
 
   finds_now : {C L : Type 0} (s : Meaning C L) (i : ℕ) → IsPlace i → (plain : Plain) → s.bounds (s.word plain) → plain.cap ≡ s.cap → IsInOrder plain → FindsAt s i (number_in k i (s.word plain, k.of (s.second plain)))
   finds_now s i (inl e) plain bounded room order = rw e (bounded, (plain, room, order, refl))
@@ -155,7 +155,7 @@ module _ {W V C L S : Type 0} (k : Beside S) (t : Table W V C L (Answer V)) (s :
     uses = use_at s;
     idle = Idle;
     is_idle = (refl, refl);
-    way = way_of s.shares;
+    way = lends_if s.shares;
     goes = going_of s.shares;
     cap = s.cap;
     first = s.word;
@@ -165,10 +165,10 @@ module _ {W V C L S : Type 0} (k : Beside S) (t : Table W V C L (Answer V)) (s :
   }
 
   abbrev pub Rule : ℕ → Trace (Entry C V) S → List (Numbered (Seat C L)) → Type 0
-  Rule = Runs (machine_of t) (λ x. x) (words_in t k) (AreWords k s) opening.name
+  Rule = RunsByRule (machine_of t) (λ x. x) (words_in t k) (AreWords k s) opening.name
 
   abbrev pub own_ways : Ways V (Numbered (Seat C L)) (Trace (Entry C V) S)
-  own_ways = (way_of s.shares, λ v. use_at s v.0, last opening)
+  own_ways = (lends_if s.shares, λ v. use_at s v.0, last_value opening)
 
   abbrev pub Moving : Option (Seat C L) → OnWord S → (ℕ → Seat C L → Type 0) → Says t s → Type 0
   Moving view g = AreMoves (machine_of t) (λ x. x) (words_in t k) view g
@@ -205,7 +205,7 @@ module _ {W V C L S : Type 0} (k : Beside S) (t : Table W V C L (Answer V)) (s :
     pub step_is : (w : W) (value : Option V) → (st w value).next ≡ next_of t c l h (found w)
     step_is w value =
         next-is t (t.word l) (t.act c l h) (d.operates c l h) w
-        ∙ ap (next_of t c l h) (ap (λ i. number_at t.memory i w) (d.places c l h) ∙ number_is k t (t.word l) (d.within l) w)
+        ∙ ap (next_of t c l h) (ap (λ i. word_number t.memory i w) (d.places c l h) ∙ number_is k t (t.word l) (d.within l) w)
 
     -- the step of a party that is alone
     pub steps_to : (w : W) (value : Option V) → let z = st w value in let next = next_of t c l h (found w) in
@@ -272,7 +272,7 @@ module _ {W V C L S : Type 0} (k : Beside S) (t : Table W V C L (Answer V)) (s :
         w',
         now,
         ap (λ y. after (machine_of t) y.next (by_party 0 own)) wrote ∙ leads,
-        ap (λ y. y.outcome ∷ outcomes (machine_of t) y.next (by_party 0 own)) wrote ∙ ap (λ o. Written ∷ o) are,
+        ap (λ y. y.outcome ∷ outcomes_of (machine_of t) y.next (by_party 0 own)) wrote ∙ ap (λ o. Written ∷ o) are,
         become,
       )
 
@@ -285,7 +285,7 @@ module _ {W V C L S : Type 0} (k : Beside S) (t : Table W V C L (Answer V)) (s :
   pub keeps : (view : Option (Numbered (Seat C L))) (shown : Option V) (g : OnWord S) (comes : ℕ → Seat C L → Type 0) (says : Says t s) → Leaving (what view) shown says
       → Moving (what view) g comes says → AllowsTo (AreWords k s) (ways lock) (what view) None g comes → TracesTo Rule own_ways view shown g (Told t s says view)
   keeps view shown g comes says leaves moves allows =
-      traces (machine_of t) (λ x. x) (words_in t k) (AreWords k s) opening.name V (way_of s.shares) (use_at s) (last opening) view shown g comes says moves
+      traces (machine_of t) (λ x. x) (words_in t k) (AreWords k s) opening.name V (lends_if s.shares) (use_at s) (last_value opening) view shown g comes says moves
       (λ own outs n u said x word p. owed opening own x word p (use_of (use_at s) (what view)) (use_at s u) shown (leaves own outs n u said))
       (as_value s.shares (use_at s) (AreWords k s) (what view) shown g comes allows)
 
@@ -295,8 +295,8 @@ module _ {W V C L S : Type 0} (k : Beside S) (t : Table W V C L (Answer V)) (s :
 
   -- the step keeps the word that of a plain lock
   pub allows_step : (view : Option (Seat C L)) (c : C) (l : L) (h : Option Hold) → ComesFrom t s c l h (part_before (part_of s) view)
-      → (id n : ℕ) (m : S) (vs : List (Seat C L)) → Meets (AreWords k s) (ways lock) n m vs → Stands id view vs → let g = on_step c l h in
-      (w : Seat C L) × Going (ways lock).0 (use_of (ways lock).1 view) ((ways lock).1 w) None (readers_of (ways lock).1 vs) (Meets (AreWords k s) (ways lock) (g.0 (n, m)).0 (g.0 (n, m)).1 (after_views id view vs w)) × Comes c l h (g.1 (n, m)) w
+      → (id n : ℕ) (m : S) (vs : List (Seat C L)) → MeetsRule (AreWords k s) (ways lock) n m vs → HasView id view vs → let g = on_step c l h in
+      (w : Seat C L) × Going (ways lock).0 (use_of (ways lock).1 view) ((ways lock).1 w) None (readers_of (ways lock).1 vs) (MeetsRule (AreWords k s) (ways lock) (g.0 (n, m)).0 (g.0 (n, m)).1 (after_views id view vs w)) × Comes c l h (g.1 (n, m)) w
   allows_step view c l h comes id n m vs meets at =
       let (plain, room, order, is, n_is, m_is) = meets.0.0 in let p : ℕ = number (part_of s) id view vs in let bounded : s.bounds (s.word plain) = rw n_is at meets.0.1 in rw (n_is, m_is) (
       let z = d.sound c l h p plain vs (part_before (part_of s) view) comes room order is bounded (own_part (part_of s) id view vs plain at is) in
@@ -403,7 +403,7 @@ module _ {W V C L S : Type 0} (k : Beside S) (t : Table W V C L (Answer V)) (s :
   allows_peek view id n m vs meets at small =
       let (plain, room, order, is, n_is, m_is) = meets.0.0 in let p : ℕ = number (part_of s) id view vs in let seat = seat_now view in
       let has : HasPart plain p (part_of s seat) = subst (HasPart plain p) (part_now view) (own_part (part_of s) id view vs plain at is) in
-      let is' = lock_after (part_of s) id view vs seat plain None at order is tt (ap (entries_of p) (part_now view)) has.1 in
+      let is' = lock_after (part_of s) id view vs seat plain None at order is tt (ap (entries_of_part p) (part_now view)) has.1 in
       rw (k.kept (n, m))
       (seat, going_of s.shares _ (use_at s seat) _ _ (((plain, room, order, is', n_is, m_is), meets.0.1), d.fits (after_views id view vs seat) plain room order is'), (refl, (plain, p, order, has, λ i. k.number (n_is i, m_is i))))
 
@@ -422,14 +422,14 @@ module _ {W V C L S : Type 0} (k : Beside S) (t : Table W V C L (Answer V)) (s :
   -- a party that is out may leave
   pub leaves : (view : Option (Numbered (Seat C L))) → IsOut Idle (what view) → Rests Rule (λ v. use_at s v.0) view
   leaves None out = tt
-  leaves (Some v) out = rests (machine_of t) (λ x. x) (words_in t k) (AreWords k s) opening.name V (way_of s.shares) (use_at s) (last opening) v out
+  leaves (Some v) out = rests (machine_of t) (λ x. x) (words_in t k) (AreWords k s) opening.name V (lends_if s.shares) (use_at s) (last_value opening) v out
       (let rest = idle_rests lock v.0 out in (rest.0, λ n m before behind is. (rest.1 n m before behind is.0, is.1)))
 
   -- a new cell
-  pub starts_on : d.first ≤ ticket_limit → (x : Trace (Entry C V) S) → x.name ≡ opening.name → x.entries ≡ [] → x.word ≡ k.of (s.second (fresh s.cap 0 d.first)) → Meets Rule own_ways (s.word (fresh s.cap 0 d.first)) x []
+  pub starts_on : d.first ≤ ticket_limit → (x : Trace (Entry C V) S) → x.name ≡ opening.name → x.entries ≡ [] → x.word ≡ k.of (s.second (fresh s.cap 0 d.first)) → MeetsRule Rule own_ways (s.word (fresh s.cap 0 d.first)) x []
   starts_on small x named empty word =
       let n = s.word (fresh s.cap 0 d.first) in let begun = plays.begins lock 0 d.first n x.word small refl word in
-      opens (machine_of t) (λ z. z) (words_in t k) (AreWords k s) opening.name V (way_of s.shares) (use_at s) (last opening) n x named empty (ap (λ m. (n, m)) word ∙ sym d.opens_at.0)
+      opens (machine_of t) (λ z. z) (words_in t k) (AreWords k s) opening.name V (lends_if s.shares) (use_at s) (last_value opening) n x named empty (ap (λ m. (n, m)) word ∙ sym d.opens_at.0)
       (as_meets V s.shares (use_at s) (AreWords k s) n x.word ((begun.0, d.opens_at.1), begun.1))
 
 -- A table of one word.
@@ -451,7 +451,7 @@ module _ {W V C L : Type 0} (t : Table W V C L (Answer V)) (s : Meaning C L) (d 
         rw (d.one_word l) record { opens = z.opens; entries = z.entries; knows = z.knows; counts = ap (λ n. (n, tt)) z.counts; same = z.same; bounded = z.bounded };
   }
 
-  pub starts : (opening : Opening V) (x : Trace (Entry C V) (Unit {0})) → x.name ≡ opening.name → x.entries ≡ [] → Meets (Rule just_one t s refines_on opening) (own_ways just_one t s refines_on opening) 0 x []
+  pub starts : (opening : Opening V) (x : Trace (Entry C V) (Unit {0})) → x.name ≡ opening.name → x.entries ≡ [] → MeetsRule (Rule just_one t s refines_on opening) (own_ways just_one t s refines_on opening) 0 x []
   unfolding refines_on
   starts opening x named empty =
-      subst (λ n. Meets (Rule just_one t s refines_on opening) (own_ways just_one t s refines_on opening) n x []) d.opens_at.1 (starts_on just_one t s refines_on opening (omega arith) x named empty refl)
+      subst (λ n. MeetsRule (Rule just_one t s refines_on opening) (own_ways just_one t s refines_on opening) n x []) d.opens_at.1 (starts_on just_one t s refines_on opening (omega arith) x named empty refl)

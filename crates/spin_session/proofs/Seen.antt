@@ -3,7 +3,7 @@ use Rattle.std.proofs.Common.{◌≡◌, ◌≢◌, List, Option, Some, None, re
 use Rattle.std.specs.Option.{IfSome}
 use Rattle.spin_core.specs.Cell.{Use, off, reads, writes, Shows}
 use Rattle.spin_core.specs.Traced.{Learnt}
-use Rattle.spin_core.specs.Values.{IsLast, last}
+use Rattle.spin_core.specs.Values.{IsLast, last_value}
 use Rattle.spin_core.specs.declared.tie.Opening.{Opening}
 use Rattle.spin_core.proofs.Values.{shows_last, read_last, gave}
 use Rattle.spin_step.specs.Schedules.{Entry}
@@ -19,13 +19,13 @@ module _ {C V : Type 0} (opening : Opening V) (es : List (Entry C V)) where
   abbrev IsLastNow : Option V → Type 0
   IsLastNow shown = IfSome shown (λ x. IsLast opening es x)
 
-  pub seen_last : {S : Type 0} (u u' : Use) (before after : Option V) → Learnt {S = S} (last opening) u u' before after es → (u ≡ writes → u' ≢ writes)
+  pub seen_last : {S : Type 0} (u u' : Use) (before after : Option V) → Learnt {S = S} (last_value opening) u u' before after es → (u ≡ writes → u' ≢ writes)
       → Shows u' before after → IsLastNow after
   seen_last u off before after learnt not shows = subst IsLastNow (sym shows) tt
   seen_last u reads before after learnt not shows = shows_last opening u reads before after es learnt (λ e. refl) shows
   seen_last u writes before after learnt not shows = shows_last opening u writes before after es learnt (λ e. absurd (not e refl)) shows
 
-  pub left_last : {S : Type 0} (u u' : Use) (before after : Option V) → Learnt {S = S} (last opening) u u' before after es → (u ≡ writes → u' ≢ writes)
+  pub left_last : {S : Type 0} (u u' : Use) (before after : Option V) → Learnt {S = S} (last_value opening) u u' before after es → (u ≡ writes → u' ≢ writes)
       → Shows u' before after → u ≢ off → IsLastNow before
   left_last u u' None after learnt not shows uses = tt
   left_last off u' (Some x) after learnt not shows uses = absurd (uses refl)

@@ -5,7 +5,7 @@ use Rattle.spin_step.specs.Plain.{Plain, fresh}
 use Rattle.spin_step.specs.Parties.{IsOpenStep, apply_some, entries_after}
 use Rattle.spin_step.specs.Orders.{IsInOrder}
 use Rattle.spin_step.specs.Operations.{performed}
-use Rattle.spin_step.specs.Acts.{Memory, Table, Act, step_at, step_by, change_at, next_of, operation_by, number_at, place_of, is_section, machine_of}
+use Rattle.spin_step.specs.Acts.{Memory, Table, Act, step_at, step_by, change_at, next_of, operation_by, word_number, place_of, is_section, machine_of}
 use Rattle.spin_step.specs.Machines.{Machine}
 use Rattle.spin_step.specs.Schedules.{Entry, resting}
 use Rattle.spin_step.specs.declared.answer.Answer.{Answer}
@@ -17,9 +17,9 @@ use Rattle.spin_step.specs.declared.stepped.Next.TheVariants.{Continue, Answers}
 use Rattle.spin_step.specs.declared.table.Operation.{Operation}
 use Rattle.spin_step.specs.declared.table.Operation.TheVariants as op
 use Rattle.spin_core.specs.Cell.{Use, Way, Ways, alone, lends, Limits, readers_of, writers_of, OnWord}
-use Rattle.spin_core.specs.Own.{Numbered, Runs}
-use Rattle.spin_core.specs.Values.{last}
-use Rattle.spin_core.specs.Views.{Part, idle, entries_of, Knows, HasPart, IsLockOf, Encodes, NamesNobody, used_by}
+use Rattle.spin_core.specs.Own.{Numbered, RunsByRule}
+use Rattle.spin_core.specs.Values.{last_value}
+use Rattle.spin_core.specs.Views.{Part, idle, entries_of_part, KnowsServed, HasPart, IsLockOf, Encodes, NamesNobody, used_by}
 use Rattle.spin_core.specs.declared.tie.Opening.{Opening}
 use Rattle.spin_core.specs.declared.trace.Trace.{Trace}
 
@@ -76,9 +76,9 @@ pub record Meaning (C L : Type 0) : Type 1 where
   -- what a party with this hold is in the plain lock
   pub held : Hold → Part
 
-abbrev pub way_of : {X : Type 0} → Bool → Way X
-way_of true = lends
-way_of false = alone
+abbrev pub lends_if : {X : Type 0} → Bool → Way X
+lends_if true = lends
+lends_if false = alone
 
 -- the seat of a party; a new party is idle
 abbrev pub seat_now : {C L : Type 0} → Option (Seat C L) → Seat C L
@@ -128,8 +128,8 @@ Peeks k s seat n = (plain : Plain) × (p : ℕ) × IsInOrder plain × HasPart pl
 -- operation of the processor does what the table's does.
 pub record SoundAct {W L A : Type 0} (m : Memory W) (w : W) (word : Plain → ℕ) (bounds : ℕ → Type 0) (act : Act W L A) (to : Next L A → Part) (p : ℕ) (plain : Plain) (from : Part) : Type 0 where
   pub opens : IsOpenStep plain p (change_at (word plain) act p w)
-  pub entries : entries_after plain (change_at (word plain) act p w) (entries_of p from) ≡ entries_of p (to (step_at {V = Unit {0}} m 0 (word plain) act w).next)
-  pub knows : Knows (apply_some plain (change_at (word plain) act p w)) (to (step_at {V = Unit {0}} m 0 (word plain) act w).next)
+  pub entries : entries_after plain (change_at (word plain) act p w) (entries_of_part p from) ≡ entries_of_part p (to (step_at {V = Unit {0}} m 0 (word plain) act w).next)
+  pub knows : KnowsServed (apply_some plain (change_at (word plain) act p w)) (to (step_at {V = Unit {0}} m 0 (word plain) act w).next)
   pub counts : worked (operation_by act) (word plain) ≡ word (apply_some plain (change_at (word plain) act p w))
   pub same : worked (operation_by act) (word plain) ≡ performed (operation_by act) (word plain)
   pub bounded : bounds (worked (operation_by act) (word plain))
@@ -137,8 +137,8 @@ pub record SoundAct {W L A : Type 0} (m : Memory W) (w : W) (word : Plain → �
 -- the same of a step on the word at place i
 pub record SoundOn {W L A S : Type 0} (k : Beside S) (m : Memory W) (w : W) (i : ℕ) (words : Plain → ℕ × S) (bounds : ℕ → Type 0) (act : Act W L A) (to : Next L A → Part) (p : ℕ) (plain : Plain) (from : Part) : Type 0 where
   pub opens : IsOpenStep plain p (change_at (number_in k i (words plain)) act p w)
-  pub entries : entries_after plain (change_at (number_in k i (words plain)) act p w) (entries_of p from) ≡ entries_of p (to (step_at {V = Unit {0}} m 0 (number_in k i (words plain)) act w).next)
-  pub knows : Knows (apply_some plain (change_at (number_in k i (words plain)) act p w)) (to (step_at {V = Unit {0}} m 0 (number_in k i (words plain)) act w).next)
+  pub entries : entries_after plain (change_at (number_in k i (words plain)) act p w) (entries_of_part p from) ≡ entries_of_part p (to (step_at {V = Unit {0}} m 0 (number_in k i (words plain)) act w).next)
+  pub knows : KnowsServed (apply_some plain (change_at (number_in k i (words plain)) act p w)) (to (step_at {V = Unit {0}} m 0 (number_in k i (words plain)) act w).next)
   pub counts : put_in k i (worked (operation_by act) (number_in k i (words plain))) (words plain) ≡ words (apply_some plain (change_at (number_in k i (words plain)) act p w))
   pub same : worked (operation_by act) (number_in k i (words plain)) ≡ performed (operation_by act) (number_in k i (words plain))
   pub bounded : bounds (put_in k i (worked (operation_by act) (number_in k i (words plain))) (words plain)).0
@@ -153,7 +153,7 @@ IsAccess (suc j) o = ⊥
 module _ {W V C L A : Type 0} (t : Table W V C L A) where
   -- the words of a cell for these words of the model
   abbrev pub words_in : {S : Type 0} → Beside S → W → ℕ × S
-  words_in k w = (number_at t.memory 0 w, k.of (number_at t.memory 1 w))
+  words_in k w = (word_number t.memory 0 w, k.of (word_number t.memory 1 w))
 
   abbrev pub words_of : W → ℕ × Unit {0}
   words_of = words_in just_one
@@ -170,12 +170,12 @@ module _ {W V C L A : Type 0} (t : Table W V C L A) where
   pub record Refines (s : Meaning C L) : Type 0 where
     pub one_word : (l : L) → t.word l ≡ 0
     pub operates : (c : C) (l : L) (h : Option Hold) → is_section (t.act c l h) ≡ false
-    pub writes_word : (c : C) (l : L) (h : Option Hold) (w : W) → number_at t.memory 0 (step_by {V = V} t.memory 0 (t.act c l h) w).words ≡ performed (operation_by (t.act c l h)) (number_at t.memory 0 w)
-    pub opens_at : (number_at t.memory 0 t.words ≡ 0) × (s.word (fresh s.cap 0 0) ≡ 0)
+    pub writes_word : (c : C) (l : L) (h : Option Hold) (w : W) → word_number t.memory 0 (step_by {V = V} t.memory 0 (t.act c l h) w).words ≡ performed (operation_by (t.act c l h)) (word_number t.memory 0 w)
+    pub opens_at : (word_number t.memory 0 t.words ≡ 0) × (s.word (fresh s.cap 0 0) ≡ 0)
     pub bounds_opening : s.bounds 0
     -- the word does not depend on the parties' numbers, and at most one party uses the value, or several read it
     pub nobody : NamesNobody s.word
-    pub fits : (vs : List (Seat C L)) (plain : Plain) → plain.cap ≡ s.cap → IsInOrder plain → IsLockOf (part_of s) vs plain → Limits {X = Unit {0}} (way_of s.shares) (readers_of (use_at s) vs) (writers_of (use_at s) vs)
+    pub fits : (vs : List (Seat C L)) (plain : Plain) → plain.cap ≡ s.cap → IsInOrder plain → IsLockOf (part_of s) vs plain → Limits {X = Unit {0}} (lends_if s.shares) (readers_of (use_at s) vs) (writers_of (use_at s) vs)
     -- a party rests at each point to which its call goes on
     pub goes : (c : C) (l : L) (h : Option Hold) (from : Part) (n : ℕ) → ComesFrom s c l h from → rests_at s (seat_after c h (next_of t c l h n)) ≡ true
     pub sound : (c : C) (l : L) (h : Option Hold) (p : ℕ) (plain : Plain) (vs : List (Seat C L)) (from : Part) → ComesFrom s c l h from → plain.cap ≡ s.cap → IsInOrder plain → IsLockOf (part_of s) vs plain → s.bounds (s.word plain)
@@ -196,7 +196,7 @@ module _ {W V C L A : Type 0} (t : Table W V C L A) where
     pub empty : (l : L) → FindsAt s (t.word l) 0
     -- the words do not depend on the parties' numbers, and at most one party uses the value, or several read it
     pub nobody : NamesNobody s.word × NamesNobody (λ plain. k.of (s.second plain))
-    pub fits : (vs : List (Seat C L)) (plain : Plain) → plain.cap ≡ s.cap → IsInOrder plain → IsLockOf (part_of s) vs plain → Limits {X = Unit {0}} (way_of s.shares) (readers_of (use_at s) vs) (writers_of (use_at s) vs)
+    pub fits : (vs : List (Seat C L)) (plain : Plain) → plain.cap ≡ s.cap → IsInOrder plain → IsLockOf (part_of s) vs plain → Limits {X = Unit {0}} (lends_if s.shares) (readers_of (use_at s) vs) (writers_of (use_at s) vs)
     -- a party rests at each point to which its call goes on
     pub goes : (c : C) (l : L) (h : Option Hold) (from : Part) (n : ℕ) → ComesFrom s c l h from → rests_at s (seat_after c h (next_of t c l h n)) ≡ true
     pub sound : (c : C) (l : L) (h : Option Hold) (p : ℕ) (plain : Plain) (vs : List (Seat C L)) (from : Part) → ComesFrom s c l h from → plain.cap ≡ s.cap → IsInOrder plain → IsLockOf (part_of s) vs plain → s.bounds (s.word plain)
@@ -214,10 +214,10 @@ module _ {W V C L : Type 0} (t : ℕ → V → Table W V C L (Answer V)) where
 module _ {W V C L : Type 0} (t : ℕ → V → Table W V C L (Answer V)) (s : Meaning C L) where
   -- the rule of a cell that keeps the table's words as `k` says
   abbrev pub RunsOn : {S : Type 0} → Beside S → Opening V → ℕ → Trace (Entry C V) S → List (Numbered (Seat C L)) → Type 0
-  RunsOn k opening = Runs (model_at t opening) (λ x. x) (words_in (table_at t opening) k) (AreWords k s) opening.name
+  RunsOn k opening = RunsByRule (model_at t opening) (λ x. x) (words_in (table_at t opening) k) (AreWords k s) opening.name
 
   abbrev pub RunsTable : Opening V → ℕ → Trace (Entry C V) (Unit {0}) → List (Numbered (Seat C L)) → Type 0
   RunsTable = RunsOn just_one
 
 abbrev pub ways_of : {V C L S : Type 0} → Meaning C L → Opening V → Ways V (Numbered (Seat C L)) (Trace (Entry C V) S)
-ways_of s opening = (way_of s.shares, use_of_party s, last opening)
+ways_of s opening = (lends_if s.shares, use_of_party s, last_value opening)

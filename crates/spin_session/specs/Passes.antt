@@ -5,7 +5,7 @@ use Rattle.spin_core.specs.Guard.{IsHolder, guard_view, guard_key, guard_seen, g
 use Rattle.spin_core.specs.Cell.{writes, use_of}
 use Rattle.spin_core.specs.Logs.{KnowsBoth}
 use Rattle.spin_core.specs.Own.{Numbered, what}
-use Rattle.spin_core.specs.Passes.{IsCall, WritesSome, mark_of}
+use Rattle.spin_core.specs.Passes.{IsCall, WritesSome, own_mark}
 use Rattle.spin_core.specs.Spots.{Since}
 use Rattle.spin_core.specs.Values.{IsLast}
 use Rattle.spin_core.specs.declared.guard.Guard.{Guard}
@@ -52,7 +52,7 @@ module _ {V C L : Type 0} where
 
 -- the party writes the value, and knows its lock's trace, at least up to its last step
 abbrev pub Writes : {V C L : Type 0} → Meaning C L → SeatSpot V C L → Type 0
-Writes s p = (p.0.name ≡ p.2.name) × (mark_of p.1 ≤ length p.2.entries) × (use_of (use_at s) (what p.1) ≡ writes)
+Writes s p = (p.0.name ≡ p.2.name) × (own_mark p.1 ≤ length p.2.entries) × (use_of (use_at s) (what p.1) ≡ writes)
 
 -- For the calls of a lock with these tables:
 module _ {W V C L : Type 0} (t : ℕ → V → Table W V C L (Answer V)) where

@@ -16,7 +16,7 @@ use Rattle.spin_core.specs.Cell.{off, writes, use_of}
 use Rattle.spin_core.specs.Own as own
 use Rattle.spin_core.specs.Own.{Numbered, what}
 use Rattle.spin_core.specs.Passes as passes
-use Rattle.spin_core.specs.Passes.{Course, Begins, IsCall, Ending, mark_of, step_by, IsStep, WritesSome}
+use Rattle.spin_core.specs.Passes.{Course, Begins, IsCall, Ending, own_mark, says_step, IsOneStep, WritesSome}
 use Rattle.spin_core.specs.Spots as spots
 use Rattle.spin_core.specs.Spots.{Stepped, HasCalled, IsIn}
 use Rattle.spin_core.specs.Values.{IsLast}
@@ -63,7 +63,7 @@ module _ {W V C L : Type 0} (t : Table W V C L (Answer V)) (s : Meaning C L) whe
 
   -- the step of the call c at this point; it is the call's first if `goes_on` is false
   abbrev pub turn : Bool → C → L → Option Hold → Says
-  turn goes_on c l h mine outs n v = step_by goes_on c (λ k. outcome_of (next_of t c l h k)) (λ k. seat_after c h (next_of t c l h k)) mine outs n v × FindsAt s (t.word l) n
+  turn goes_on c l h mine outs n v = says_step goes_on c (λ k. outcome_of (next_of t c l h k)) (λ k. seat_after c h (next_of t c l h k)) mine outs n v × FindsAt s (t.word l) n
 
   -- the next step of a party in a call; a party in no call begins the call c
   abbrev pub turn_from : C → Seat C L → Says
@@ -74,7 +74,7 @@ module _ {W V C L : Type 0} (t : Table W V C L (Answer V)) (s : Meaning C L) whe
   abbrev pub gives_up : (V → Type 0) → C → Option (Seat C L) → Says
   gives_up Q c view mine outs n v =
       let h = held_now (seat_now view) in let next = next_of t c (t.start c h) h n in
-      (v ≡ seat_after c h next) × WritesSome Q (IsStep false c (outcome_of next)) mine outs
+      (v ≡ seat_after c h next) × WritesSome Q (IsOneStep false c (outcome_of next)) mine outs
 
   -- the step of the call that is named; `gives` says whether the party first writes its value
   abbrev pub turn_by : Bool → Option C → Option (Seat C L) → Says
@@ -161,7 +161,7 @@ module _ {W V C L : Type 0} (t : ℕ → V → Table W V C L (Answer V)) where
 
 -- the watch is of the party's lock and knows its trace, at least up to the party's last step; the party may rest in its seat
 abbrev pub Knows : {V C L : Type 0} → Meaning C L → SeatSpot V C L → Type 0
-Knows s p = (p.0.name ≡ p.2.name) × (mark_of p.1 ≤ length p.2.entries) × (rests_at s (seat_now (what p.1)) ≡ true)
+Knows s p = (p.0.name ≡ p.2.name) × (own_mark p.1 ≤ length p.2.entries) × (rests_at s (seat_now (what p.1)) ≡ true)
 
 -- if the party sees a value, it is the one written last
 abbrev pub SeesLast : {V P C L S : Type 0} → Session V (Numbered (Seat C L)) (Entry C V) P (Opening V) S → Type 0
@@ -196,7 +196,7 @@ new_in lock = (lock, None, record { marker = record {}; name = lock.name; entrie
 
 -- the party is in no call, holds this, and knows its lock's trace, at least up to its last step
 abbrev pub StandsAt : {V C L : Type 0} → Option Hold → SeatSpot V C L → Type 0
-StandsAt h p = (p.0.name ≡ p.2.name) × (mark_of p.1 ≤ length p.2.entries) × (seat_now (what p.1) ≡ resting h)
+StandsAt h p = (p.0.name ≡ p.2.name) × (own_mark p.1 ≤ length p.2.entries) × (seat_now (what p.1) ≡ resting h)
 
 abbrev pub Stands : {V P C L S : Type 0} → Option Hold → Session V (Numbered (Seat C L)) (Entry C V) P (Opening V) S → Type 0
 Stands h it = StandsAt h (spot_of it)
@@ -211,8 +211,8 @@ module _ {W V C L : Type 0} (t : ℕ → V → Table W V C L (Answer V)) (s : Me
   MayBegin c h key = (((table_at t key).asks c h).begins h ≡ true) × StaysQuiet s c h
 
   -- the call rests at this point, or begins there
-  abbrev pub IsReached : C → L → Option Hold → Opening V → Type 0
-  IsReached c l h key = Reaches (table_at t key) s c l h
+  abbrev pub RestsAt : C → L → Option Hold → Opening V → Type 0
+  RestsAt c l h key = Reaches (table_at t key) s c l h
 
   -- the call's first steps lead to this point, and to this number there
   abbrev pub IsLedTo : C → Option Hold → L → ℕ → Opening V → Type 0
@@ -220,7 +220,7 @@ module _ {W V C L : Type 0} (t : ℕ → V → Table W V C L (Answer V)) (s : Me
 
   -- a step of this call at this point may find this number
   abbrev pub MayFind : C → L → Option Hold → ℕ → Opening V → Type 0
-  MayFind c l h n key = FindsAt s ((table_at t key).word l) n × IsReached c l h key
+  MayFind c l h n key = FindsAt s ((table_at t key).word l) n × RestsAt c l h key
 
   -- so the party has been answered, by a step that found this number, and holds `after`
   abbrev pub Ended : C → Option Hold → Answer (Unit {0}) → Option Hold → SeatSpot V C L → SeatSpot V C L → Type 0

@@ -4,7 +4,7 @@ ghost use Rattle.std.specs.Option.{IfSome};
 ghost use Rattle.spin_core.specs.Values.{IsLast};
 ghost use Rattle.spin_core.specs.Cell.{off, writes, use_of, Moved, Keeps};
 ghost use Rattle.spin_core.specs.Own.{what};
-ghost use Rattle.spin_core.specs.Passes.{IsOut, Nothing, mark_of};
+ghost use Rattle.spin_core.specs.Passes.{IsOut, Nothing, own_mark};
 ghost use Rattle.spin_core.specs.Spots.{Releases, Since};
 ghost use Rattle.spin_core.specs.Traced.{Found, MayKnow, Named, Watches};
 ghost use Rattle.spin_step.specs.Acts.{next_of};
@@ -132,7 +132,7 @@ pub fn give<'a, T, P: Runs<T>>(
     requires ends { EndsWith P.tables call holds after writer.key }
     requires stops { use_at P.meaning (resting after) ≢ writes }
     ensures seat { seat_now (what result.permit.view) ≡ resting after }
-    ensures knows { mark_of result.permit.view ≡ length result.seen.entries }
+    ensures knows { own_mark result.permit.view ≡ length result.seen.entries }
     ensures key { result.permit.key ≡ writer.entry.key }
     ensures same { use_at P.meaning (resting after) ≢ off → result.permit.value ≡ Some writer.entry.value }
     ensures name { writer.entry.key.name ≡ seen.name → result.seen.name ≡ seen.name }

@@ -32,8 +32,8 @@ two_numbers a b f g = record {
   put = λ i k w. elim i [ zero ↦ f k w | suc zero ↦ g k w | _ ↦ w ];
 }
 
-abbrev pub number_at : {W : Type 0} → Memory W → ℕ → W → ℕ
-number_at m i w = get_or (m.numbers w) i 0
+abbrev pub word_number : {W : Type 0} → Memory W → ℕ → W → ℕ
+word_number m i w = get_or (m.numbers w) i 0
 
 -- The shape of a step that works on one word. `f` is a step function: it gives the next number for the number found, or none. `step` is the
 -- plain step that the party makes if its operation succeeds.
@@ -111,7 +111,7 @@ step_at m i n (store can operation step next) w = stays (m.put i (performed oper
 step_at m i n (section can f step won lost) w = becomes (λ u. u) w (f w) (won w) (lost w)
 
 abbrev pub step_by : {W V L A : Type 0} → Memory W → ℕ → Act W L A → W → Stepped W V L A
-step_by m i act w = step_at m (place_of i act) (number_at m (place_of i act) w) act w
+step_by m i act w = step_at m (place_of i act) (word_number m (place_of i act) w) act w
 
 -- the plain step is made if the operation gives something new
 abbrev pub change_at : {W L A : Type 0} → ℕ → Act W L A → ℕ → W → Option Change
@@ -125,10 +125,10 @@ change_at n (section can f step won lost) p w = option_map (λ u. step p) (f w)
 change_at n _ p w = None
 
 abbrev pub change_by : {W L A : Type 0} → Memory W → ℕ → Act W L A → ℕ → W → Option Change
-change_by m i act p w = change_at (number_at m (place_of i act) w) act p w
+change_by m i act p w = change_at (word_number m (place_of i act) w) act p w
 
 abbrev pub can_by : {W L A : Type 0} → Memory W → ℕ → Act W L A → W → Bool
-can_by m i (store can operation step next) w = can (number_at m i w)
+can_by m i (store can operation step next) w = can (word_number m i w)
 can_by m i (section can f step won lost) w = can w
 can_by m i _ w = true
 

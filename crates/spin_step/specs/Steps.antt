@@ -13,5 +13,5 @@ Decides s c word None = is_open s c ≡ false
 Decides s c word (Some w) = (is_open s c ≡ true) × (w ≡ word (apply s c))
 
 -- the same for a function that always returns a word: if c is open, w is the word of the next state
-abbrev pub Gives : Plain → Change → (Plain → ℕ) → ℕ → Type 0
-Gives s c word w = is_open s c ≡ true → w ≡ word (apply s c)
+abbrev pub GivesWord : Plain → Change → (Plain → ℕ) → ℕ → Type 0
+GivesWord s c word w = is_open s c ≡ true → w ≡ word (apply s c)

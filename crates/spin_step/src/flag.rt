@@ -12,7 +12,7 @@ ghost use Rattle.std.specs.Prelude.{◌≡◌, ℕ, Option, true, false, IsTrue,
 ghost use Rattle.std.specs.Option.{option_map};
 ghost use Rattle.spin_step.specs.Plain.{Plain, Kind, gets, releases, to_write, flag_word};
 ghost use Rattle.spin_step.specs.Flags.{lock};
-ghost use Rattle.spin_step.specs.Steps.{bit, Decides, Gives};
+ghost use Rattle.spin_step.specs.Steps.{bit, Decides, GivesWord};
 
 /// Returns the flag after a thread acquires the lock, or `None` if the lock is held.
 ///
@@ -30,12 +30,12 @@ pub fn lock(flag: bool) -> Option<bool>
 ///
 /// # Contract
 /// The flag has to be set. Where the plain lock allows the step, the answer is the word of the next state
-/// (`Gives`).
+/// (`GivesWord`).
 #[tactic(auto, using(crate::proofs::Flags::gives))]
 pub fn unlock(flag: bool) -> bool
     requires { IsTrue flag }
     ensures exact { result ≡ false }
-    ensures plain { (s : Plain) (party : ℕ) (kind : Kind) → flag_word s ≡ bit flag → Gives s (releases party kind) flag_word (bit result) }
+    ensures plain { (s : Plain) (party : ℕ) (kind : Kind) → flag_word s ≡ bit flag → GivesWord s (releases party kind) flag_word (bit result) }
 {
     let _ = flag;
     false

@@ -13,7 +13,7 @@
 ghost use Rattle.std.specs.Prelude.{◌≡◌, ℕ, ◌==◌, Option, Some, None, if◌then◌else◌};
 ghost use Rattle.spin_step.specs.Plain.{Plain, gets, completes, fails, to_begin, once_word};
 ghost use Rattle.spin_step.specs.Flags.{begun, completed, failed};
-ghost use Rattle.spin_step.specs.Steps.{Decides, Gives};
+ghost use Rattle.spin_step.specs.Steps.{Decides, GivesWord};
 
 /// Returns the state after a thread begins to run its closure. Returns `None` if a closure is running or
 /// there is a value.
@@ -32,11 +32,11 @@ pub fn begin(state: u8) -> Option<u8>
 ///
 /// # Contract
 /// The state has to be 1: a closure is running. Where the plain lock allows the step, the answer is the word
-/// of the next state (`Gives`).
+/// of the next state (`GivesWord`).
 pub fn complete(state: u8) -> u8
     requires { state ≡ 1 }
     ensures exact { result ≡ completed state }
-    ensures plain { (s : Plain) (party : ℕ) → once_word s ≡ state → Gives s (completes party) once_word result }
+    ensures plain { (s : Plain) (party : ℕ) → once_word s ≡ state → GivesWord s (completes party) once_word result }
 {
     state + 1
 }
@@ -45,11 +45,11 @@ pub fn complete(state: u8) -> u8
 ///
 /// # Contract
 /// The state has to be 1: a closure is running. Where the plain lock allows the step, the answer is the word
-/// of the next state (`Gives`).
+/// of the next state (`GivesWord`).
 pub fn fail(state: u8) -> u8
     requires { state ≡ 1 }
     ensures exact { result ≡ failed state }
-    ensures plain { (s : Plain) (party : ℕ) → once_word s ≡ state → Gives s (fails party) once_word result }
+    ensures plain { (s : Plain) (party : ℕ) → once_word s ≡ state → GivesWord s (fails party) once_word result }
 {
     state - 1
 }

@@ -11,7 +11,7 @@
 //! ```
 ghost use Rattle.std.specs.Prelude.{◌≡◌, ◌<◌, ◌≤◌, ◌+◌, ◌==◌, ℕ, Some, None, length, nat_lt, if◌then◌else◌};
 ghost use Rattle.spin_step.specs.Plain.{Plain, ticket_limit, gets, serves, to_take_ticket, to_take_and_enter, next_word, serving_word};
-ghost use Rattle.spin_step.specs.Steps.{Decides, Gives};
+ghost use Rattle.spin_step.specs.Steps.{Decides, GivesWord};
 ghost use Rattle.spin_step.specs.Tickets.{IsTurn, take, served};
 
 /// Returns the number of the next ticket after a thread takes ticket `next`, or `None` if no number is left.
@@ -38,11 +38,11 @@ pub fn take(next: u64) -> Option<u64>
 ///
 /// # Contract
 /// The ticket has to be below the limit of tickets. Where the plain lock allows the step, the answer is the
-/// word of the next state (`Gives`).
+/// word of the next state (`GivesWord`).
 pub fn serve(ticket: u64) -> u64
     requires { ticket < ticket_limit }
     ensures exact { result ≡ served ticket }
-    ensures plain { (s : Plain) (party : ℕ) → length s.tickets ≤ next_word s → serving_word s ≡ ticket → Gives s (serves party) serving_word result }
+    ensures plain { (s : Plain) (party : ℕ) → length s.tickets ≤ next_word s → serving_word s ≡ ticket → GivesWord s (serves party) serving_word result }
 {
     ticket + 1
 }

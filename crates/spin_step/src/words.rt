@@ -1,6 +1,6 @@
 //! The words of a lock in the model, as numbers at places. Begin with [`Words`].
 ghost use Rattle.std.specs.Prelude.{◌≡◌, ◌≤◌, ◌<◌, ◌^◌, ℕ};
-ghost use Rattle.spin_step.specs.Acts.{Memory, number_at, one_number};
+ghost use Rattle.spin_step.specs.Acts.{Memory, word_number, one_number};
 ghost use Rattle.spin_step.specs.FlagCalls.{flag_memory};
 ghost use Rattle.spin_step.specs.TicketCalls.{ticket_memory};
 
@@ -21,7 +21,7 @@ pub trait Words: Copy {
     /// Returns the number in the word at this place. To put it there again changes nothing. Numbers below the limit have
     /// 64 bits.
     fn number(self, place: usize) -> u64
-        ensures number { place < places → (result ≡ number_at memory place self) × (memory.put place result self ≡ self) }
+        ensures number { place < places → (result ≡ word_number memory place self) × (memory.put place result self ≡ self) }
         ensures small { (result < limit) × (limit ≤ 2 ^ 64) };
 
     /// Returns the words after this number is put at this place.

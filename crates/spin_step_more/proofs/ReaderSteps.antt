@@ -2,7 +2,7 @@
 use Rattle.std.proofs.Common.{◌≡◌, ℕ, List, [], ◌∷◌, ◌++◌, ◌+◌, ◌≤◌, true, arith}
 use Rattle.std.specs.Prelude.{min}
 use Rattle.spin_step.specs.Plain.{Plain, Kind, upgradable, asking, weight, to_read, to_read_upgradable, to_write, to_upgrade, to_upgrade_asked, Holder, holder, with_kind, gets, releases, turns, is_holder, rw_word}
-use Rattle.spin_step.specs.Steps.{Decides, Gives}
+use Rattle.spin_step.specs.Steps.{Decides, GivesWord}
 use Rattle.spin_step_more.specs.Readers.{reader_limit, OneOfEach, read, read_upgradable, write, upgrade, upgrade_asked, released, turned}
 use Rattle.spin_step.proofs.Exclusive.{empty_is}
 use Rattle.spin_step.proofs.Sums.{sum-more, sum-less, sum-turned}
@@ -29,10 +29,10 @@ rw_upgrade-grants s p word one found is = grind (arith, only_upgradable-word s p
 pub rw_upgrade_asked-grants : (s : Plain) (p word : ℕ) → OneOfEach s → is_holder p asking s.holders ≡ true → rw_word s ≡ word → Decides s (gets p to_upgrade_asked) rw_word (upgrade_asked word)
 rw_upgrade_asked-grants s p word one found is = grind (arith, only_asking-word s p word one found is, word-turned)
 
-pub rw_release-gives : (s : Plain) (p : ℕ) (k : Kind) (word : ℕ) → rw_word s ≡ word → Gives s (releases p k) rw_word (released k word)
+pub rw_release-gives : (s : Plain) (p : ℕ) (k : Kind) (word : ℕ) → rw_word s ≡ word → GivesWord s (releases p k) rw_word (released k word)
 rw_release-gives s p k word is = λ found. omega (arith, sum-less weight p k s.holders found)
 
-pub rw_turn-gives : (s : Plain) (p : ℕ) (j k : Kind) (word : ℕ) → weight j ≤ weight k → rw_word s ≡ word → Gives s (turns p j k) rw_word (turned j k word)
+pub rw_turn-gives : (s : Plain) (p : ℕ) (j k : Kind) (word : ℕ) → weight j ≤ weight k → rw_word s ≡ word → GivesWord s (turns p j k) rw_word (turned j k word)
 rw_turn-gives s p j k word more is = λ may. grind (arith, word-turned p j k s.holders)
 
 -- The rules for the contracts of `rw`: for functions that may fail, for those that never fail, and for the counts.

@@ -19,7 +19,7 @@
 ghost use Rattle.std.specs.Prelude.{◌≡◌, ◌≢◌, ◌≤◌, ◌+◌, ◌-◌, ◌/◌, ◌%◌, ◌==◌, ℕ, Option, Some, None, [], true, if◌then◌else◌, nat_lt, min};
 ghost use Rattle.spin_step.specs.Plain.{Plain, Kind, gets, releases, stops_starving, to_lock_unregistered, to_lock_starving, to_lock_starving_alone, to_starve, is_starver, starver_weight, fair_word};
 ghost use Rattle.spin_step.specs.Parties.{is_held};
-ghost use Rattle.spin_step.specs.Steps.{Decides, Gives};
+ghost use Rattle.spin_step.specs.Steps.{Decides, GivesWord};
 ghost use Rattle.spin_step_more.specs.Starvers.{most_starvers, Tells, reason_text, is_held_word, lock, reject, starve, unstarved, lock_fair, lock_starved, unlocked};
 ghost use Rattle.spin_step.specs.Parties.{OneHolds};
 ghost use Rattle.spin_step_more.specs.declared.fair.LockRejectReason.TheVariants.{Locked, Starved};
@@ -109,12 +109,12 @@ pub fn starve(word: usize, cap: usize) -> Option<usize>
 ///
 /// # Contract
 /// The word has to count a starver. Where the plain lock allows the step, the answer is the word of the next
-/// state (`Gives`).
+/// state (`GivesWord`).
 #[tactic(auto, using(crate::proofs::FairSteps::gives))]
 pub fn unstarve(word: usize) -> usize
     requires { starver_weight ≤ word }
     ensures exact { result ≡ unstarved word }
-    ensures plain { (s : Plain) (party : ℕ) → fair_word s ≡ word → Gives s (stops_starving party) fair_word result }
+    ensures plain { (s : Plain) (party : ℕ) → fair_word s ≡ word → GivesWord s (stops_starving party) fair_word result }
 {
     word - STARVER
 }
@@ -156,12 +156,12 @@ pub fn lock_starved(word: usize) -> Option<usize>
 ///
 /// # Contract
 /// The word has to show a holder. Where the plain lock allows the step, the answer is the word of the next
-/// state (`Gives`).
+/// state (`GivesWord`).
 #[tactic(auto, using(crate::proofs::FairSteps::gives))]
 pub fn unlock(word: usize) -> usize
     requires { is_held_word word ≡ true }
     ensures exact { result ≡ unlocked word }
-    ensures plain { (s : Plain) (party : ℕ) (kind : Kind) → fair_word s ≡ word → Gives s (releases party kind) fair_word result }
+    ensures plain { (s : Plain) (party : ℕ) (kind : Kind) → fair_word s ≡ word → GivesWord s (releases party kind) fair_word result }
 {
     word - HOLDER
 }

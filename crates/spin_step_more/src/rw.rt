@@ -18,7 +18,7 @@
 //! ```
 ghost use Rattle.std.specs.Prelude.{◌≡◌, ◌<◌, ◌≤◌, ◌/◌, ◌%◌, ℕ, true, min};
 ghost use Rattle.spin_step.specs.Plain.{Plain, reading, upgradable, asking, writing, weight, gets, releases, turns, to_read, to_read_upgradable, to_write, to_upgrade, to_upgrade_asked, is_holder, count_kind, reader_count, rw_word};
-ghost use Rattle.spin_step.specs.Steps.{Decides, Gives};
+ghost use Rattle.spin_step.specs.Steps.{Decides, GivesWord};
 ghost use Rattle.spin_step_more.specs.Readers.{reader_limit, OneOfEach, readers_in, writers_in, tells, has_room, read, read_upgradable, write, upgrade, upgrade_asked, released, turned};
 
 /// The weight of each reader in the word.
@@ -121,7 +121,7 @@ pub fn upgrade(word: usize) -> Option<usize>
 ///
 /// # Contract
 /// The word has to show an upgradable reader that has not asked. Where the plain lock allows the step, the
-/// answer is the word of the next state (`Gives`).
+/// answer is the word of the next state (`GivesWord`).
 ///
 /// # Examples
 /// ```
@@ -136,7 +136,7 @@ pub fn upgrade(word: usize) -> Option<usize>
 pub fn ask(word: usize) -> usize
     requires { tells upgradable word ≡ true }
     ensures exact { result ≡ turned upgradable asking word }
-    ensures plain { (s : Plain) (party : ℕ) → rw_word s ≡ word → Gives s (turns party upgradable asking) rw_word result }
+    ensures plain { (s : Plain) (party : ℕ) → rw_word s ≡ word → GivesWord s (turns party upgradable asking) rw_word result }
 {
     word + ASKING
 }
@@ -163,12 +163,12 @@ pub fn upgrade_asked(word: usize) -> Option<usize>
 ///
 /// # Contract
 /// The word has to show a reader. Where the plain lock allows the step, the answer is the word of the next
-/// state (`Gives`).
+/// state (`GivesWord`).
 #[tactic(auto, using(crate::proofs::ReaderSteps::gives))]
 pub fn release_read(word: usize) -> usize
     requires { tells reading word ≡ true }
     ensures exact { result ≡ released reading word }
-    ensures plain { (s : Plain) (party : ℕ) → rw_word s ≡ word → Gives s (releases party reading) rw_word result }
+    ensures plain { (s : Plain) (party : ℕ) → rw_word s ≡ word → GivesWord s (releases party reading) rw_word result }
 {
     word - READER
 }
@@ -177,12 +177,12 @@ pub fn release_read(word: usize) -> usize
 ///
 /// # Contract
 /// The word has to show an upgradable reader that has not asked. Where the plain lock allows the step, the
-/// answer is the word of the next state (`Gives`).
+/// answer is the word of the next state (`GivesWord`).
 #[tactic(auto, using(crate::proofs::ReaderSteps::gives))]
 pub fn release_upgradable(word: usize) -> usize
     requires { tells upgradable word ≡ true }
     ensures exact { result ≡ released upgradable word }
-    ensures plain { (s : Plain) (party : ℕ) → rw_word s ≡ word → Gives s (releases party upgradable) rw_word result }
+    ensures plain { (s : Plain) (party : ℕ) → rw_word s ≡ word → GivesWord s (releases party upgradable) rw_word result }
 {
     word - UPGRADABLE
 }
@@ -191,12 +191,12 @@ pub fn release_upgradable(word: usize) -> usize
 ///
 /// # Contract
 /// The word has to show a writer. Where the plain lock allows the step, the answer is the word of the next
-/// state (`Gives`).
+/// state (`GivesWord`).
 #[tactic(auto, using(crate::proofs::ReaderSteps::gives))]
 pub fn release_write(word: usize) -> usize
     requires { tells writing word ≡ true }
     ensures exact { result ≡ released writing word }
-    ensures plain { (s : Plain) (party : ℕ) → rw_word s ≡ word → Gives s (releases party writing) rw_word result }
+    ensures plain { (s : Plain) (party : ℕ) → rw_word s ≡ word → GivesWord s (releases party writing) rw_word result }
 {
     word - WRITER
 }
@@ -205,12 +205,12 @@ pub fn release_write(word: usize) -> usize
 ///
 /// # Contract
 /// The word has to show a writer. Where the plain lock allows the step, the answer is the word of the next
-/// state (`Gives`).
+/// state (`GivesWord`).
 #[tactic(auto, using(crate::proofs::ReaderSteps::gives))]
 pub fn write_to_read(word: usize) -> usize
     requires { tells writing word ≡ true }
     ensures exact { result ≡ turned writing reading word }
-    ensures plain { (s : Plain) (party : ℕ) → rw_word s ≡ word → Gives s (turns party writing reading) rw_word result }
+    ensures plain { (s : Plain) (party : ℕ) → rw_word s ≡ word → GivesWord s (turns party writing reading) rw_word result }
 {
     word + (READER - WRITER)
 }
@@ -219,12 +219,12 @@ pub fn write_to_read(word: usize) -> usize
 ///
 /// # Contract
 /// The word has to show a writer. Where the plain lock allows the step, the answer is the word of the next
-/// state (`Gives`).
+/// state (`GivesWord`).
 #[tactic(auto, using(crate::proofs::ReaderSteps::gives))]
 pub fn write_to_upgradable(word: usize) -> usize
     requires { tells writing word ≡ true }
     ensures exact { result ≡ turned writing upgradable word }
-    ensures plain { (s : Plain) (party : ℕ) → rw_word s ≡ word → Gives s (turns party writing upgradable) rw_word result }
+    ensures plain { (s : Plain) (party : ℕ) → rw_word s ≡ word → GivesWord s (turns party writing upgradable) rw_word result }
 {
     word + (UPGRADABLE - WRITER)
 }
@@ -233,13 +233,13 @@ pub fn write_to_upgradable(word: usize) -> usize
 ///
 /// # Contract
 /// The word has to show an upgradable reader that has not asked, and fewer other readers than
-/// [`MAX_READERS`]. Where the plain lock allows the step, the answer is the word of the next state (`Gives`).
+/// [`MAX_READERS`]. Where the plain lock allows the step, the answer is the word of the next state (`GivesWord`).
 #[tactic(auto, using(crate::proofs::ReaderSteps::gives))]
 pub fn upgradable_to_read(word: usize) -> usize
     requires kind { tells upgradable word ≡ true }
     requires within { word / weight reading < reader_limit }
     ensures exact { result ≡ turned upgradable reading word }
-    ensures plain { (s : Plain) (party : ℕ) → rw_word s ≡ word → Gives s (turns party upgradable reading) rw_word result }
+    ensures plain { (s : Plain) (party : ℕ) → rw_word s ≡ word → GivesWord s (turns party upgradable reading) rw_word result }
 {
     word + (READER - UPGRADABLE)
 }

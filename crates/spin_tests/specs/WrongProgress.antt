@@ -14,7 +14,7 @@ use Rattle.spin_step.specs.declared.ticket_calls.TicketWords.{TicketWords}
 use Rattle.spin_step.specs.declared.answer.Answer.TheVariants.{Done}
 use Rattle.spin_step.specs.declared.stepped.Next.TheVariants.{Answers}
 use Rattle.spin_step.specs.declared.table.Operation.TheVariants as op
-use Rattle.spin_laws.specs.Ticket.{TicketMachine}
+use Rattle.spin_world.specs.Ticket.{TicketMachine}
 use Rattle.spin_step.specs.declared.flag_calls.FlagCall.TheVariants as flag
 use Rattle.spin_step.specs.declared.ticket_calls.TicketCall.TheVariants as ticket
 use Rattle.spin_step.specs.declared.ticket_calls.TicketPoint.TheVariants as ticket_point

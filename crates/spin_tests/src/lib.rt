@@ -15,6 +15,7 @@ mod barrier_kept;
 mod bounded;
 #[cfg(test)]
 mod cache;
+#[cfg(test)]
 pub mod careless;
 #[cfg(test)]
 mod comments;
@@ -61,4 +62,5 @@ mod settings;
 mod two_runs;
 #[cfg(test)]
 mod waiting;
+#[cfg(test)]
 pub mod wrong;

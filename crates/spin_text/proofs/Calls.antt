@@ -13,7 +13,7 @@ use Rattle.spin_step.specs.declared.once_calls.OnceCall.TheVariants as once
 use Rattle.spin_text.specs.declared.objects.TheConstants.{FLAG_CALLS, TICKET_CALLS, RW_CALLS, FAIR_CALLS, BARRIER_CALLS, PLAIN_ONCE_CALLS}
 use Rattle.spin_text.specs.Objects.{without_numbers, flag_call_words, ticket_call_words, rw_call_words, fair_call_words, barrier_call_words, once_spelling}
 use Rattle.spin_text.specs.Spelling.{Calls}
-use Rattle.spin_text.specs.Reading.{◌>>=◌, is_end, last_word, last_number, by_word, named, only_named, read_try_call_once, read_once_call}
+use Rattle.spin_text.specs.Reading.{◌>>=◌, has_ended, last_word, last_number, by_word, named, only_named, read_try_call_once, read_once_call}
 use Rattle.spin_text.specs.Readable.{ReadsCalls}
 use Rattle.spin_text.proofs.Options.{found_is, and_true}
 use Rattle.spin_text.proofs.Moves.{is_text, ends, last_word_takes}

@@ -8,7 +8,7 @@ use Rattle.std.proofs.lemmas.List.{length-map, get_or_default, get_or-take}
 use Rattle.std.proofs.lemmas.List.Sums.{count_by-le-length}
 use Rattle.std.proofs.lemmas.List.Splits.{slice_split_none, slice_split_at, slice_split-cons_no, length-slice_split, join_with_byte-slice_split}
 use Rattle.memchr.specs.Find.{Nowhere, NoneBefore, Passes, is_byte}
-use Rattle.spin_text.specs.Reading.{is_end, parts_left, lines_left}
+use Rattle.spin_text.specs.Reading.{has_ended, parts_left, lines_left}
 use Rattle.spin_text.specs.Lines.{lines_of, words_of, words_by_line, first_and_further, further_lines}
 
 -- how many bytes are left, plus 1 if anything is left
@@ -76,7 +76,7 @@ further_lines_of bs some =
     let whole : x ≡ bs = sym (ap (join_with_byte 10) is) ∙ join_with_byte-slice_split 10 bs in
     omega (arith, ap length whole, some))
 
-some_word : (ws : List (List ℕ)) → 0 < length ws → false ≡ is_end ws
+some_word : (ws : List (List ℕ)) → 0 < length ws → false ≡ has_ended ws
 some_word ws some = grind arith
 
 -- the words by line are the words of the first line, and then those of each line after it
@@ -84,7 +84,7 @@ pub lines_behind : (bs line : List ℕ) (parts : List (List ℕ)) (further : Lis
 lines_behind bs line parts further is then = grind arith
 
 -- each line has a word, which may be empty
-pub has_word : (line : List ℕ) → false ≡ is_end (words_of line)
+pub has_word : (line : List ℕ) → false ≡ has_ended (words_of line)
 has_word line = some_word (words_of line) (omega (arith, length-slice_split (is_byte 32) line))
 
 no_bytes : (bs : List ℕ) → true ≡ (length bs == 0) → bs ≡ []

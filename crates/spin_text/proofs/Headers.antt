@@ -4,7 +4,7 @@ use Rattle.std.proofs.lemmas.Slice.Eq.{bytes_eq-Decides}
 use Rattle.std.proofs.lemmas.Bool.{leb-true}
 use Rattle.spin_text.specs.declared.header.Header.{Header}
 use Rattle.spin_text.specs.declared.header.Header.TheVariants.{Flag, Ticket, Rw, Fair, Barrier, Once}
-use Rattle.spin_text.specs.Objects.{CallOf, calls_of, header_words, HeaderFits, IsWithin, PartiesFit}
+use Rattle.spin_text.specs.Objects.{CallUnder, calls_of, header_words, HeaderFits, IsWithin, PartiesFit}
 use Rattle.spin_text.specs.Reading.{number_at, number_within, if_last, last_parties, read_flag_header, read_ticket_header, read_rw_header, read_fair_header, read_barrier_header, read_once_header, read_header, read_once_call, only_named, by_word}
 use Rattle.spin_text.specs.declared.objects.TheConstants.{FLAG_CALLS, TICKET_CALLS, RW_CALLS, FAIR_CALLS, BARRIER_CALLS}
 use Rattle.spin_text.specs.Readable.{ReadsCalls}
@@ -74,7 +74,7 @@ header_again h fits = grind (arith, number_at_again, within_again, parties_again
 
 -- How the calls in the lines after a header are read.
 
-abbrev pub read_of : (h : Header) → List (List ℕ) → Option (CallOf h)
+abbrev pub read_of : (h : Header) → List (List ℕ) → Option (CallUnder h)
 read_of (Flag value parties) = only_named (by_word FLAG_CALLS)
 read_of (Ticket value first parties) = only_named (by_word TICKET_CALLS)
 read_of (Rw value cap parties) = only_named (by_word RW_CALLS)

@@ -5,7 +5,7 @@ use Rattle.std.proofs.lemmas.Slice.Eq.{bytes_eq-Decides}
 use Rattle.spin_step.specs.declared.schedule.Move.{Move}
 use Rattle.spin_step.specs.declared.schedule.Move.TheVariants.{Begin, Step, Weak, Read, Write, Leak, OwnerGet, OwnerSet}
 use Rattle.spin_text.specs.Spelling.{Calls, move_words, MoveFits, entry_words, EntryFits}
-use Rattle.spin_text.specs.Reading.{word_at, number_at, last_word, last_number, owner_move, plain_move, read_move, read_entry, is_end}
+use Rattle.spin_text.specs.Reading.{word_at, number_at, last_word, last_number, owner_move, plain_move, read_move, read_entry, has_ended}
 use Rattle.spin_text.specs.Readable.{ReadsCalls}
 use Rattle.spin_text.proofs.Options.{found_is, some_is, and_true, last_takes}
 use Rattle.spin_text.proofs.Numerals.{number_at_takes, number_at_again, last_number_takes, last_number_again}
@@ -14,7 +14,7 @@ pub is_text : (w v : List ℕ) → bytes_eq w v ≡ true → w ≡ v
 is_text w v same = (bytes_eq-Decides w v).0 same
 
 -- a word that equals a name, followed by nothing
-pub ends : (w : List ℕ) (ws : List (List ℕ)) (name : List ℕ) → w ≡ name → is_end ws ≡ true → w ∷ ws ≡ name ∷ []
+pub ends : (w : List ℕ) (ws : List (List ℕ)) (name : List ℕ) → w ≡ name → has_ended ws ≡ true → w ∷ ws ≡ name ∷ []
 ends w ws name is end = grind arith
 
 -- a line from which `last_word` reads a word has only this word
@@ -31,7 +31,7 @@ module _ {C : Type 0} (calls : Calls C) (read : List (List ℕ) → Option C) (r
   owner_found w [] owner = tt
   owner_found w (v ∷ ws) owner = grind (arith, and_true, last_number_takes, bytes_eq-Decides, ends)
 
-  plain_found : (w : List ℕ) (ws : List (List ℕ)) → is_end ws ≡ true → IfSome (plain_move w) (IsMove (w ∷ ws))
+  plain_found : (w : List ℕ) (ws : List (List ℕ)) → has_ended ws ≡ true → IfSome (plain_move w) (IsMove (w ∷ ws))
   unfolding plain_move
   plain_found w [] end = grind (arith, bytes_eq-Decides)
   plain_found w (v ∷ ws) end = absurd (cc)

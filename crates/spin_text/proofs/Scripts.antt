@@ -10,9 +10,9 @@ use Rattle.spin_text.specs.declared.text.RunError.{RunError}
 use Rattle.spin_text.specs.Ends.{AppendsSome, AppendsSomeBeginning}
 use Rattle.spin_text.specs.Lines.{words_by_line}
 use Rattle.spin_text.specs.Spelling.{Calls, entry_words, EntryFits, EntriesFit}
-use Rattle.spin_text.specs.Objects.{CallOf, calls_of, header_words, HeaderFits}
+use Rattle.spin_text.specs.Objects.{CallUnder, calls_of, header_words, HeaderFits}
 use Rattle.spin_text.specs.Reading.{◌>>=◌, read_entry, entries_in, read_header}
-use Rattle.spin_text.specs.Readable.{ReadsCalls, AllSpell, AllRead, StopsEntries}
+use Rattle.spin_text.specs.Readable.{ReadsCalls, AllSpell, AllLinesRead, StopsEntries}
 use Rattle.spin_text.specs.Transcripts.{transcript_text}
 use Rattle.spin_text.specs.Texts.{Script, script_words, ScriptFits, Spells, AreOfScript, IsFirstBad, played, PlaysBytes, PlaysLines, StopsPlaying, StopsWriting}
 use Rattle.spin_text.proofs.Options.{some_is}
@@ -61,7 +61,7 @@ module _ {C : Type 0} (calls : Calls C) (read : List (List ℕ) → Option C) (r
   entries_found (e ∷ es) fits = rw (entry_again calls read reads e fits.0, entries_found es fits.1)
 
   -- each line that spells an entry is read
-  pub all_read : (es : List (ℕ × Move C ℕ)) → EntriesFit calls es → AllRead read (map (entry_words calls) es)
+  pub all_read : (es : List (ℕ × Move C ℕ)) → EntriesFit calls es → AllLinesRead read (map (entry_words calls) es)
   all_read [] fits = tt
   all_read (e ∷ es) fits = (subst IsSome (sym (entry_again calls read reads e fits.0)) refl, all_read es fits.1)
 
@@ -101,7 +101,7 @@ header_stops line none = ap (λ o. o >>= λ h. (read_entries (read_of h) [] >>= 
 pub bad_header : (line : List (List ℕ)) (all more : List (List (List ℕ))) → all ≡ line ∷ more → None ≡ read_header line → IsFirstBad all 1
 bad_header line all more is none = grind (arith, no_script (line ∷ []) (header_stops line (sym none)))
 
-entry_stops : (h : Header) (es : List (ℕ × Move (CallOf h) ℕ)) (line : List (List ℕ)) → HeaderFits h → EntriesFit (calls_of h) es → read_entry (read_of h) line ≡ None
+entry_stops : (h : Header) (es : List (ℕ × Move (CallUnder h) ℕ)) (line : List (List ℕ)) → HeaderFits h → EntriesFit (calls_of h) es → read_entry (read_of h) line ≡ None
     → read_script (header_words h ∷ (map (entry_words (calls_of h)) es ++ (line ∷ []))) ≡ None
 unfolding read_script
 entry_stops h es line fits each none = grind (arith, header_again, entries_stop, reads_of)
@@ -116,7 +116,7 @@ take_one_more : {X : Type 0} → (xs : List X) (y : X) (ys : List X) → take (s
 take_one_more [] y ys = refl
 take_one_more (x ∷ xs) y ys = ap (λ l. x ∷ l) (take_one_more xs y ys)
 
-first_bad : (h : Header) (es : List (ℕ × Move (CallOf h) ℕ)) (line : List (List ℕ)) (more : List (List (List ℕ))) → HeaderFits h → EntriesFit (calls_of h) es → read_entry (read_of h) line ≡ None
+first_bad : (h : Header) (es : List (ℕ × Move (CallUnder h) ℕ)) (line : List (List ℕ)) (more : List (List (List ℕ))) → HeaderFits h → EntriesFit (calls_of h) es → read_entry (read_of h) line ≡ None
     → IsFirstBad (header_words h ∷ (map (entry_words (calls_of h)) es ++ (line ∷ more))) (length es + 2)
 first_bad h es line more fits each none =
     let rest = map (entry_words (calls_of h)) es in
@@ -141,8 +141,8 @@ pub bad_entry : (bytes : List ℕ) (h : Header) (rest : List (List (List ℕ))) 
 bad_entry bytes h rest e fits is stops = grind (arith, first_bad)
 
 -- the text for the entries after the header is the text for the whole script
-pub whole_text : {W L : Type 0} → (bytes : List ℕ) (h : Header) (rest : List (List (List ℕ))) (m : Machine W ℕ (CallOf h) L (Answer ℕ)) (parties : ℕ) (text : List ℕ) → HeaderFits h → words_by_line bytes ≡ header_words h ∷ rest
-    → ((es : List (ℕ × Move (CallOf h) ℕ)) → transcript_text m parties es ≡ played h es) → PlaysLines (calls_of h) m parties rest text → PlaysBytes bytes text
+pub whole_text : {W L : Type 0} → (bytes : List ℕ) (h : Header) (rest : List (List (List ℕ))) (m : Machine W ℕ (CallUnder h) L (Answer ℕ)) (parties : ℕ) (text : List ℕ) → HeaderFits h → words_by_line bytes ≡ header_words h ∷ rest
+    → ((es : List (ℕ × Move (CallUnder h) ℕ)) → transcript_text m parties es ≡ played h es) → PlaysLines (calls_of h) m parties rest text → PlaysBytes bytes text
 whole_text bytes h rest m parties text fits is same plays =
     (record { header = h; entries = plays.0 }, record { fits = (fits, plays.1); words = is ∙ ap (λ r. header_words h ∷ r) plays.2 }, plays.3 ∙ same plays.0)
 
@@ -162,7 +162,7 @@ module _ {X : Type 0} (r : Result X RunError) (P Q : List ℕ → Type 0) (each 
 
 -- What holds of the lines after the header holds of all bytes. The machine is that of an object as it is made.
 pub plays_so : {X W L O : Type 0} (bytes : List ℕ) (h : Header) (rest : List (List (List ℕ))) (made new : O) → HeaderFits h × (words_by_line bytes ≡ header_words h ∷ rest) → new ≡ made
-    → (machine : O → Machine W ℕ (CallOf h) L (Answer ℕ)) (parties : ℕ) → ((es : List (ℕ × Move (CallOf h) ℕ)) → transcript_text (machine made) parties es ≡ played h es)
+    → (machine : O → Machine W ℕ (CallUnder h) L (Answer ℕ)) (parties : ℕ) → ((es : List (ℕ × Move (CallUnder h) ℕ)) → transcript_text (machine made) parties es ≡ played h es)
     → (r : Result X RunError) (a b : Option (List ℕ)) (U F : Type 0) → OnOk r (AppendsSome (PlaysLines (calls_of h) (machine new) parties rest) a b)
     → IfErr r (StopsWriting (StopsEntries (calls_of h) (read_of h) rest) U (F × AppendsSomeBeginning (PlaysLines (calls_of h) (machine new) parties rest) a b))
     → OnOk r (AppendsSome (PlaysBytes bytes) a b) × IfErr r (StopsWriting (StopsPlaying bytes) U (F × AppendsSomeBeginning (PlaysBytes bytes) a b))

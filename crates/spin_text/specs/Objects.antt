@@ -115,15 +115,15 @@ HeaderFits (Once parties) = PartiesFit parties
 
 -- What a header fixes for the lines after it, and for their world.
 
-abbrev pub CallOf : Header → Type 0
-CallOf (Flag value parties) = FlagCall
-CallOf (Ticket value first parties) = TicketCall
-CallOf (Rw value cap parties) = RwCall
-CallOf (Fair value cap spins parties) = FairCall
-CallOf (Barrier n parties) = BarrierCall
-CallOf (Once parties) = OnceCall ℕ
+abbrev pub CallUnder : Header → Type 0
+CallUnder (Flag value parties) = FlagCall
+CallUnder (Ticket value first parties) = TicketCall
+CallUnder (Rw value cap parties) = RwCall
+CallUnder (Fair value cap spins parties) = FairCall
+CallUnder (Barrier n parties) = BarrierCall
+CallUnder (Once parties) = OnceCall ℕ
 
-abbrev pub calls_of : (h : Header) → Calls (CallOf h)
+abbrev pub calls_of : (h : Header) → Calls (CallUnder h)
 calls_of (Flag value parties) = without_numbers flag_call_words
 calls_of (Ticket value first parties) = without_numbers ticket_call_words
 calls_of (Rw value cap parties) = without_numbers rw_call_words

@@ -17,8 +17,8 @@ abbrev pub AllSpell : {C : Type 0} → Calls C → (List (List ℕ) → Option C
 AllSpell calls read lines = EntriesFit calls (entries_in read lines) × (lines ≡ map (entry_words calls) (entries_in read lines))
 
 -- `read_entry` accepts each line
-abbrev pub AllRead : {C : Type 0} → (List (List ℕ) → Option C) → List (List (List ℕ)) → Type 0
-AllRead read lines = AllByRecursion (λ line. IsSome (read_entry read line)) lines
+abbrev pub AllLinesRead : {C : Type 0} → (List (List ℕ) → Option C) → List (List (List ℕ)) → Type 0
+AllLinesRead read lines = AllByRecursion (λ line. IsSome (read_entry read line)) lines
 
 -- reading the lines after the header stops at a line that spells no entry, or because an allocation failed
 abbrev pub StopsEntries : {C : Type 0} → Calls C → (List (List ℕ) → Option C) → List (List (List ℕ)) → RunError → Type 0

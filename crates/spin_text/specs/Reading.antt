@@ -30,9 +30,9 @@ abbrev pub lines_left : Option (Bor (List ℕ)) → List (List (List ℕ))
 lines_left None = []
 lines_left (Some bytes) = words_by_line bytes.now
 
-abbrev pub is_end : List (List ℕ) → Bool
-is_end [] = true
-is_end (w ∷ ws) = false
+abbrev pub has_ended : List (List ℕ) → Bool
+has_ended [] = true
+has_ended (w ∷ ws) = false
 
 -- the number below 2^64 whose decimal text is this word, if there is one
 unfoldable pub read_number : List ℕ → Option ℕ
@@ -59,7 +59,7 @@ number_within least most ws = do
 
 -- what was read, if no word is left
 abbrev pub if_last : {A : Type 0} → Option (A × List (List ℕ)) → Option A
-if_last read = read >>= λ x. if is_end x.1 then Some x.0 else None
+if_last read = read >>= λ x. if has_ended x.1 then Some x.0 else None
 
 unfoldable pub last_word : List (List ℕ) → Option (List ℕ)
 last_word ws = if_last (word_at ws)
@@ -74,7 +74,7 @@ unfoldable pub owner_move : {C : Type 0} → List (List ℕ) → Option (Move C 
 owner_move ws = do
   w ← word_at ws
   if bytes_eq w.0 (codes "set") then (last_number w.1 >>= λ v. Some (OwnerSet v))
-      else if bytes_eq w.0 (codes "get") && is_end w.1 then Some OwnerGet else None
+      else if bytes_eq w.0 (codes "get") && has_ended w.1 then Some OwnerGet else None
 
 unfoldable pub plain_move : {C : Type 0} → List ℕ → Option (Move C ℕ)
 plain_move w =
@@ -89,7 +89,7 @@ read_move call ws = do
   if bytes_eq w.0 (codes "begin") then (call w.1 >>= λ c. Some (Begin c))
       else if bytes_eq w.0 (codes "write") then (last_number w.1 >>= λ v. Some (Write v))
       else if bytes_eq w.0 (codes "owner") then owner_move w.1
-      else if is_end w.1 then plain_move w.0 else None
+      else if has_ended w.1 then plain_move w.0 else None
 
 unfoldable pub read_entry : {C : Type 0} → (List (List ℕ) → Option C) → List (List ℕ) → Option (ℕ × Move C ℕ)
 read_entry call ws = do
@@ -119,7 +119,7 @@ unfoldable pub read_try_call_once : List (List ℕ) → Option (OnceCall ℕ)
 read_try_call_once ws = do
   w ← word_at ws
   if bytes_eq w.0 (codes "ok") then (last_number w.1 >>= λ v. Some (once.TryCallOnceOk v))
-      else if bytes_eq w.0 (codes "err") && is_end w.1 then Some once.TryCallOnceErr else None
+      else if bytes_eq w.0 (codes "err") && has_ended w.1 then Some once.TryCallOnceErr else None
 
 unfoldable pub read_once_call : List (List ℕ) → Option (OnceCall ℕ)
 read_once_call ws = do
@@ -127,7 +127,7 @@ read_once_call ws = do
   if bytes_eq w.0 (codes "call_once") then (last_number w.1 >>= λ v. Some (once.CallOnce v))
       else if bytes_eq w.0 (codes "try_call_once") then read_try_call_once w.1
       else if bytes_eq w.0 (codes "init_from_ref") then (last_number w.1 >>= λ v. Some (once.InitFromRef v))
-      else if is_end w.1 then named (by_word PLAIN_ONCE_CALLS) w.0 else None
+      else if has_ended w.1 then named (by_word PLAIN_ONCE_CALLS) w.0 else None
 
 unfoldable pub read_flag_header : List (List ℕ) → Option Header
 read_flag_header ws = do

@@ -17,13 +17,13 @@ use Rattle.spin_text.specs.declared.text.RunError.TheVariants as errors
 use Rattle.spin_text.specs.Ends.{AppendsBeginning}
 use Rattle.spin_text.specs.Lines.{words_by_line}
 use Rattle.spin_text.specs.Spelling.{Calls, entry_words, EntriesFit}
-use Rattle.spin_text.specs.Objects.{CallOf, calls_of, header_words, HeaderFits}
+use Rattle.spin_text.specs.Objects.{CallUnder, calls_of, header_words, HeaderFits}
 use Rattle.spin_text.specs.Transcripts.{transcript_text}
 
 -- what a text says: its header and its entries
 pub record Script : Type 0 where
   pub header : Header
-  pub entries : List (ℕ × Move (CallOf header) ℕ)
+  pub entries : List (ℕ × Move (CallUnder header) ℕ)
 
 -- the words of a script, line by line
 abbrev pub script_words : Script → List (List (List ℕ))
@@ -49,7 +49,7 @@ pub record IsFirstBad (lines : List (List (List ℕ))) (n : ℕ) : Type 0 where
   pub bad : ¬ AreOfScript (take n lines)
 
 -- what is written for a script
-abbrev pub played : (h : Header) → List (ℕ × Move (CallOf h) ℕ) → List ℕ
+abbrev pub played : (h : Header) → List (ℕ × Move (CallUnder h) ℕ) → List ℕ
 played (Flag value parties) entries = transcript_text (flag_machine value) parties entries
 played (Ticket value first parties) entries = transcript_text (ticket_machine value first) parties entries
 played (Rw value cap parties) entries = transcript_text (rw_machine value cap) parties entries

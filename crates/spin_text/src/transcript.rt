@@ -7,7 +7,7 @@ ghost use Rattle.spin_text.specs.declared.text.RunError.TheVariants.{Memory};
 ghost use Rattle.spin_text.specs.Ends.{AppendsBeginning, AppendsBut};
 ghost use Rattle.spin_text.specs.Texts.{StopsWriting};
 ghost use Rattle.spin_text.specs.Pieces.{PutBefore, HasLine, TellsLine};
-ghost use Rattle.spin_text.specs.Readable.{AllRead};
+ghost use Rattle.spin_text.specs.Readable.{AllLinesRead};
 ghost use Rattle.spin_text.specs.Reading.{entries_in, lines_left, numbers_of};
 ghost use Rattle.spin_text.specs.Transcripts.{value_text, number_text, answer_text, from_text, outcome_text, numbers_text, event_line, end_line, schedule_lines, transcript_from, transcript_text};
 
@@ -180,7 +180,7 @@ fn write_events<O: Spelled, K: Sink>(
     requires none_begun { (p : ℕ) → begin_of begins.old p ≡ None }
     requires room { length piece.old ≡ PIECE }
     requires counted { length (lines_left lines) < 2 ^ 64 }
-    requires read { AllRead O.read (lines_left lines) }
+    requires read { AllLinesRead O.read (lines_left lines) }
     ensures object { OnOk result (world.new.object ≡ world.old.object) }
     ensures state { OnOk result (world.new.state ≡ after (O.machine world.old.object) world.old.state
         (entries_in O.read (lines_left lines.entry))) }
@@ -245,7 +245,7 @@ fn play<O: Spelled, K: Sink>(
     requires none_begun { (p : ℕ) → begin_of begins.old p ≡ None }
     requires room { length piece.old ≡ PIECE }
     requires counted { length (lines_left lines) < 2 ^ 64 }
-    requires read { AllRead O.read (lines_left lines) }
+    requires read { AllLinesRead O.read (lines_left lines) }
     ensures bytes { OnOk result (Appends (K.written output.old) (K.written output.new)
         (transcript_from (O.machine world.old.object) world.old.state (entries_in O.read (lines_left lines.entry)))) }
     ensures ok { OnOk result (K.failed output.new ≡ K.failed output.old) }
@@ -269,7 +269,7 @@ fn play<O: Spelled, K: Sink>(
 /// or events. It allocates nothing once it reads the first entry.
 ///
 /// # Contract
-/// The caller has checked that each line spells an entry (`AllRead`).
+/// The caller has checked that each line spells an entry (`AllLinesRead`).
 pub fn write_transcript<O: Spelled, K: Sink>(
     alloc: Global,
     object: O,
@@ -278,7 +278,7 @@ pub fn write_transcript<O: Spelled, K: Sink>(
     output: &mut K,
 ) -> Result<(), RunError>
     requires counted { length (lines_left lines) < 2 ^ 64 }
-    requires read { AllRead O.read (lines_left lines) }
+    requires read { AllLinesRead O.read (lines_left lines) }
     ensures bytes { OnOk result (Appends (K.written output.old) (K.written output.new)
         (transcript_text (O.machine object) parties (entries_in O.read (lines_left lines.entry)))) }
     ensures ok { OnOk result (K.failed output.new ≡ K.failed output.old) }

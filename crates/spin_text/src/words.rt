@@ -6,7 +6,7 @@ ghost use Rattle.std.specs.Str.{bytes_eq};
 ghost use Rattle.std.specs.Str.Parse.{AllDigits, digits_value};
 ghost use Rattle.memchr.specs.Find.{IsFirstByte, is_byte};
 ghost use Rattle.spin_text.specs.Lines.{words_by_line, words_of};
-ghost use Rattle.spin_text.specs.Reading.{words_left, lines_left, is_end, read_number, word_at, number_at, last_word, last_number, parts_left, named, only_named};
+ghost use Rattle.spin_text.specs.Reading.{words_left, lines_left, has_ended, read_number, word_at, number_at, last_word, last_number, parts_left, named, only_named};
 
 use memchr::memchr;
 
@@ -80,7 +80,7 @@ pub fn is_word(word: &[u8], name: &[u8]) -> bool
 
 /// Returns `true` if no word of the line is left.
 pub fn is_over(line: Rest) -> bool
-    ensures { result ≡ is_end (words_left line.entry) }
+    ensures { result ≡ has_ended (words_left line.entry) }
 {
     match line {
         None => true,

@@ -10,8 +10,8 @@ pub use Rattle.spin_world.specs.declared.barrier.BarrierWords.{BarrierWords}
 pub use Rattle.spin_world.specs.declared.barrier.BarrierCall.{BarrierCall}
 pub use Rattle.spin_world.specs.declared.barrier.BarrierPoint.{BarrierPoint}
 pub use Rattle.spin_world.specs.declared.barrier.BarrierPoint.TheVariants.{Arrive, Leave}
-pub use Rattle.spin_world_core.specs.Runs.{Seen, scene, step_at, opening, own, mark_of}
-pub use Rattle.spin_world_core.specs.Undisturbed.{arrived}
+pub use Rattle.spin_world_core.specs.Runs.{Seen, scene, plain_change_at, opening, own, mark_of}
+pub use Rattle.spin_world_core.specs.Undisturbed.{arrivals_after}
 pub use Rattle.spin_world_core.specs.Users.{seen_at, seen_after, passes, steps_made}
 pub use Rattle.spin_world.specs.BarrierTable.{BarrierMachine, leads_group, barrier_machine, barrier_table}
 pub use Rattle.spin_step.specs.Asks.{is_arrival}

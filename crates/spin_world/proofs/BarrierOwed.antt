@@ -1,5 +1,5 @@
 -- What has to be shown of the barrier's table.
-use Rattle.spin_world.proofs.BarrierNames.{◌≡◌, ℕ, ◌+◌, ◌≤◌, ◌==◌, false, ◌&&◌, is_some, Option, Some, None, List, ◌∷◌, refl, arith, Plain, Change, arrives, count_word, generation_word, IsBarrier, is_leading, generation_at, barrier_arrive-words, barrier_count-below, barrier_may_leave-full, Hold, BarrierWords, BarrierPoint, Arrive, Leave, arrived, mark_of, passes, is_arrival, barrier_table, barrier_machine, []}
+use Rattle.spin_world.proofs.BarrierNames.{◌≡◌, ℕ, ◌+◌, ◌≤◌, ◌==◌, false, ◌&&◌, is_some, Option, Some, None, List, ◌∷◌, refl, arith, Plain, Change, arrives, count_word, generation_word, IsBarrier, is_leading, generation_at, barrier_arrive-words, barrier_count-below, barrier_may_leave-full, Hold, BarrierWords, BarrierPoint, Arrive, Leave, arrivals_after, mark_of, passes, is_arrival, barrier_table, barrier_machine, []}
 use Rattle.std.proofs.Math.Bool.{and-false}
 use Rattle.spin_step.specs.Parties.{apply_some}
 use Rattle.spin_step.specs.StepKinds.{StepKind, look}
@@ -36,10 +36,10 @@ follows_right p k all (m ∷ ms) made full = grind (arith, eqb_self p, follows_r
 
 -- What a party that waits knows. It has arrived, its arrival does not lead, and the generation at its arrival was g.
 pub record Waits (g p : ℕ) (s : Plain) (span : List Mark) : Type 0 where
-  pub come : arrived p span ≤ s.arrivals
-  pub found : generation_at s (arrived p span) ≡ g
-  pub follows : is_leading s (arrived p span) ≡ false
-  pub made : AnyOf (λ m. Arrives p (arrived p span) m × (is_leading m.before (arrived p span) ≡ false)) span
+  pub come : arrivals_after p span ≤ s.arrivals
+  pub found : generation_at s (arrivals_after p span) ≡ g
+  pub follows : is_leading s (arrivals_after p span) ≡ false
+  pub made : AnyOf (λ m. Arrives p (arrivals_after p span) m × (is_leading m.before (arrivals_after p span) ≡ false)) span
 
 abbrev pub KnowsAt : BarrierPoint → ℕ → Plain → List Mark → Type 0
 KnowsAt Arrive p s span = Unit {0}
@@ -60,7 +60,7 @@ one_more s step belongs = grind arith
 -- a step other than the party's own arrival does not change what the party knows
 waits-on : (g p q : ℕ) (s : Plain) (step : Option Change) (r : StepKind) (span : List Mark) → ((q == p) && is_some step) ≡ false → BelongsTo barrier step → Waits g p s span → Waits g p (apply_some s step) (mark_of q step r s ∷ span)
 waits-on g p q s step r span none belongs waits =
-    let same : arrived p (mark_of q step r s ∷ span) ≡ arrived p span = grind arith in
+    let same : arrivals_after p (mark_of q step r s ∷ span) ≡ arrivals_after p span = grind arith in
     grind (arith, waits, same, (rw (← same) at waits.made))
 
 module _ (n : ℕ) where
@@ -71,9 +71,9 @@ module _ (n : ℕ) where
   owes p c Arrive h s w span =
       grind (arith, is_barrier s w, barrier_count-below s n w.count w.generation, barrier_arrive-words s n w.count w.generation, eqb_self p)
   owes p c (Leave g) None s w span = λ at.
-      let full = barrier_may_leave-full s (arrived p span) n w.count w.generation g (is_barrier s w at.encodes at.shape) in
+      let full = barrier_may_leave-full s (arrivals_after p span) n w.count w.generation g (is_barrier s w at.encodes at.shape) in
       let waits = waits-on g p p s None look span (and-false (p == p)) tt at.knows.1 in
-      grind (arith, full, at.knows.1, waits, follows_right p (arrived p span) (mark_of p None look s ∷ span) span at.knows.1.made)
+      grind (arith, full, at.knows.1, waits, follows_right p (arrivals_after p span) (mark_of p None look s ∷ span) span at.knows.1.made)
   owes p c (Leave g) (Some h) s w span = tt
 
   pub barrier_facts : Plays (barrier_machine n) (barrier_notes n)

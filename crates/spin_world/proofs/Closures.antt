@@ -1,11 +1,11 @@
 -- Proofs of what users of a `Once` may rely on when a closure begins, also after another closure has failed.
 use Rattle.spin_world_core.specs.Users.{IsCalling}
-use Rattle.spin_world.proofs.OnceNames.{◌≡◌, ℕ, true, Option, Some, ◌∷◌, ◌++◌, slice_get, refl, arith, ap, ◌∙◌, ◌⊎◌, Hold, Calling, Step, to_begin, gets, Seen, step_at, happens, at_first, OnceCall, OncePoint, Look, TryBegin, Await, Run, asks_of, OnceMachine, once_machine, OnceSchedule, state_at, RunsClosure, seen_at, has_just_looked, has_closure, MayRunAgain, LooksFirst, after-append, Invariant, in_call, []}
+use Rattle.spin_world.proofs.OnceNames.{◌≡◌, ℕ, true, Option, Some, ◌∷◌, ◌++◌, slice_get, refl, arith, ap, ◌∙◌, ◌⊎◌, Hold, Calling, Step, to_begin, gets, Seen, plain_change_at, happens, at_first, OnceCall, OncePoint, Look, TryBegin, Await, Run, asks_of, OnceMachine, once_machine, OnceSchedule, state_at, RunsClosure, seen_at, has_just_looked, has_closure, MayRunAgain, LooksFirst, after-append, Invariant, in_call, []}
 use Rattle.spin_step.specs.declared.place.Seat.{Seat}
 use Rattle.spin_step.proofs.Lists.{get-set_same}
 use Rattle.spin_world.proofs.OnceOwed.{once_facts}
 use Rattle.spin_world_core.proofs.Reached.{good}
-use Rattle.spin_world.proofs.Keeping.{OnceState, not_at_run, run_here}
+use Rattle.spin_world.proofs.OneClosure.{OnceState, not_at_run, run_here}
 
 module _ {V : Type 0} (value : Option V) where
   abbrev m : OnceMachine V
@@ -42,7 +42,7 @@ module _ {V : Type 0} (value : Option V) where
   a_later_closure_may_run n past = grind (arith, after-append, at_first, runs_soon)
 
   -- a closure begins only by the exchange, which follows a look
-  looks_at : (seen : Seen ℕ V (OnceCall V) OncePoint) (p : ℕ) (o : Option (Seat (OnceCall V) OncePoint)) → Invariant (once_facts value) seen → slice_get seen.state.seats p ≡ o → step_at m seen.state p Step o ≡ Some (gets p to_begin)
+  looks_at : (seen : Seen ℕ V (OnceCall V) OncePoint) (p : ℕ) (o : Option (Seat (OnceCall V) OncePoint)) → Invariant (once_facts value) seen → slice_get seen.state.seats p ≡ o → plain_change_at m seen.state p Step o ≡ Some (gets p to_begin)
       → has_just_looked p (seen.span p) ≡ true
   looks_at seen p o good there e = grind (arith, in_call, once_facts)
 

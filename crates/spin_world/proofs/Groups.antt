@@ -1,7 +1,7 @@
 -- Proofs of what users of a barrier may rely on.
 use Rattle.spin_world_core.proofs.Every.{outcome-seen_at}
 use Rattle.spin_world_core.proofs.Every.{state-seen_at}
-use Rattle.spin_world.proofs.BarrierNames.{◌≡◌, ℕ, ◌+◌, ◌%◌, ◌==◌, ◌↔◌, true, Option, Some, None, ◌∷◌, slice_get, arith, max, arrives, may_leave_at, barrier_arrive-words, barrier_may_leave-tells, Leader, Follower, Hold, BarrierWords, BarrierCall, BarrierPoint, Seen, scene, step_at, opening, own, arrived, seen_after, passes, steps_made, BarrierMachine, leads_group, barrier_machine, is_arrival, BarrierSchedule, seen_at, arrivals, InGroups, FollowersLeave, []}
+use Rattle.spin_world.proofs.BarrierNames.{◌≡◌, ℕ, ◌+◌, ◌%◌, ◌==◌, ◌↔◌, true, Option, Some, None, ◌∷◌, slice_get, arith, max, arrives, may_leave_at, barrier_arrive-words, barrier_may_leave-tells, Leader, Follower, Hold, BarrierWords, BarrierCall, BarrierPoint, Seen, scene, plain_change_at, opening, own, arrivals_after, seen_after, passes, steps_made, BarrierMachine, leads_group, barrier_machine, is_arrival, BarrierSchedule, seen_at, arrivals, InGroups, FollowersLeave, []}
 use Rattle.spin_step.specs.declared.place.Seat.{Seat}
 use Rattle.spin_step.specs.declared.place.Seat.TheVariants.{Calling}
 use Rattle.spin_step.specs.declared.schedule.Move.TheVariants.{Step}
@@ -28,7 +28,7 @@ module _ (n : ℕ) where
   -- The party has any seat o. `last` is the place that the next arrival gets in its group, or 0 if this arrival fills
   -- the group.
   leads_at : (s : State BarrierWords ℕ BarrierCall BarrierPoint) (p last : ℕ) (o : Option (Seat BarrierCall BarrierPoint)) → leads_group n s.words ≡ (last == 0)
-      → ((moves_at m s p Step o).outcome ≡ Answered Leader None) ↔ ((passes is_arrival (step_at m s p Step o) ≡ true) × (last ≡ 0))
+      → ((moves_at m s p Step o).outcome ≡ Answered Leader None) ↔ ((passes is_arrival (plain_change_at m s p Step o) ≡ true) × (last ≡ 0))
   leads_at s p last o leading = grind arith
 
   pub in_groups : (parties : ℕ) (past : BarrierSchedule) → InGroups m n parties past
@@ -47,7 +47,7 @@ module _ (n : ℕ) where
   -- a party that has arrived sees by the generation whether its group is full
   leaves_at : (seen : Seen BarrierWords ℕ BarrierCall BarrierPoint) (p : ℕ) (c : BarrierCall) (l : BarrierPoint) (h : Option Hold)
       → Invariant f seen → slice_get seen.state.seats p ≡ Some (Calling c l h) → own p (seen.span p) ≡ arrives p ∷ []
-      → ((happens m seen.state p Step).outcome ≡ Answered Follower None) ↔ (may_leave_at seen.plain (arrived p (seen.span p)) ≡ true)
+      → ((happens m seen.state p Step).outcome ≡ Answered Follower None) ↔ (may_leave_at seen.plain (arrivals_after p (seen.span p)) ≡ true)
   leaves_at seen p c l h good there has = grind (arith, is_barrier, barrier_may_leave-tells, in_call)
 
   pub followers_leave : (parties : ℕ) (past : BarrierSchedule) → FollowersLeave m parties past

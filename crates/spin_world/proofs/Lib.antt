@@ -15,7 +15,7 @@ pub mod RwOwed
 pub mod Standing
 pub mod OnceNames
 pub mod OnceOwed
-pub mod Keeping
+pub mod OneClosure
 pub mod Closures
 pub mod Unread
 pub mod BarrierNames

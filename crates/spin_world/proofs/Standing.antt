@@ -15,7 +15,7 @@ use Rattle.spin_world_core.proofs.Steps.{Plays}
 use Rattle.spin_world_core.specs.Runs.{Seen, scene, opening, entries_of}
 use Rattle.spin_world_core.specs.Users.{seen_after, passes, ReadsAgreeAcross}
 use Rattle.spin_step_more.specs.RwCalls.{rw_machine}
-use Rattle.spin_world.specs.Standing.{StandTogether, KeepsWritersOut, less, Downgrades, readers_gone, KeepsAsking, AllGone, Opens, converts}
+use Rattle.spin_world.specs.Standing.{StandTogether, KeepsWritersOut, less, Downgrades, readers_gone, KeepsAsking, AllGone, OpensForAll, converts}
 use Rattle.spin_world.proofs.RwOwed.{holder_by, rw_notes, rw_facts}
 use Rattle.spin_world_core.proofs.Reached.{good, numbers_are, stands, calls, calls_so, StandsSo}
 use Rattle.spin_step.proofs.Lists.{get-set_same}
@@ -71,7 +71,7 @@ module _ {V : Type 0} (v : V) (cap : ℕ) where
       let one = goes_some seen.plain p e.0 sc.change here.exclusive stays.0 is.keeps.opens (stays_now p sc.after es stays.1) in
       (omega (arith, rest.0, one), rest.1)
 
-  pub opens_by_releases : (n : ℕ) (past further : Schedule RwCall V) → Opens m n past further
+  pub opens_by_releases : (n : ℕ) (past further : Schedule RwCall V) → OpensForAll m n past further
   opens_by_releases n past further p stays = let all = past ++ further in let before = seen_at m n past in
       let later = seen_at m n all in
       let gone = gone_through p before further (good f n past) stays in

@@ -26,4 +26,4 @@ pub use Rattle.spin_step.specs.declared.schedule.Move.TheVariants.{Step}
 pub use Rattle.spin_step.specs.declared.schedule.Outcome.TheVariants.{GoingOn}
 pub use Rattle.spin_step.specs.Schedules.{State, moves_at, after, at_first}
 pub use Rattle.spin_world_core.specs.Users.{seen_after, passes}
-pub use Rattle.spin_world.specs.Turns.{serves_one, tickets_gone, TicketsInOrder, InTurn, FoundNext, TriesByTwoLoads}
+pub use Rattle.spin_world.specs.TicketOrder.{serves_one, tickets_gone, TicketsInOrder, InTurn, FoundNext, TriesByTwoLoads}

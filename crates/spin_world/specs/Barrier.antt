@@ -12,7 +12,7 @@ use Rattle.spin_world.specs.BarrierTable.{BarrierMachine}
 use Rattle.spin_world_core.specs.Kinds.{IsLock, BeginAt}
 
 -- `m` is the machine of a barrier with groups of n
-pub record IsBarrierOf (n : ℕ) (m : BarrierMachine) : Type 0 where
+pub record IsBarrierMachine (n : ℕ) (m : BarrierMachine) : Type 0 where
   -- nobody has arrived, and no group is full yet
   pub is_lock : IsLock barrier (record { count = 0; generation = 0 }) (λ w. w.count ∷ w.generation ∷ []) None false m
   pub open is_lock use *

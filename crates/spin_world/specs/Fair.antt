@@ -20,7 +20,7 @@ FairMachine V = Machine ℕ V FairCall FairPoint (Answer V)
 
 -- `m` is the machine of a fair lock with this cap of starvers. A `lock` tries to register when more than `patience`
 -- of its looks have found the flag set.
-pub record IsFairLock {V : Type 0} (given : V) (cap patience : ℕ) (m : FairMachine V) : Type 0 where
+pub record IsFairMachine {V : Type 0} (given : V) (cap patience : ℕ) (m : FairMachine V) : Type 0 where
   pub is_lock : IsLock fair 0 (λ w. w ∷ []) (Some given) true m
   pub open is_lock use *
   pub most_starve : m.cap ≡ min cap most_starvers

@@ -15,7 +15,7 @@ use Rattle.spin_step.specs.declared.schedule.Outcome.TheVariants.{Answered}
 use Rattle.spin_world.specs.declared.barrier.BarrierCall.{BarrierCall}
 use Rattle.spin_world.specs.declared.barrier.BarrierPoint.{BarrierPoint}
 use Rattle.spin_world_core.specs.Runs.{scene, opening, own}
-use Rattle.spin_world_core.specs.Undisturbed.{arrived}
+use Rattle.spin_world_core.specs.Undisturbed.{arrivals_after}
 use Rattle.spin_world_core.specs.Users.{outcome_after, passes, steps_made}
 use Rattle.spin_world.specs.BarrierTable.{BarrierMachine}
 
@@ -42,4 +42,4 @@ pub record InGroups (m : BarrierMachine) (n parties : ℕ) (past : BarrierSchedu
 abbrev pub FollowersLeave : BarrierMachine → ℕ → BarrierSchedule → Type 0
 FollowersLeave m parties past = let seen = seen_at m parties past in
     (p : ℕ) (c : BarrierCall) (l : BarrierPoint) (h : Option Hold) → IsCalling m parties past p c l h → own p (seen.span p) ≡ arrives p ∷ []
-    → (outcome_after m parties past p Step ≡ Answered Follower None) ↔ (may_leave_at seen.plain (arrived p (seen.span p)) ≡ true)
+    → (outcome_after m parties past p Step ≡ Answered Follower None) ↔ (may_leave_at seen.plain (arrivals_after p (seen.span p)) ≡ true)

@@ -1,11 +1,11 @@
 pub mod Flag
 pub mod Ticket
-pub mod Turns
+pub mod TicketOrder
 pub mod Fair
 pub mod Fairness
 pub mod Standing
 pub mod Rw
-pub mod Keeping
+pub mod OnceClosures
 pub mod Once
 pub mod BarrierKind
 pub mod BarrierTable

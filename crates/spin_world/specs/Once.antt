@@ -19,7 +19,7 @@ abbrev pub Takes : {V : Type 0} → OnceMachine V → OnceCall V → Asked → O
 Takes m c what value = (h : Option Hold) → (m.asks c h ≡ what) × (m.brings c ≡ value)
 
 -- `m` is the machine of a `Once` that opens with the value `given`, or opens empty
-pub record IsOnceOf {V : Type 0} (given : Option V) (m : OnceMachine V) : Type 0 where
+pub record IsOnceMachine {V : Type 0} (given : Option V) (m : OnceMachine V) : Type 0 where
   pub is_lock : IsLock once (elim given [ None ↦ 0 | Some v ↦ 2 ]) (λ w. w ∷ []) given true m
   pub open is_lock use *
   pub phase : (opening_plain m).phase ≡ elim given [ None ↦ nothing | Some v ↦ complete ]

@@ -19,7 +19,7 @@ use Rattle.spin_world_core.specs.Kinds.{BeginAt, AnswersIn}
 abbrev pub RwMachine : Type 0 → Type 0
 RwMachine V = Machine ℕ V RwCall RwPoint (Answer V)
 
-pub record IsRw {V : Type 0} (given : V) (cap : ℕ) (m : RwMachine V) : Type 0 where
+pub record IsRwMachine {V : Type 0} (given : V) (cap : ℕ) (m : RwMachine V) : Type 0 where
   pub is_lock : IsLock rw 0 (λ w. w ∷ []) (Some given) true m
   pub open is_lock use *
   -- at first nobody holds; as many parties may hold as the cap says, but no more than the reader limit

@@ -72,8 +72,8 @@ pub record OpensByReleases {V : Type 0} (m : RwMachine V) (n : ℕ) (past furthe
   pub granted : (c : RwCall) (l : RwPoint) (h : Option Hold) → IsCalling m n (past ++ further) p c l h
       → (outcome_after m n (past ++ further) p Step ≡ Answered Granted None) ↔ AllGone m n past further
 
-abbrev pub Opens : {V : Type 0} → RwMachine V → ℕ → Schedule RwCall V → Schedule RwCall V → Type 0
-Opens m n past further = (p : ℕ) → KeepsAsking p m (seen_at m n past) further → OpensByReleases m n past further p
+abbrev pub OpensForAll : {V : Type 0} → RwMachine V → ℕ → Schedule RwCall V → Schedule RwCall V → Type 0
+OpensForAll m n past further = (p : ℕ) → KeepsAsking p m (seen_at m n past) further → OpensByReleases m n past further p
 
 -- the calls that change what a party holds, but keep its guard
 abbrev pub converts : RwCall → Bool

@@ -18,7 +18,7 @@ use Rattle.spin_world_core.specs.Kinds.{BeginAt}
 abbrev pub TicketMachine : Type 0 → Type 0
 TicketMachine V = Machine TicketWords V TicketCall TicketPoint (Answer V)
 
-pub record IsTicketLock {V : Type 0} (given : V) (first : ℕ) (m : TicketMachine V) : Type 0 where
+pub record IsTicketMachine {V : Type 0} (given : V) (first : ℕ) (m : TicketMachine V) : Type 0 where
   pub is_lock : IsLock ticket (record { next = first; serving = first }) (λ w. w.next ∷ w.serving ∷ []) (Some given) true m
   pub open is_lock use *
   pub first_ticket : m.first ≡ first

@@ -2,7 +2,7 @@
 ghost use Rattle.std.specs.Prelude.{◌≡◌, true};
 ghost use Rattle.spin_step.specs.Acts.{step_by, can_by};
 ghost use Rattle.spin_world.specs.BarrierTable.{barrier_memory, barrier_word, act_of, barrier_machine};
-ghost use Rattle.spin_world.specs.Barrier.{IsBarrierOf};
+ghost use Rattle.spin_world.specs.Barrier.{IsBarrierMachine};
 
 mod laws;
 
@@ -20,7 +20,7 @@ pub struct BarrierWords {
     pub generation: usize,
 }
 
-/// A call of a [`BarrierObject`]. `IsBarrierOf` says what this call asks.
+/// A call of a [`BarrierObject`]. `IsBarrierMachine` says what this call asks.
 #[derive(Clone, Copy, Debug, PartialEq, Eq)]
 pub enum BarrierCall {
     /// Arrives, and waits until the group of this arrival is full. The last arrival of a group leads, and does not
@@ -63,11 +63,11 @@ impl BarrierObject {
     /// Creates a barrier for groups of `n` parties, at which no party has arrived. 0 counts as 1.
     ///
     /// # Contract
-    /// The object has this `n`. Its machine is that of a barrier with groups of `n` (`IsBarrierOf`): no group is full
+    /// The object has this `n`. Its machine is that of a barrier with groups of `n` (`IsBarrierMachine`): no group is full
     /// yet, and [`BarrierCall`] says what its call asks.
     pub fn new(n: usize) -> BarrierObject
         ensures fields { result ≡ record { n = n } }
-        ensures named { IsBarrierOf n (⟦<BarrierObject as Object>⟧.machine result) }
+        ensures named { IsBarrierMachine n (⟦<BarrierObject as Object>⟧.machine result) }
     {
         BarrierObject { n }
     }

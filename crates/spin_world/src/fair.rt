@@ -4,7 +4,7 @@
 ghost use Rattle.std.specs.Prelude.{◌≡◌, ◌≢◌, ◌<◌, ◌+◌, true};
 ghost use Rattle.spin_step.specs.Acts.{one_number, step_by, can_by};
 ghost use Rattle.spin_step_more.specs.FairCalls.{act_of, fair_machine};
-ghost use Rattle.spin_world.specs.Fair.{IsFairLock};
+ghost use Rattle.spin_world.specs.Fair.{IsFairMachine};
 
 mod laws;
 
@@ -57,13 +57,13 @@ impl<V: Copy> Fair<V> {
     ///
     /// # Contract
     /// `cap` must not be 0, and `spins` must be below `usize::MAX`. The object has this value, this cap, and a patience
-    /// of `spins` + 1. Its machine is that of such a fair lock (`IsFairLock`): no party holds it or starves at first,
+    /// of `spins` + 1. Its machine is that of such a fair lock (`IsFairMachine`): no party holds it or starves at first,
     /// and each call asks what [`FairCall`] says.
     pub fn new(value: V, cap: usize, spins: usize) -> Fair<V>
         requires somebody { cap ≢ 0 }
         requires counted { spins < 18446744073709551615 }
         ensures fields { result ≡ record { value = value; cap = cap; patience = spins + 1 } }
-        ensures named { IsFairLock value cap (spins + 1) (⟦<Fair<V> as Object>⟧.machine result) }
+        ensures named { IsFairMachine value cap (spins + 1) (⟦<Fair<V> as Object>⟧.machine result) }
     {
         Fair {
             value,

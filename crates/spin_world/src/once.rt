@@ -2,7 +2,7 @@
 ghost use Rattle.std.specs.Prelude.{◌≡◌, Some, None, true};
 ghost use Rattle.spin_step.specs.Acts.{one_number, step_by, can_by, completes_by, step_with};
 ghost use Rattle.spin_step.specs.OnceCalls.{brings_of, act_of, once_machine};
-ghost use Rattle.spin_world.specs.Once.{IsOnceOf};
+ghost use Rattle.spin_world.specs.Once.{IsOnceMachine};
 
 mod laws;
 
@@ -41,11 +41,11 @@ impl<V: Copy> OnceObject<V> {
     /// Creates a cell without a value.
     ///
     /// # Contract
-    /// The object has no value. Its machine is that of a `Once` without an opening value (`IsOnceOf`): its word is 0,
+    /// The object has no value. Its machine is that of a `Once` without an opening value (`IsOnceMachine`): its word is 0,
     /// and [`OnceCall`] says what each call asks for.
     pub fn new() -> OnceObject<V>
         ensures fields { result ≡ record { value = None } }
-        ensures named { IsOnceOf None (⟦<OnceObject<V> as Object>⟧.machine result) }
+        ensures named { IsOnceMachine None (⟦<OnceObject<V> as Object>⟧.machine result) }
     {
         OnceObject { value: None }
     }
@@ -53,11 +53,11 @@ impl<V: Copy> OnceObject<V> {
     /// Creates a cell that has this value from the start.
     ///
     /// # Contract
-    /// The object has this value. Its machine is that of a `Once` with this opening value (`IsOnceOf`): its word is 2,
+    /// The object has this value. Its machine is that of a `Once` with this opening value (`IsOnceMachine`): its word is 2,
     /// and [`OnceCall`] says what each call asks for.
     pub fn initialized(value: V) -> OnceObject<V>
         ensures fields { result ≡ record { value = Some value } }
-        ensures named { IsOnceOf (Some value) (⟦<OnceObject<V> as Object>⟧.machine result) }
+        ensures named { IsOnceMachine (Some value) (⟦<OnceObject<V> as Object>⟧.machine result) }
     {
         OnceObject { value: Some(value) }
     }

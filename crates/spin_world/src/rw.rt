@@ -2,7 +2,7 @@
 ghost use Rattle.std.specs.Prelude.{◌≡◌, ◌≤◌, true};
 ghost use Rattle.spin_step.specs.Acts.{one_number, step_by, can_by};
 ghost use Rattle.spin_step_more.specs.RwCalls.{act_of, rw_machine};
-ghost use Rattle.spin_world.specs.Rw.{IsRw};
+ghost use Rattle.spin_world.specs.Rw.{IsRwMachine};
 
 mod laws;
 
@@ -46,11 +46,11 @@ impl<V: Copy> Rw<V> {
     ///
     /// # Contract
     /// `cap` must be at least 1. The object has this value and this cap. Its machine is that of such a read-write lock
-    /// (`IsRw`): it opens free, and each call asks what [`RwCall`] says.
+    /// (`IsRwMachine`): it opens free, and each call asks what [`RwCall`] says.
     pub fn new(value: V, cap: usize) -> Rw<V>
         requires some { 1 ≤ cap }
         ensures fields { result ≡ record { value = value; cap = cap } }
-        ensures named { IsRw value cap (⟦<Rw<V> as Object>⟧.machine result) }
+        ensures named { IsRwMachine value cap (⟦<Rw<V> as Object>⟧.machine result) }
     {
         Rw { value, cap }
     }

@@ -2,7 +2,7 @@
 ghost use Rattle.std.specs.Prelude.{◌≡◌, true};
 ghost use Rattle.spin_step.specs.Acts.{step_by, can_by};
 ghost use Rattle.spin_step.specs.TicketCalls.{ticket_memory, word_of, act_of, ticket_machine};
-ghost use Rattle.spin_world.specs.Ticket.{IsTicketLock};
+ghost use Rattle.spin_world.specs.Ticket.{IsTicketMachine};
 
 mod laws;
 
@@ -39,11 +39,11 @@ impl<V: Copy> Ticket<V> {
     /// `u64::MAX - 1`.
     ///
     /// # Contract
-    /// The object has this value and this first number. Its machine is that of a ticket lock (`IsTicketLock`): it opens
+    /// The object has this value and this first number. Its machine is that of a ticket lock (`IsTicketMachine`): it opens
     /// with an empty queue, and each call asks what [`TicketCall`] says.
     pub fn new(value: V, first: u64) -> Ticket<V>
         ensures fields { result ≡ record { value = value; first = first } }
-        ensures named { IsTicketLock value first (⟦<Ticket<V> as Object>⟧.machine result) }
+        ensures named { IsTicketMachine value first (⟦<Ticket<V> as Object>⟧.machine result) }
     {
         Ticket { value, first }
     }

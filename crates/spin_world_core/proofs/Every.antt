@@ -6,7 +6,7 @@ use Rattle.spin_world_core.proofs.Names.{happens}
 use Rattle.spin_world_core.specs.Users.{seen_at}
 use Rattle.spin_world_core.specs.Runs.{state_at}
 use Rattle.spin_world_core.specs.Runs.{Schedule}
-use Rattle.spin_world_core.proofs.Names.{◌≡◌, ℕ, Option, Some, [], ◌∷◌, refl, false, arith, Seat, Idle, Move, Machine, opening_plain, after, Seen, Scene, scene, is_open_move, StandsFor, MaySkip, Every, Keeps, IsRight, IsInTime, opening, KeepsAll, MomentsAll, CountsAll, CanStep, seen_after, Table, Option, seat_of, is_owners, IsOwners, moves_at, true, Holding, Leaked}
+use Rattle.spin_world_core.proofs.Names.{◌≡◌, ℕ, Option, Some, [], ◌∷◌, refl, false, arith, Seat, Idle, Move, Machine, opening_plain, after, Seen, Scene, scene, is_open_move, StandsFor, MaySkip, Every, KeepsPromises, IsRight, IsInTime, opening, KeepsAll, MomentsAll, CountsAll, CanStep, seen_after, Table, Option, seat_of, is_owners, IsOwners, moves_at, true, Holding, Leaked}
 use Rattle.spin_world_core.specs.Runs.{MayTouch}
 use Rattle.spin_world_core.proofs.Lists.{get-replicate}
 use Rattle.spin_world_core.proofs.Steps.{played, Plays}
@@ -110,7 +110,7 @@ module _ {W V C L A B : Type 0} {t : Table W V C L A} {by : Machine W V C L B} {
 
     pub keeps_of : KeepsAll m parties es
     keeps_of =
-        let each = every (Keeps m) (λ seen p move good. (kept seen p move good).keeps) (opening m parties) es (good_first parties) in
+        let each = every (KeepsPromises m) (λ seen p move good. (kept seen p move good).keeps) (opening m parties) es (good_first parties) in
         search (f.pays.first, f.pays.numbers_tell, each)
 
     pub moments_of : MomentsAll m parties es

@@ -1,5 +1,5 @@
 -- Two machines that play a table. In one no closure makes the value; in the other the object's closures make it.
-use Rattle.spin_world_core.proofs.Names.{◌≡◌, ℕ, true, false, is_some, Option, Some, None, refl, sym, ◌∙◌, subst, arith, true≢false, Plain, Phase, Change, completes, is_complete, apply_some, IsOpenStep, entries, is_held, Answer, Hold, Next, Answers, encoded, says_of, placed, HasPhase, if_completed, is_writer, Act, store, step_by, change_at, change_by, makes_by, Table, machine_of, completes_by, filled, machine_with}
+use Rattle.spin_world_core.proofs.Names.{◌≡◌, ℕ, true, false, is_some, Option, Some, None, refl, sym, ◌∙◌, subst, arith, true≢false, Plain, Phase, Change, completes, is_complete, apply_some, IsOpenStep, entries, is_held, Answer, Hold, Next, Answers, encoded, says_of, placed, HasPhase, if_completed, writes_value, Act, store, step_by, change_at, change_by, makes_by, Table, machine_of, completes_by, filled, machine_with}
 use Rattle.std.specs.Prelude.{if◌then◌else◌}
 use Rattle.spin_step.specs.Asks.{is_completion}
 use Rattle.spin_world_core.specs.Users.{passes}
@@ -50,7 +50,7 @@ pub record PaysWith {W V C L : Type 0} {t : Table W V C L (Answer (Unit {0}))} (
   pub strong : (c : C) (h : Option Hold) (d : Change) → (t.asks c h).gets_weakly d ≡ false
   pub says : (a : Answer (Unit {0})) → t.says a ≡ says_of a
   -- no party may write, and no party holds the lock
-  pub none_writes : (s : Plain) (p : ℕ) → n.Shape s → is_writer (entries p s) ≡ false
+  pub none_writes : (s : Plain) (p : ℕ) → n.Shape s → writes_value (entries p s) ≡ false
   pub none_holds : (s : Plain) → n.Shape s → is_held s ≡ false
   pub completes_right : (p : ℕ) (c : C) (l : L) (h : Option Hold) → CompletesRight (t.act c l h) p (brings c)
   pub tells : (p : ℕ) (c : C) (l : L) (h : Option Hold) (s : Plain) (w : W) → t.memory.numbers w ≡ encoded t.lock_kind s

@@ -1,7 +1,7 @@
 -- What a party finds under one guard does not change.
 use Rattle.spin_world_core.proofs.Every.{outcome-seen_at}
 use Rattle.spin_world_core.specs.Runs.{Schedule}
-use Rattle.spin_world_core.proofs.Names.{seat_of, slice_get_within, ◌≡◌, ℕ, ◌==◌, ◌||◌, Bool, true, false, not, Option, Some, None, List, [], ◌∷◌, ◌++◌, map, slice_get, slice_set, refl, arith, ap, sym, ◌∙◌, list_all, option_map, and_parts, true≢false, slice_get-map, Plain, Change, completes, entries, is_held, Hold, Seat, Calling, Holding, Leaked, Gone, Next, Continue, Answers, Move, Step, Weak, Read, OwnerSet, StepKind, plain, weak, by_step, Mark, Machine, State, moves_at, goes_on, placed, resting, may_read, may_write, yields_to_owner, seen_by_owner, owner_writes, Seen, Scene, scene, scene_at, scene_of, if_completed, is_reader, opening, seen_after, Table}
+use Rattle.spin_world_core.proofs.Names.{seat_of, slice_get_within, ◌≡◌, ℕ, ◌==◌, ◌||◌, Bool, true, false, not, Option, Some, None, List, [], ◌∷◌, ◌++◌, map, slice_get, slice_set, refl, arith, ap, sym, ◌∙◌, list_all, option_map, and_parts, true≢false, slice_get-map, Plain, Change, completes, entries, is_held, Hold, Seat, Calling, Holding, Leaked, Gone, Next, Continue, Answers, Move, Step, Weak, Read, OwnerSet, StepKind, plain, weak, by_step, Mark, Machine, State, moves_at, goes_on, placed, resting, may_read, may_write, yields_to_owner, seen_by_owner, owner_writes, Seen, Scene, scene, scene_at, scene_of, if_completed, reads_value, opening, seen_after, Table}
 use Rattle.spin_world_core.specs.Users.{ReadsAgree, ReadsAgreeAcross, is_quiet, is_quiet_move}
 use Rattle.spin_step.specs.declared.schedule.Outcome.TheVariants as outcome
 use Rattle.spin_world_core.proofs.Lists.{eqb_self, get-set}
@@ -31,7 +31,7 @@ ReadsOn (Answers a (Some h)) = may_read h ≡ true
 -- of the call.
 pub record KeepsGuard {W V C L A B : Type 0} {t : Table W V C L A} {m : Machine W V C L B} {n : Notes t} (f : Plays m n) (keeps : C → Bool) : Type 0 where
   pub reads : (p : ℕ) (c : C) (l : L) (h : Hold) (s : Plain) (span : List Mark) → keeps c ≡ true → may_read h ≡ true → Knows n c l (Some h) p s span
-      → is_reader (entries p s) ≡ true
+      → reads_value (entries p s) ≡ true
   pub steps : (c : C) (l : L) (h : Hold) (w : W) (v : Option V) → keeps c ≡ true → may_read h ≡ true → ReadsOn (m.step w v c l (Some h)).next
   pub refuses : (c : C) (l : L) (h : Hold) (next : Next L B) → keeps c ≡ true → may_read h ≡ true → m.refuse c l (Some h) ≡ Some next → ReadsOn next
 
@@ -45,11 +45,11 @@ Guard r w _ = ⊥
 
 -- the party is a reader in the plain lock, or is gone
 abbrev ReaderOrGone : {C L : Type 0} → Plain → ℕ → Option (Seat C L) → Type 0
-ReaderOrGone s p o = elim o [ Some (Gone h) ↦ Unit {0} | _ ↦ is_reader (entries p s) ≡ true ]
+ReaderOrGone s p o = elim o [ Some (Gone h) ↦ Unit {0} | _ ↦ reads_value (entries p s) ≡ true ]
 
 module _ {V C L : Type 0} (r : GuardedRead C V) (w v : Option V) where
   -- if a party with a guard is no reader in the plain lock, the party is gone
-  no_reader : (s : Plain) (p : ℕ) (o : Option (Seat C L)) → ReaderOrGone s p o → (is_reader (entries p s) ≡ true → ⊥) → Guard r w o → Guard r v o
+  no_reader : (s : Plain) (p : ℕ) (o : Option (Seat C L)) → ReaderOrGone s p o → (reads_value (entries p s) ≡ true → ⊥) → Guard r w o → Guard r v o
   no_reader s p o reads none guard = grind (arith, none)
 
   -- a closure completes only while nobody has a guard, so a party's guard stays right

@@ -5,26 +5,26 @@ use Rattle.spin_step.specs.declared.stepped.Next.{Next}
 use Rattle.spin_step.specs.declared.table.Operation.{Operation}
 use Rattle.spin_step.specs.Operations.{performed, wrapped}
 use Rattle.spin_step.specs.Words.{WorksOn, can_at}
-use Rattle.spin_step.specs.Acts.{Memory, Table, number_at, Act, is_section, stays, step_at, step_by, can_by, next_of, operation_by}
+use Rattle.spin_step.specs.Acts.{Memory, Table, word_number, Act, is_section, stays, step_at, step_by, can_by, next_of, operation_by}
 
 module _ {W L A : Type 0} (V : Type 0) (m : Memory W) (i : ℕ) (w opening : W) where
   step_is : (act : Act W L A) (n : ℕ) → is_section act ≡ false → m.put i n w ≡ w
       → step_at {V = V} m i n act w ≡ stays (m.put i (performed (operation_by act) n) w) (step_at {V = Unit {0}} m 0 n act opening).next
   step_is act n one kept = grind (arith, kept)
 
-can_is : {W L A : Type 0} (m : Memory W) (i : ℕ) (act : Act W L A) (w : W) → is_section act ≡ false → can_by m i act w ≡ true → can_at act (number_at m i w) ≡ true
+can_is : {W L A : Type 0} (m : Memory W) (i : ℕ) (act : Act W L A) (w : W) → is_section act ≡ false → can_by m i act w ≡ true → can_at act (word_number m i w) ≡ true
 can_is m i act w one can-it = grind arith
 
 same : (o : Operation) (limit n : ℕ) → limit ≤ 2 ^ 64 → performed o n < limit → performed (wrapped o) n ≡ performed o n
 same o limit n fits small = grind (arith, fits, small)
 
 module _ {W T C L A : Type 0} (V : Type 0) (m : Memory W) (places limit : ℕ) (t : Table W T C L A) (c : C) (l : L) (h : Option Hold) (w : W) (works : WorksOn m places limit t c l h) (can : can_by t.memory (t.word l) (t.act c l h) w ≡ true)
-    (i n : ℕ) (at : i ≡ t.word l) (found : i < places → (n ≡ number_at m i w) × (m.put i n w ≡ w)) (small : (n < limit) × (limit ≤ 2 ^ 64)) (o : Operation) (is : o ≡ wrapped (operation_by (t.act c l h)))
+    (i n : ℕ) (at : i ≡ t.word l) (found : i < places → (n ≡ word_number m i w) × (m.put i n w ≡ w)) (small : (n < limit) × (limit ≤ 2 ^ 64)) (o : Operation) (is : o ≡ wrapped (operation_by (t.act c l h)))
     (next : Next L A) (goes : next ≡ next_of t c l h n) where
   there : i < places
   there = subst (λ k. k < places) (sym at) works.there
 
-  n_is : n ≡ number_at m i w
+  n_is : n ≡ word_number m i w
   n_is = (found there).0
 
   stays_below : performed (operation_by (t.act c l h)) n < limit

@@ -1,5 +1,5 @@
 -- The steps of a table as operations on one word, and what follows from the constructor (`Act`) of a step alone.
-use Rattle.spin_world_core.proofs.Names.{AnyOf, own_steps, list_all, Said, ◌≡◌, ℕ, Bool, true, false, not, ◌&&◌, ◌||◌, Option, Some, None, is_some, slice_set, unwrap_or, refl, ap, subst, arith, and_parts, Change, Hold, Answer, Next, LockKind, is_step_of, Asked, performed, Performs, IsOneOperation, RefusesAsLost, Stepwise, one_number, number_at, Act, weak_exchange, place_of, change_at, refusal_by, makes_by, operation_by, is_section, step_by, Table, machine_of, machine_with}
+use Rattle.spin_world_core.proofs.Names.{AnyOf, own_steps, list_all, Said, ◌≡◌, ℕ, Bool, true, false, not, ◌&&◌, ◌||◌, Option, Some, None, is_some, slice_set, unwrap_or, refl, ap, subst, arith, and_parts, Change, Hold, Answer, Next, LockKind, is_step_of, Asked, performed, Performs, IsOneOperation, RefusesAsLost, Stepwise, one_number, word_number, Act, weak_exchange, place_of, change_at, refusal_by, makes_by, operation_by, is_section, step_by, Table, machine_of, machine_with}
 
 -- What has to be shown
 
@@ -26,7 +26,7 @@ fits_act kind what act p =
 abbrev pub Operates : {W V C L A : Type 0} → Table W V C L A → Type 0
 Operates {W} {V} {C} {L} t =
     (c : C) (l : L) (h : Option Hold) (w : W) → is_section (t.act c l h) ≡ false
-    → (let i = place_of (t.word l) (t.act c l h) in t.memory.numbers (step_by {V = V} t.memory (t.word l) (t.act c l h) w).words ≡ slice_set (t.memory.numbers w) i (performed (operation_by (t.act c l h)) (number_at t.memory i w)))
+    → (let i = place_of (t.word l) (t.act c l h) in t.memory.numbers (step_by {V = V} t.memory (t.word l) (t.act c l h) w).words ≡ slice_set (t.memory.numbers w) i (performed (operation_by (t.act c l h)) (word_number t.memory i w)))
 
 -- a table whose memory is one number fulfils `Operates`
 pub operates_one : {V C L A : Type 0} (t : Table ℕ V C L A) → t.memory ≡ one_number → Operates t
@@ -63,7 +63,7 @@ module _ {W V C L A : Type 0} (t : Table W V C L A) (fit : (p : ℕ) (c : C) (l 
     begins = grind arith;
     fits = own;
     refuses = λ c l h next is. lost_of c l h (t.act c l h) next refl is;
-    weak = λ p c l h w d is. (fits_change p c l h (number_at t.memory (place_of (t.word l) (t.act c l h)) w) w d is).1;
+    weak = λ p c l h w d is. (fits_change p c l h (word_number t.memory (place_of (t.word l) (t.act c l h)) w) w d is).1;
     operates = λ c l h. grind (arith, performs_of c l h, fit 0 c l h);
     looks = grind arith;
   }

@@ -4,7 +4,7 @@ use Rattle.std.proofs.Common.{◌≡◌, ℕ, ◌+◌, ◌<◌, true, false, Lis
 use Rattle.spin_step.specs.StepKinds.{is_weak}
 use Rattle.spin_step.specs.Calls.{LockKind, Asked, Mark}
 use Rattle.spin_world_core.specs.Spans.{own_count}
-use Rattle.spin_world_core.specs.Undisturbed.{is_open_now, Leaves, AllOf, UndisturbedTakes}
+use Rattle.spin_world_core.specs.Undisturbed.{is_open_now, LeavesAlone, AllOf, UndisturbedTakes}
 use Rattle.spin_step.specs.Operations.{performed}
 use Rattle.spin_step.specs.declared.table.Operation.{Operation}
 
@@ -13,7 +13,7 @@ pub record IsOwn (p : ℕ) (m : Mark) : Type 0 where
   pub party : m.party ≡ p
   pub strong : is_weak m.step_kind ≡ false
 
-owns : (kind : LockKind) (p : ℕ) (ms : List Mark) → AllOf (IsOwn p) ms → AllOf (Leaves kind p) ms
+owns : (kind : LockKind) (p : ℕ) (ms : List Mark) → AllOf (IsOwn p) ms → AllOf (LeavesAlone kind p) ms
 owns kind p [] are = tt
 owns kind p (m ∷ ms) are = grind (arith, owns kind p ms are.1)
 

@@ -1,5 +1,5 @@
 -- What holds at a step of a party, by what the object shows of its table (`Pays`).
-use Rattle.spin_world_core.proofs.Names.{◌≤◌, if◌then◌else◌, LockKind, ◌≡◌, ℕ, zero, suc, Bool, true, false, is_some, Option, Some, None, List, [], ◌∷◌, ◌++◌, option_to_list, ap, sym, ◌∙◌, subst, arith, and_parts, false≢true, Plain, Ask, Change, gets, is_open, is_open_to, apply_some, IsOpenStep, entries, Hold, Next, Continue, Answers, Stepped, Move, Step, Weak, StepKind, weak, is_again, by_step, Asked, place_of, encoded, is_step_of, BelongsTo, Said, own_steps, AnyOf, Mark, first_word, steps_alone, way_of, is_due_by, LooksElse, Gets, mark_of, Machine, entries_held, own, failures, changes, IsBeginning, RightBy, number_at, Act, load_for, retry, either, stays, step_by, change_by, can_by, refusal_by, makes_by, step_kind_by, Table, begin_of, HasPhase, tries_of, goes_of, limit}
+use Rattle.spin_world_core.proofs.Names.{◌≤◌, if◌then◌else◌, LockKind, ◌≡◌, ℕ, zero, suc, Bool, true, false, is_some, Option, Some, None, List, [], ◌∷◌, ◌++◌, option_to_list, ap, sym, ◌∙◌, subst, arith, and_parts, false≢true, Plain, Ask, Change, gets, is_open, is_open_to, apply_some, IsOpenStep, entries, Hold, Next, Continue, Answers, Stepped, Move, Step, Weak, StepKind, weak, is_again, by_step, Asked, place_of, encoded, is_step_of, BelongsTo, Said, own_steps, AnyOf, Mark, first_word, steps_alone, way_of, is_due_by, LooksElse, GetsByWay, mark_of, Machine, entries_held, own, failures, changes, IsBeginning, RightBy, word_number, Act, load_for, retry, either, stays, step_by, change_by, can_by, refusal_by, makes_by, step_kind_by, Table, begin_of, HasPhase, tries_of, goes_of, limit}
 use Rattle.spin_world_core.proofs.Steps.{Makes, told, played, GoesOnOpen, Continues, Moves, NextIs, AnswersWithin, AtStep, Plays}
 use Rattle.spin_world_core.proofs.Operating.{change_is, fits_made}
 use Rattle.spin_world_core.proofs.Stands.{stand_of, held_at, stand-mine}
@@ -12,7 +12,7 @@ aims_try tries due act made ask p is none aims = grind arith
 -- If a try is due and what it asks is open, the call gets it by this step. If no try is due, the step is a look.
 gets_by : {W L A : Type 0} (kind : LockKind) (what : Asked) (act : Act W L A) (p : ℕ) (s : Plain) (span : List Mark) (step : Option Change) (made : List Change)
     → own p span ≡ made → Needs (need_of kind what made act) p span → Aimed (tries_of what) (goes_of what made) act made p
-    → ((e : Change) → sure_by act p ≡ Some e → is_open s e ≡ true → step ≡ Some e) → Gets kind p what span s step (by_step (step_kind_by what act))
+    → ((e : Change) → sure_by act p ≡ Some e → is_open s e ≡ true → step ≡ Some e) → GetsByWay kind p what span s step (by_step (step_kind_by what act))
 gets_by kind what act p s span step made is needs aims got = λ ask aim.
     subst (λ cs. let way = way_of kind what cs in (is_due_by way p span ≡ true → is_open_to s p ask ≡ true → step ≡ Some (gets p ask)) × LooksElse way p span (by_step (step_kind_by what act)))
     (sym is) (grind (arith, got (gets p ask), subst (λ cs. goes_of what cs ≡ Some ask) is aim))
@@ -51,7 +51,7 @@ module _ {W V C L A : Type 0} {t : Table W V C L A} (n : Notes t) (p : ℕ) (wha
     change = change_by t.memory i act p w
 
     abbrev found : Branch
-    found = found_by (number_at t.memory (place_of i act) w) act p
+    found = found_by (word_number t.memory (place_of i act) w) act p
 
     abbrev moved : Stepped W V L A
     moved = step_by t.memory i act w
@@ -75,7 +75,7 @@ module _ {W V C L A : Type 0} {t : Table W V C L A} (n : Notes t) (p : ℕ) (wha
     formed : OwesBy n p what s w made Comes i act → ((d : Change) → makes_by act p ≡ Some d → is_step_of t.lock_kind d ≡ true) → Expects t.lock_kind act p s span
         → t.memory.numbers w ≡ encoded t.lock_kind s → n.Shape s → Formed
     formed owes own expects encodes shape =
-        let first : number_at t.memory 0 w ≡ first_word t.lock_kind s = grind arith in record {
+        let first : word_number t.memory 0 w ≡ first_word t.lock_kind s = grind arith in record {
           can = grind arith;
           step = record { makes = grind (arith, own, expects, first); branched = grind arith; comes = grind arith };
           gets = grind arith;

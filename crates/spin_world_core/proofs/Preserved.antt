@@ -1,5 +1,5 @@
 -- One event keeps all that is promised, for any machine that plays a table (`Plays`).
-use Rattle.spin_world_core.proofs.Names.{true, and_parts, slice_get-map, OwnerSet, is_owners, let_go, owner_writes, IsOwners, seat_of, slice_get_within, ◌≡◌, ℕ, ◌≤◌, ◌==◌, Bool, false, Option, Some, None, List, [], ◌∷◌, suc, if◌then◌else◌, slice_get, slice_set, refl, sym, ◌∙◌, subst, arith, ne_eqb, Plain, Ask, Change, apply_some, IsOpenStep, Entries, entries, IsExclusive, entries-other, entries-own, Hold, Seat, Calling, Next, Continue, Answers, Move, Step, Weak, StepKind, is_weak, by_step, encoded, BelongsTo, Mark, Machine, seated, goes_on, placed, resting, may_write, Seen, Scene, scene_at, scene_of, mark_of, own, failures, changes, if_completed, entries_held, StandsFor, is_writer, Keeps, IsRight, IsInTime, UndisturbedTakes, AnsweredSoon, Gets, GetsWhenDue, TriesOn, tries_of, Table, HasPhase}
+use Rattle.spin_world_core.proofs.Names.{true, and_parts, slice_get-map, OwnerSet, is_owners, let_go, owner_writes, IsOwners, seat_of, slice_get_within, ◌≡◌, ℕ, ◌≤◌, ◌==◌, Bool, false, Option, Some, None, List, [], ◌∷◌, suc, if◌then◌else◌, slice_get, slice_set, refl, sym, ◌∙◌, subst, arith, ne_eqb, Plain, Ask, Change, apply_some, IsOpenStep, Entries, entries, IsExclusive, entries-other, entries-own, Hold, Seat, Calling, Next, Continue, Answers, Move, Step, Weak, StepKind, is_weak, by_step, encoded, BelongsTo, Mark, Machine, seated, goes_on, placed, resting, may_write, Seen, Scene, scene_at, scene_of, mark_of, own, failures, changes, if_completed, entries_held, StandsFor, writes_value, KeepsPromises, IsRight, IsInTime, UndisturbedTakes, AnsweredSoon, GetsByWay, GetsWhenDue, TriesOn, tries_of, Table, HasPhase}
 use Rattle.spin_world_core.specs.Runs.{held_at, InItsCall, InTime, IsCounted, IsWeakCall, OwnSteps, asked, entries_so_far}
 use Rattle.spin_step.proofs.Exclusive.{exclusive-kept}
 use Rattle.spin_step.specs.declared.schedule.Outcome.TheVariants as outcome
@@ -50,7 +50,7 @@ module _ {W V C L A B : Type 0} {t : Table W V C L A} {by : Machine W V C L B} {
 
   -- a party that may write by what it holds or has leaked is a writer in the plain lock
   pub writes_by : {seen : Seen W V C L} (p : ℕ) (b : Bool) (h : Hold) → Invariant seen
-      → seat_of seen p ≡ Some (seat_with b h) → may_write h ≡ true → is_writer (entries p seen.plain) ≡ true
+      → seat_of seen p ≡ Some (seat_with b h) → may_write h ≡ true → writes_value (entries p seen.plain) ≡ true
   writes_by p b h good there may = grind (arith, standing p good there)
 
   pub in_call : {seen : Seen W V C L} (p : ℕ) {c : C} {l : L} {h : Option Hold} → Invariant seen → seat_of seen p ≡ Some (Calling c l h)
@@ -59,7 +59,7 @@ module _ {W V C L A B : Type 0} {t : Table W V C L A} {by : Machine W V C L B} {
 
   -- what is shown of an event
   pub record Preserved (s : Scene W V C L B) : Type 0 where
-    pub keeps : Keeps m s
+    pub keeps : KeepsPromises m s
     pub right : IsRight m s
     pub in_time : IsInTime m s
     pub good : Invariant s.after
@@ -166,7 +166,7 @@ module _ {W V C L A B : Type 0} {t : Table W V C L A} {by : Machine W V C L B} {
       step_rules : (step : Option Change) (r : StepKind) (stored : Option V) (w : W) (v : Option V) (next : Next L B)
           → Makes n p seen.plain (seen.span p) step r w → v ≡ if_completed seen.state.value stored step
           → ContinuesCounted (λ u. m.change p u c l h) seen.plain (told by.says next) step r
-          → Gets t.lock_kind p (t.asks c h) (seen.span p) seen.plain step r
+          → GetsByWay t.lock_kind p (t.asks c h) (seen.span p) seen.plain step r
           → ((ask : Ask) → tries_of (t.asks c h) ≡ Some ask → own p (seen.span p) ≡ [] → GoesOnOpen ask p (seen.span p) seen.plain (told by.says next) step)
           → StepRules (event Step step r stored w v next)
       step_rules None r stored w v (Continue k) makes is counted due may = grind arith

@@ -1,5 +1,5 @@
 -- What a party in a call knows of its entries and of its span, and how each step of any party keeps this knowledge.
-use Rattle.spin_world_core.proofs.Names.{get_or, ◌≡◌, ℕ, suc, ◌+◌, ◌≤◌, ◌⊎◌, ◌==◌, Bool, true, false, not, ◌&&◌, ◌||◌, is_some, Option, Some, None, List, [], ◌∷◌, ◌++◌, option_to_list, nat_lt, if◌then◌else◌, refl, arith, inr, ⊎_elim, Plain, Ask, Change, gets, is_open, apply_some, IsOpenStep, entries, is_held, bit, entries-other, Hold, StepKind, is_again, is_look, LockKind, Asked, Said, Mark, AnyOf, first_word, Limit, registers_after, mark_of, own, own_count, failures, changes, EndsWithin, ContinuesWithin, is_due, Way, by_looks, past_looks, way_of, MayTryOn, Act, makes_by, load, load_if, load_for, attempt, retry, ap, list_any, goes_of}
+use Rattle.spin_world_core.proofs.Names.{get_or, ◌≡◌, ℕ, suc, ◌+◌, ◌≤◌, ◌⊎◌, ◌==◌, Bool, true, false, not, ◌&&◌, ◌||◌, is_some, Option, Some, None, List, [], ◌∷◌, ◌++◌, option_to_list, nat_lt, if◌then◌else◌, refl, arith, inr, ⊎_elim, Plain, Ask, Change, gets, is_open, apply_some, IsOpenStep, entries, is_held, bit, entries-other, Hold, StepKind, is_again, is_look, LockKind, Asked, Said, Mark, AnyOf, first_word, Limit, registers_after, mark_of, own, own_count, failures, changes, EndsWithin, ContinuesWithin, is_due, TryingWay, by_looks, past_looks, way_of, MayTryOn, Act, makes_by, load, load_if, load_for, attempt, retry, ap, list_any, goes_of}
 use Rattle.spin_world_core.proofs.Lists.{eqb_self}
 use Rattle.spin_world_core.proofs.Stands.{Stand, entries_at, stand_of}
 use Rattle.spin_world_core.proofs.Names.{ne_eqb, append-nil}
@@ -192,7 +192,7 @@ abbrev pub peeks : {W L A : Type 0} → Act W L A → Bool
 peeks act = elim act [ load_if test a b ↦ true | _ ↦ false ]
 
 -- the need of a point, by whether its next step is sure to make its plain step (`sure_by`), and whether it is a look
-abbrev pub need : Option Ask → Way → Bool → Bool → Need
+abbrev pub need : Option Ask → TryingWay → Bool → Bool → Need
 need None way sure peeking = free
 need (Some ask) by_looks true peeking = due true
 need (Some ask) by_looks false true = due false

@@ -1,5 +1,5 @@
 -- What an object has to show of its table, point by point. All promises of its machine then follow.
-use Rattle.spin_world_core.proofs.Names.{own_steps, tries_of, goes_of, ◌≡◌, ℕ, zero, suc, ◌≤◌, Bool, true, false, ◌||◌, ◌==◌, is_some, Option, Some, None, List, [], ◌∷◌, ◌++◌, option_to_list, Plain, Ask, Change, gets, apply, is_open, is_empty, apply_some, IsOpenStep, IsExclusive, Hold, Next, Continue, Answers, StepKind, plain, again, weak, by_step, Asked, encoded, BelongsTo, Mark, AnyOf, Limit, registers_after, arrived, steps_alone, opening_plain, mark_of, failures, changes, number_at, Act, load, load_if, load_for, enter, exchange, weak_exchange, attempt, retry, store, section, swap, tried, guessed, passing, place_of, step_by, makes_by, look_kind, Table, begin_of, machine_of, performed, limit}
+use Rattle.spin_world_core.proofs.Names.{own_steps, tries_of, goes_of, ◌≡◌, ℕ, zero, suc, ◌≤◌, Bool, true, false, ◌||◌, ◌==◌, is_some, Option, Some, None, List, [], ◌∷◌, ◌++◌, option_to_list, Plain, Ask, Change, gets, apply, is_open, is_empty, apply_some, IsOpenStep, IsExclusive, Hold, Next, Continue, Answers, StepKind, plain, again, weak, by_step, Asked, encoded, BelongsTo, Mark, AnyOf, Limit, registers_after, arrivals_after, steps_alone, opening_plain, mark_of, failures, changes, word_number, Act, load, load_if, load_for, enter, exchange, weak_exchange, attempt, retry, store, section, swap, tried, guessed, passing, place_of, step_by, makes_by, look_kind, Table, begin_of, machine_of, performed, limit}
 use Rattle.spin_world_core.proofs.Operating.{fits_act, CallsFit, OwnFits, Operates}
 use Rattle.spin_world_core.proofs.Stands.{stand_of, stand_after}
 use Rattle.spin_world_core.proofs.Rows.{sure_by, Branch, goes, finds_open, loses, misses, MaySpend, MayContinue, OwesRight, OwesEnd, Row, Point, row_at, IsSound, RetryOwes, need_of, FoundBy, NoRetry, BeginsBy, Known}
@@ -104,7 +104,7 @@ module _ {W V C L A : Type 0} {t : Table W V C L A} (n : Notes t) where
     OwesOn i n (section can f step won lost) = (can w ≡ true) × Tries (λ u. u) (f w) (step p) plain (won w) (lost w)
 
     abbrev pub OwesBy : ℕ → Act W L A → Type 0
-    OwesBy i act = OwesOn (place_of i act) (number_at t.memory (place_of i act) w) act
+    OwesBy i act = OwesOn (place_of i act) (word_number t.memory (place_of i act) w) act
 
   module _ (p : ℕ) (c : C) (h : Option Hold) (s : Plain) (w : W) (span : List Mark) (row : Row) where
     -- The call continues correctly: the step turns this row into the row `to` of the next point.
@@ -113,7 +113,7 @@ module _ {W V C L A : Type 0} {t : Table W V C L A} (n : Notes t) where
       pub made : row.made p ++ option_to_list step ≡ to.made p
       pub spends : MaySpend (limit t.lock_kind (t.asks c h)) branch (to.made p) row.spent to.spent p t.lock_kind (mark_of p step r s ∷ span)
       pub goes_on : MayContinue (tries_of (t.asks c h)) branch step p s span
-      pub finds : FoundBy (need_of t.lock_kind (t.asks c h) (to.made p) (t.act c l h)) (RetryOwes (t.act c l h) (number_at t.memory 0 w) step) step r s
+      pub finds : FoundBy (need_of t.lock_kind (t.asks c h) (to.made p) (t.act c l h)) (RetryOwes (t.act c l h) (word_number t.memory 0 w) step) step r s
       pub knows : n.Knows c l h p (apply_some s step) (mark_of p step r s ∷ span)
 
     -- The call is answered correctly.
@@ -142,7 +142,7 @@ module _ {W V C L A : Type 0} {t : Table W V C L A} (n : Notes t) where
   abbrev pub SoonRow : ℕ → C → L → Option Hold → Plain → W → List Mark → Option Row → Type 0
   SoonRow p c l h s w span None = Unit {0}
   SoonRow p c l h s w span (Some row) = let what = t.asks c h in what.waits ≡ true → AtPoint p c l h s w span (Some row)
-      → what.is_open_next (is_empty (row.made p)) (arrived p span) p s ≡ true → answers_by t (steps_alone what) w c l h ≡ true
+      → what.is_open_next (is_empty (row.made p)) (arrivals_after p span) p s ≡ true → answers_by t (steps_alone what) w c l h ≡ true
 
   -- what has to be shown of the row at which a call begins
   abbrev pub BeginsRow : C → L → Option Hold → ℕ → Plain → Option Row → Type 0

@@ -1,5 +1,5 @@
 -- What holds when a party in a call is about to step, and what its step then leads to. Also what has to be shown of a machine that plays a table.
-use Rattle.spin_world_core.proofs.Names.{◌≡◌, ℕ, zero, suc, ◌<◌, true, false, Option, Some, None, List, [], ◌∷◌, Plain, Ask, Change, completes, is_open, apply_some, IsOpenStep, entries, is_held, Hold, Seat, Calling, Next, Continue, Answers, Stepped, Move, Step, Weak, StepKind, is_again, by_step, encoded, BelongsTo, Said, own_steps, Mark, AnyOf, Gets, MayTryOn, is_open_now, steps_alone, Machine, placed, HasPhase, Gives, mark_of, if_completed, entries_held, is_writer, own, failures, changes, IsBeginning, RightBy, EndsWithin, ContinuesWithin, tries_of, limit, Stepwise, Table, machine_by, step_by, change_by, refusal_by, step_kind_by, LockKind, Asked}
+use Rattle.spin_world_core.proofs.Names.{◌≡◌, ℕ, zero, suc, ◌<◌, true, false, Option, Some, None, List, [], ◌∷◌, Plain, Ask, Change, completes, is_open, apply_some, IsOpenStep, entries, is_held, Hold, Seat, Calling, Next, Continue, Answers, Stepped, Move, Step, Weak, StepKind, is_again, by_step, encoded, BelongsTo, Said, own_steps, Mark, AnyOf, GetsByWay, MayTryOn, is_open_now, steps_alone, Machine, placed, HasPhase, GivesIfSaid, mark_of, if_completed, entries_held, writes_value, own, failures, changes, IsBeginning, RightBy, EndsWithin, ContinuesWithin, tries_of, limit, Stepwise, Table, machine_by, step_by, change_by, refusal_by, step_kind_by, LockKind, Asked}
 use Rattle.spin_step.specs.StepKinds as step_kind
 use Rattle.spin_world_core.proofs.Shapes.{Notes, is_answer, Knows, KnowsRow, row_of, Pays}
 use Rattle.spin_world_core.proofs.Rows.{Row}
@@ -70,7 +70,7 @@ module _ {W V C L B : Type 0} (m : Machine W V C L B) where
   -- what is promised of the value that an answer gives, if `value` is the present value
   abbrev pub NextGives : Option V → Next L B → Type 0
   NextGives value (Continue l) = Unit {0}
-  NextGives value (Answers b after) = Gives m.lock_kind.makes_value (m.says b) (m.gives b) value
+  NextGives value (Answers b after) = GivesIfSaid m.lock_kind.makes_value (m.says b) (m.gives b) value
 
 module _ {W V C L A B : Type 0} {t : Table W V C L A} (m : Machine W V C L B) (n : Notes t) where
   module _ (p : ℕ) (c : C) (l : L) (h : Option Hold) (s : Plain) (v : Option V) (w : W) where
@@ -99,7 +99,7 @@ module _ {W V C L A B : Type 0} {t : Table W V C L A} (m : Machine W V C L B) (n
       pub steps : Moves n Step p c h s span made kind stepped.words (told m.says stepped.next)
       pub counted : ContinuesCounted (λ u. (played t m).change p u c l h) s (told m.says stepped.next) made kind
       -- a call whose next step is due gets what it tries for, if that is open
-      pub due : Gets t.lock_kind p (t.asks c h) span s made kind
+      pub due : GetsByWay t.lock_kind p (t.asks c h) span s made kind
       -- a try continues only as `MayTryOn` allows
       pub tries_on : (ask : Ask) → tries_of (t.asks c h) ≡ Some ask → own p span ≡ [] → GoesOnOpen ask p span s (told m.says stepped.next) made
       -- if what a waiting call asks is open, the call is answered within `steps_alone` steps if no other party steps in between
@@ -122,4 +122,4 @@ module _ {W V C L A B : Type 0} {t : Table W V C L A} (m : Machine W V C L B) (n
     pub values : (p : ℕ) (c : C) (l : L) (h : Option Hold) (s : Plain) (v : Option V) (w : W) → t.memory.numbers w ≡ encoded t.lock_kind s → n.Shape s
         → HasPhase t.lock_kind.makes_value s.phase v → IsOpenStep s p (change_by t.memory (t.word l) (t.act c l h) p w) → Values p c l h s v w
     -- `HasPhase` stays true when a holder writes
-    pub written : (s : Plain) (p : ℕ) (v : V) → n.Shape s → is_writer (entries p s) ≡ true → HasPhase t.lock_kind.makes_value s.phase (Some v)
+    pub written : (s : Plain) (p : ℕ) (v : V) → n.Shape s → writes_value (entries p s) ≡ true → HasPhase t.lock_kind.makes_value s.phase (Some v)

@@ -2,10 +2,10 @@
 use Rattle.spin_world_core.proofs.Every.{left_after, state-seen_at}
 use Rattle.spin_world_core.specs.Users.{seen_at}
 use Rattle.spin_world_core.specs.Runs.{Schedule}
-use Rattle.spin_world_core.proofs.Names.{cases_eq, moves_at, seat_of, ne_eqb, ◌≡◌, ℕ, ◌==◌, Option, Some, List, [], ◌∷◌, ◌++◌, length, slice_get, if◌then◌else◌, refl, ap, ◌∙◌, arith, option_map, length-replicate, slice_get-map, slice_get_within, slice_get_cases, Seat, Idle, Calling, Leaked, Gone, Move, Event, Machine, opening_plain, State, happens, seen_by_owner, events_of, with_begins, Seen, Scene, scene, Keeps, KeepsAll, StandsFor, opening, seen_after, scenes, EachTells, TellsAfterAnyPast}
+use Rattle.spin_world_core.proofs.Names.{cases_eq, moves_at, seat_of, ne_eqb, ◌≡◌, ℕ, ◌==◌, Option, Some, List, [], ◌∷◌, ◌++◌, length, slice_get, if◌then◌else◌, refl, ap, ◌∙◌, arith, option_map, length-replicate, slice_get-map, slice_get_within, slice_get_cases, Seat, Idle, Calling, Leaked, Gone, Move, Event, Machine, opening_plain, State, happens, seen_by_owner, events_of, with_begins, Seen, Scene, scene, KeepsPromises, KeepsAll, StandsFor, opening, seen_after, scenes, EachTells, TellsAfterAnyPast}
 use Rattle.spin_step.specs.declared.place.Place.{Place}
 use Rattle.spin_step.specs.Schedules.{place_of}
-use Rattle.spin_world_core.specs.Transcripts.{has_leaked, PlaceSays, SaysAfterAnyPast, Stage, at_rest, in_call, is_gone, stage_after, stage_by_own, stage_by_owner}
+use Rattle.spin_world_core.specs.Transcripts.{has_leaked, PlaceSays, SaysAfterAnyPast, Stage, at_rest, in_call, is_gone, stage_at, stage_by_own, stage_by_owner}
 use Rattle.spin_world_core.proofs.Lists.{eqb_self, get-set_other, get-replicate}
 use Rattle.spin_step.proofs.Lists.{get-set_within}
 use Rattle.spin_world_core.proofs.Schedules.{length-happens}
@@ -46,7 +46,7 @@ module _ {W V C L A : Type 0} (m : Machine W V C L A) where
         grind (arith, cases_eq q p, eqb_self p, ne_eqb q p, get-set_within seats p, slice_get_within seats p, get-set_other seats q p, map)
 
   stage-seen_after : (seen : Seen W V C L) (p : ℕ) (es : Schedule C V)
-      → stage_of (seat_of (seen_after m seen es) p) ≡ stage_after p (stage_of (seat_of seen p)) (scenes m seen es)
+      → stage_of (seat_of (seen_after m seen es) p) ≡ stage_at p (stage_of (seat_of seen p)) (scenes m seen es)
   stage-seen_after seen p [] = refl
   stage-seen_after seen p (e ∷ es) = grind (arith, stage-seen_after (scene m seen e.0 e.1).after p es, brought)
 
@@ -58,11 +58,11 @@ module _ {W V C L A : Type 0} (m : Machine W V C L A) where
       → told ≡ option_map place_of (slice_get s.seats p) → SaysAfterAnyPast m s p told
   says_after s p keeps told is = λ n past reached.
       let seen = seen_at m n past in
-      let stage = stage-seen_after (opening m n) p past ∙ ap (λ st. stage_after p st (scenes m (opening m n) past))
+      let stage = stage-seen_after (opening m n) p past ∙ ap (λ st. stage_at p st (scenes m (opening m n) past))
       (get-replicate (λ (o : Option (Seat C L)). stage_of o ≡ at_rest) Idle n p refl refl) in
       let count = length-seen_after (opening m n) past ∙ length-replicate n Idle in
       let first = λ (q : ℕ). get-replicate (StandsFor {C = C} {L = L} (opening_plain m) q []) Idle n q refl refl in
-      let stands = left_after m (λ t. (q : ℕ) → StandsFor t.plain q (t.span q) (seat_of t q)) (Keeps m)
+      let stands = left_after m (λ t. (q : ℕ) → StandsFor t.plain q (t.span q) (seat_of t q)) (KeepsPromises m)
       (λ s kept. kept.places) (opening m n) past (keeps n past).each first p in
       let says : PlaceSays (stage_of (seat_of seen p)) n seen.plain p (seen.span p)
       (option_map place_of (seat_of seen p)) = grind (arith, count, slice_get_cases seen.state.seats p, stands) in

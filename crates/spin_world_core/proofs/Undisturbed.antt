@@ -1,12 +1,12 @@
 -- An undisturbed call is answered within as many own steps as it promises.
-use Rattle.spin_world_core.proofs.Names.{◌≡◌, ℕ, zero, suc, ◌+◌, ◌≤◌, true, false, Option, Some, List, [], ◌∷◌, refl, arith, Plain, Change, apply_some, Hold, Seat, Calling, Next, Continue, Answers, State, goes_on, AnsweredSoon, StepKind, is_weak, encoded, LockKind, Asked, Mark, Machine, mark_of, is_open_now, Leaves, UndisturbedTakes, steps_alone, if◌then◌else◌, ◌==◌}
+use Rattle.spin_world_core.proofs.Names.{◌≡◌, ℕ, zero, suc, ◌+◌, ◌≤◌, true, false, Option, Some, List, [], ◌∷◌, refl, arith, Plain, Change, apply_some, Hold, Seat, Calling, Next, Continue, Answers, State, goes_on, AnsweredSoon, StepKind, is_weak, encoded, LockKind, Asked, Mark, Machine, mark_of, is_open_now, LeavesAlone, UndisturbedTakes, steps_alone, if◌then◌else◌, ◌==◌}
 use Rattle.spin_world_core.proofs.Steps.{AnswersWithin}
 use Rattle.spin_world_core.proofs.Lists.{eqb_self}
 
 -- The span gets one more mark, m. A stretch is the part of the span since some mark. If m is the party's own, each
 -- stretch that began before m gets one more own step. A new stretch begins with m.
 module _ (kind : LockKind) (p : ℕ) (what : Asked) (m : Mark) (span : List Mark) (P Q : ℕ → Type 0) (begins : is_open_now p what span m.before ≡ true → P 0)
-    (step : (n : ℕ) → Leaves kind p m → P n → Q (n + (if m.party == p then 1 else 0))) where
+    (step : (n : ℕ) → LeavesAlone kind p m → P n → Q (n + (if m.party == p then 1 else 0))) where
   takes_on : UndisturbedTakes P kind p what span → UndisturbedTakes Q kind p what (m ∷ span)
   takes_on runs [] first older is may leaves = grind arith
   takes_on runs (mark ∷ recent) first older is may leaves = grind arith

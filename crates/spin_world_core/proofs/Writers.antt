@@ -5,7 +5,7 @@ use Rattle.spin_step.specs.Plain.{Plain, writing, Holder, Ticket, same_kind, cou
 use Rattle.spin_step.specs.Parties.{entries, IsExclusive, none_entered, first_alone_entered}
 use Rattle.std.proofs.lemmas.List.Sums.{sum_by-cons}
 use Rattle.spin_step.proofs.Sums.{one_of}
-use Rattle.spin_world_core.specs.Runs.{is_reader, is_writer}
+use Rattle.spin_world_core.specs.Runs.{reads_value, writes_value}
 
 writer_counts : (q : ℕ) (hs : List Holder) → list_any (λ h. same_kind writing h.kind) (filter (λ h. h.party == q) hs) ≡ true → 0 < count_kind writing hs
 writer_counts q [] any = absurd cc
@@ -22,7 +22,7 @@ none_any q (t ∷ ts) none = grind (arith, none_any q ts)
 entered_party : (p q : ℕ) (ts : List Ticket) → first_alone_entered ts ≡ true → list_any (λ t. t.entered) (filter (λ t. t.party == p) ts) ≡ true → list_any (λ t. t.entered) (filter (λ t. t.party == q) ts) ≡ true → q ≡ p
 entered_party p q ts alone here there = grind (arith, none_any p, none_any q)
 
-pub one_toucher : (s : Plain) (p q : ℕ) → IsExclusive s → (is_empty s.holders || is_empty s.tickets) ≡ true → is_reader (entries p s) ≡ true
-    → is_writer (entries q s) ≡ true → q ≡ p
+pub one_toucher : (s : Plain) (p q : ℕ) → IsExclusive s → (is_empty s.holders || is_empty s.tickets) ≡ true → reads_value (entries p s) ≡ true
+    → writes_value (entries q s) ≡ true → q ≡ p
 one_toucher s p q alone lists reads writes =
     grind (arith, alone.writer, alone.one_entered, writer_counts q s.holders, one_party p q s.holders, entered_party p q s.tickets)

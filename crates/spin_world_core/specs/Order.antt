@@ -24,29 +24,29 @@ is_due p [] = true
 is_due p (m ∷ ms) = if m.party == p then is_some m.change || (is_look m.step_kind && not (is_held m.before)) else is_due p ms
 
 -- by which of its steps a waiting call tries, if it began without a look
-pub data Way : Type 0 where
-  always : Way  -- it tries by each step
-  by_looks : Way  -- it tries by each step that is due, and looks by each other step
-  past_looks : Way  -- it tries by each step that is due; by another step it may register as a starver
+pub data TryingWay : Type 0 where
+  always : TryingWay  -- it tries by each step
+  by_looks : TryingWay  -- it tries by each step that is due, and looks by each other step
+  past_looks : TryingWay  -- it tries by each step that is due; by another step it may register as a starver
 
-abbrev pub way_of : LockKind → Asked → List Change → Way
+abbrev pub way_of : LockKind → Asked → List Change → TryingWay
 way_of kind what made =
     if kind.spins_on_exchange then always else if what.may_register made then past_looks else by_looks
 
-abbrev pub is_due_by : Way → ℕ → List Mark → Bool
+abbrev pub is_due_by : TryingWay → ℕ → List Mark → Bool
 is_due_by way p span = elim way [ always ↦ true | _ ↦ is_due p span ]
 
-abbrev pub LooksElse : Way → ℕ → List Mark → StepKind → Type 0
+abbrev pub LooksElse : TryingWay → ℕ → List Mark → StepKind → Type 0
 LooksElse way p span r = elim way [ by_looks ↦ is_due p span ≡ false → is_look r ≡ true | _ ↦ Unit {0} ]
 
--- by a step that is due, the call gets what it asks if that is open; the call's other steps are as its `Way` says
-abbrev pub Gets : LockKind → ℕ → Asked → List Mark → Plain → Option Change → StepKind → Type 0
-Gets kind p what span s step r = (ask : Ask) → goes_of what (own p span) ≡ Some ask
+-- by a step that is due, the call gets what it asks if that is open; the call's other steps are as its `TryingWay` says
+abbrev pub GetsByWay : LockKind → ℕ → Asked → List Mark → Plain → Option Change → StepKind → Type 0
+GetsByWay kind p what span s step r = (ask : Ask) → goes_of what (own p span) ≡ Some ask
     → let way = way_of kind what (own p span) in (is_due_by way p span ≡ true → is_open_to s p ask ≡ true → step ≡ Some (gets p ask)) × LooksElse way p span r
 
 abbrev pub GetsWhenDue : {C V A : Type 0} → LockKind → ℕ → Outcome A V → Move C V → Option Asked → List Mark → Plain → Option Change → StepKind → Type 0
-GetsWhenDue kind p outcome.GoingOn Step (Some what) span s step r = Gets kind p what span s step r
-GetsWhenDue kind p (outcome.Answered a b) Step (Some what) span s step r = Gets kind p what span s step r
+GetsWhenDue kind p outcome.GoingOn Step (Some what) span s step r = GetsByWay kind p what span s step r
+GetsWhenDue kind p (outcome.Answered a b) Step (Some what) span s step r = GetsByWay kind p what span s step r
 GetsWhenDue kind p _ _ _ span s step r = Unit {0}
 
 -- Before its plain step, a try continues only by a step at which what it asks is open. A try on a queue reads two words.

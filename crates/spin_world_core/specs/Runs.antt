@@ -57,9 +57,9 @@ abbrev pub opening : {W V C L A : Type 0} → Machine W V C L A → ℕ → Seen
 opening m n = record { state = at_first m n; plain = opening_plain m; span = λ p. []; written = m.value }
 
 -- only a step of a call makes a plain step
-abbrev pub step_at : {W V C L A : Type 0} → Machine W V C L A → State W V C L → ℕ → Move C V → Option (Seat C L) → Option Change
-step_at m s p Step (Some (Calling c l h)) = m.change p s.words c l h
-step_at m s p _ _ = None
+abbrev pub plain_change_at : {W V C L A : Type 0} → Machine W V C L A → State W V C L → ℕ → Move C V → Option (Seat C L) → Option Change
+plain_change_at m s p Step (Some (Calling c l h)) = m.change p s.words c l h
+plain_change_at m s p _ _ = None
 
 abbrev pub step_kind_at : {W V C L A : Type 0} → Machine W V C L A → Move C V → Option (Seat C L) → StepKind
 step_kind_at m Step (Some (Calling c l h)) = by_step (m.step_kind c l h)
@@ -106,7 +106,7 @@ scene_of seen p move seat h step step_kind value = record {
 }
 
 abbrev pub scene_at : {W V C L A : Type 0} → Machine W V C L A → Seen W V C L → ℕ → Move C V → Option (Seat C L) → Scene W V C L A
-scene_at m seen p move seat = scene_of seen p move seat (moves_at m seen.state p move seat) (step_at m seen.state p move seat) (step_kind_at m move seat) (placed_at m seen.state move seat)
+scene_at m seen p move seat = scene_of seen p move seat (moves_at m seen.state p move seat) (plain_change_at m seen.state p move seat) (step_kind_at m move seat) (placed_at m seen.state move seat)
 
 abbrev pub scene : {W V C L A : Type 0} → Machine W V C L A → Seen W V C L → ℕ → Move C V → Scene W V C L A
 scene m seen p move = scene_at m seen p move (seat_of seen p)
@@ -165,11 +165,11 @@ StandsFor s p span _ = entries p s ≡ no_entries
 
 -- Who may use the value
 
-abbrev pub is_reader : Entries → Bool
-is_reader e = not (is_empty e.holders) || list_any (λ t. t.entered) e.tickets
+abbrev pub reads_value : Entries → Bool
+reads_value e = not (is_empty e.holders) || list_any (λ t. t.entered) e.tickets
 
-abbrev pub is_writer : Entries → Bool
-is_writer e = list_any (λ h. same_kind writing h.kind) e.holders || list_any (λ t. t.entered) e.tickets
+abbrev pub writes_value : Entries → Bool
+writes_value e = list_any (λ h. same_kind writing h.kind) e.holders || list_any (λ t. t.entered) e.tickets
 
 -- the party leaves the value to the owner: it has leaked, or is gone, or is idle and has no entry in the plain lock
 abbrev pub YieldsToOwner : {C L : Type 0} → Plain → ℕ → Option (Seat C L) → Type 0
@@ -183,8 +183,8 @@ abbrev pub IsOwners : {W V C L : Type 0} → Seen W V C L → Type 0
 IsOwners seen = (q : ℕ) → YieldsToOwner seen.plain q (seat_of seen q)
 
 abbrev pub MayTouch : {W V C L A : Type 0} → Seen W V C L → ℕ → Outcome A V → Move C V → Type 0
-MayTouch seen p (outcome.Value r) Read = is_reader (entries p seen.plain) ≡ true
-MayTouch seen p outcome.Written (Write v) = is_writer (entries p seen.plain) ≡ true
+MayTouch seen p (outcome.Value r) Read = reads_value (entries p seen.plain) ≡ true
+MayTouch seen p outcome.Written (Write v) = writes_value (entries p seen.plain) ≡ true
 MayTouch seen p (outcome.Value r) OwnerGet = IsOwners seen
 MayTouch seen p (outcome.Value r) (OwnerSet v) = IsOwners seen
 MayTouch seen p outcome.Written (OwnerSet v) = IsOwners seen
@@ -199,10 +199,10 @@ abbrev pub MaySkip : {W V C L A : Type 0} → Machine W V C L A → Seen W V C L
 MaySkip m seen p (Begin c) (Some Idle) = (m.asks c None).begins None ≡ false
 MaySkip m seen p (Begin c) (Some (Holding h)) = (m.asks c (Some h)).begins (Some h) ≡ false
 MaySkip m seen p Step (Some (Calling c l h)) = ⊥
-MaySkip m seen p Read (Some (Holding h)) = is_reader (entries p seen.plain) ≡ false
-MaySkip m seen p Read (Some (Leaked h)) = is_reader (entries p seen.plain) ≡ false
-MaySkip m seen p (Write v) (Some (Holding h)) = is_writer (entries p seen.plain) ≡ false
-MaySkip m seen p (Write v) (Some (Leaked h)) = is_writer (entries p seen.plain) ≡ false
+MaySkip m seen p Read (Some (Holding h)) = reads_value (entries p seen.plain) ≡ false
+MaySkip m seen p Read (Some (Leaked h)) = reads_value (entries p seen.plain) ≡ false
+MaySkip m seen p (Write v) (Some (Holding h)) = writes_value (entries p seen.plain) ≡ false
+MaySkip m seen p (Write v) (Some (Leaked h)) = writes_value (entries p seen.plain) ≡ false
 MaySkip m seen p Leak (Some (Holding h)) = ⊥
 MaySkip m seen p OwnerGet (Some seat) = m.owned ≡ true → IsOwners seen → ⊥
 MaySkip m seen p (OwnerSet v) (Some seat) = m.owned ≡ true → IsOwners seen → ⊥
@@ -279,7 +279,7 @@ InItsCall _ move before after = Unit {0}
 
 -- What is promised of an event
 
-pub record Keeps {W V C L A : Type 0} (m : Machine W V C L A) (s : Scene W V C L A) : Type 0 where
+pub record KeepsPromises {W V C L A : Type 0} (m : Machine W V C L A) (s : Scene W V C L A) : Type 0 where
   -- the event makes no plain step, or one that is open and is a step of the event's party
   pub opens : IsOpenStep s.before.plain s.party s.change
   -- the event makes no plain step, or one that this kind of lock makes
@@ -400,7 +400,7 @@ pub record KeepsAll {W V C L A : Type 0} (m : Machine W V C L A) (n : ℕ) (entr
   pub first : m.numbers m.words ≡ encoded m.lock_kind (opening_plain m)
   -- the numbers determine the words
   pub numbers_tell : (v w : W) → m.numbers v ≡ m.numbers w → v ≡ w
-  pub each : Every (Keeps m) m (opening m n) entries
+  pub each : Every (KeepsPromises m) m (opening m n) entries
 
 abbrev pub MomentsAll : {W V C L A : Type 0} → Machine W V C L A → ℕ → Schedule C V → Type 0
 MomentsAll m n entries = Every (IsRight m) m (opening m n) entries

@@ -66,28 +66,28 @@ stage_by_owner _ OwnerGet stage = let_go_stage stage
 stage_by_owner _ (OwnerSet v) stage = let_go_stage stage
 stage_by_owner _ _ stage = stage
 
-abbrev pub stage_after : {W V C L A : Type 0} → ℕ → Stage → List (Scene W V C L A) → Stage
-stage_after p stage [] = stage
-stage_after p stage (s ∷ ss) = stage_after p (stage_by_owner s.outcome s.move (if s.party == p then stage_by_own s.outcome stage else stage)) ss
+abbrev pub stage_at : {W V C L A : Type 0} → ℕ → Stage → List (Scene W V C L A) → Stage
+stage_at p stage [] = stage
+stage_at p stage (s ∷ ss) = stage_at p (stage_by_owner s.outcome s.move (if s.party == p then stage_by_own s.outcome stage else stage)) ss
 
 -- the place is that of the party's stage, and the party's entries in the plain lock are those that the place implies
-abbrev pub StandsAt : Stage → Plain → ℕ → List Mark → Place → Type 0
-StandsAt at_rest s p span place.Idle = entries p s ≡ no_entries
-StandsAt at_rest s p span (place.Holding h) = entries p s ≡ entries_of p h
-StandsAt in_call s p span place.InCall = (held : Option Hold) × (entries p s ≡ entries_so_far p span (entries_held p held))
-StandsAt has_leaked s p span (place.Leaked h) = entries p s ≡ entries_of p h
-StandsAt is_gone s p span place.Gone = (h : Hold) × (entries p s ≡ entries_of p h)
-StandsAt _ s p span _ = ⊥
+abbrev pub StandsInStage : Stage → Plain → ℕ → List Mark → Place → Type 0
+StandsInStage at_rest s p span place.Idle = entries p s ≡ no_entries
+StandsInStage at_rest s p span (place.Holding h) = entries p s ≡ entries_of p h
+StandsInStage in_call s p span place.InCall = (held : Option Hold) × (entries p s ≡ entries_so_far p span (entries_held p held))
+StandsInStage has_leaked s p span (place.Leaked h) = entries p s ≡ entries_of p h
+StandsInStage is_gone s p span place.Gone = (h : Hold) × (entries p s ≡ entries_of p h)
+StandsInStage _ s p span _ = ⊥
 
 -- A world of n parties tells a place for each of them, and for no other. The place agrees with the party's stage.
 abbrev pub PlaceSays : Stage → ℕ → Plain → ℕ → List Mark → Option Place → Type 0
 PlaceSays stage n s p span None = (n ≤ p) × (entries p s ≡ no_entries)
-PlaceSays stage n s p span (Some place) = (p < n) × StandsAt stage s p span place
+PlaceSays stage n s p span (Some place) = (p < n) × StandsInStage stage s p span place
 
 -- for any schedule of any world that led to this state, `PlaceSays` holds of the place that was told
 abbrev pub SaysAfterAnyPast : {W V C L A : Type 0} → Machine W V C L A → State W V C L → ℕ → Option Place → Type 0
 SaysAfterAnyPast {V = V} {C = C} m s p told = (n : ℕ) (past : Schedule C V) → state_at m n past ≡ s
-    → let seen = seen_at m n past in PlaceSays (stage_after p at_rest (scenes m (opening m n) past)) n seen.plain p (seen.span p) told
+    → let seen = seen_at m n past in PlaceSays (stage_at p at_rest (scenes m (opening m n) past)) n seen.plain p (seen.span p) told
 
 -- the event begins a call of the party
 abbrev pub begins_of : {W V A : Type 0} → ℕ → Event W V A → Bool

@@ -9,16 +9,16 @@ use Rattle.spin_world_core.specs.Spans.{own, own_count}
 
 -- The number of arrivals just after the party's latest plain step, or 0 if it made none. At a barrier this step is the
 -- party's own arrival.
-abbrev pub arrived : ℕ → List Mark → ℕ
-arrived p [] = 0
-arrived p (m ∷ ms) = if (m.party == p) && is_some m.change then m.after.arrivals else arrived p ms
+abbrev pub arrivals_after : ℕ → List Mark → ℕ
+arrivals_after p [] = 0
+arrivals_after p (m ∷ ms) = if (m.party == p) && is_some m.change then m.after.arrivals else arrivals_after p ms
 
 -- whether the call waits, and what it asks next is open to its party; the span so far tells what it asks next
 abbrev pub is_open_now : ℕ → Asked → List Mark → Plain → Bool
-is_open_now p what span s = what.waits && what.is_open_next (is_empty (own p span)) (arrived p span) p s
+is_open_now p what span s = what.waits && what.is_open_next (is_empty (own p span)) (arrivals_after p span) p s
 
 -- the step m does not disturb the party p: a step of p does not fail spuriously, and a step of another party changes no word
-pub record Leaves (kind : LockKind) (p : ℕ) (m : Mark) : Type 0 where
+pub record LeavesAlone (kind : LockKind) (p : ℕ) (m : Mark) : Type 0 where
   pub strong : m.party ≡ p → is_weak m.step_kind ≡ false
   pub still : (m.party ≡ p → ⊥) → encoded kind m.after ≡ encoded kind m.before
 
@@ -30,7 +30,7 @@ AllOf P (x ∷ xs) = P x × AllOf P xs
 -- disturbs the party, then few of these steps are the party's own.
 abbrev pub UndisturbedTakes : (ℕ → Type 0) → LockKind → ℕ → Asked → List Mark → Type 0
 UndisturbedTakes IsFew kind p what span =
-    (recent : List Mark) (first : Mark) (older : List Mark) → span ≡ recent ++ first ∷ older → is_open_now p what older first.before ≡ true → AllOf (Leaves kind p) (recent ++ first ∷ [])
+    (recent : List Mark) (first : Mark) (older : List Mark) → span ≡ recent ++ first ∷ older → is_open_now p what older first.before ≡ true → AllOf (LeavesAlone kind p) (recent ++ first ∷ [])
     → IsFew (own_count p (recent ++ first ∷ []))
 
 -- how many steps an undisturbed call takes at most once its request is open: as many as it promises, and at most four

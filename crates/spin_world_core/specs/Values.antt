@@ -23,15 +23,15 @@ Brings m (Some (completes p)) _ value = ⊥
 Brings m _ _ value = Unit {0}
 
 -- If closures make the value, an answer gives a value exactly if the answer says so. That value is the present one.
-abbrev pub Gives : {V : Type 0} → Bool → Said → Option V → Option V → Type 0
-Gives true gives_value (Some v) value = value ≡ Some v
-Gives true gives_value None value = ⊥
-Gives true _ given value = given ≡ None
-Gives false _ given value = Unit {0}
+abbrev pub GivesIfSaid : {V : Type 0} → Bool → Said → Option V → Option V → Type 0
+GivesIfSaid true gives_value (Some v) value = value ≡ Some v
+GivesIfSaid true gives_value None value = ⊥
+GivesIfSaid true _ given value = given ≡ None
+GivesIfSaid false _ given value = Unit {0}
 
 abbrev pub GivesAt : {W V C L A : Type 0} → Machine W V C L A → Move C V → Outcome A V → Option V → Type 0
-GivesAt m Step (outcome.Answered a b) value = Gives m.lock_kind.makes_value (m.says a) (m.gives a) value
-GivesAt m Weak (outcome.Answered a b) value = Gives m.lock_kind.makes_value (m.says a) (m.gives a) value
+GivesAt m Step (outcome.Answered a b) value = GivesIfSaid m.lock_kind.makes_value (m.says a) (m.gives a) value
+GivesAt m Weak (outcome.Answered a b) value = GivesIfSaid m.lock_kind.makes_value (m.says a) (m.gives a) value
 GivesAt m _ _ value = Unit {0}
 
 pub record KeepsValue {W V C L A : Type 0} (m : Machine W V C L A) (s : Scene W V C L A) : Type 0 where

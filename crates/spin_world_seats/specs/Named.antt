@@ -14,7 +14,7 @@ use Rattle.spin_step.specs.Machines.{opening_plain}
 use Rattle.spin_seats.specs.Table.{SeatsMachine}
 use Rattle.spin_world_core.specs.Kinds.{IsLock, BeginAt, AnswersIn}
 
-pub record IsSeats (n : ℕ) (m : SeatsMachine) : Type 0 where
+pub record IsSeatsMachine (n : ℕ) (m : SeatsMachine) : Type 0 where
   pub is_lock : IsLock kind.seats 0 (λ w. w ∷ []) (Some tt) true m
   pub open is_lock use *
   -- at first nobody has a seat; there are as many seats as asked for, but no more than the limit

@@ -2,7 +2,7 @@
 ghost use Rattle.std.specs.Prelude.{◌≡◌, true};
 ghost use Rattle.spin_step.specs.Acts.{one_number, step_by, can_by};
 ghost use Rattle.spin_seats.specs.Table.{act_of, seats_machine};
-ghost use Rattle.spin_world_seats.specs.Named.{IsSeats};
+ghost use Rattle.spin_world_seats.specs.Named.{IsSeatsMachine};
 
 use spin_seats::calls::{SeatsCall, SeatsPoint, SeatsTable};
 use spin_step::Steps;
@@ -36,10 +36,10 @@ impl Seats {
     ///
     /// # Contract
     /// The object keeps the number `seats`. Its machine is that of a lock with `seats` seats, or with `MAX_SEATS` if
-    /// `seats` is larger (`IsSeats`). At first all seats are free. [`SeatsCall`] says what each call asks for.
+    /// `seats` is larger (`IsSeatsMachine`). At first all seats are free. [`SeatsCall`] says what each call asks for.
     pub fn new(seats: usize) -> Seats
         ensures fields { result ≡ record { seats = seats } }
-        ensures named { IsSeats seats (⟦<Seats as Object>⟧.machine result) }
+        ensures named { IsSeatsMachine seats (⟦<Seats as Object>⟧.machine result) }
     {
         Seats { seats }
     }

@@ -22,18 +22,18 @@ pub struct Stable<T: Stabilizes> {
 }
 
 impl<T: Stabilizes, V, P: Rule<MaybeStable<T>, V>> Cell<MaybeStable<T>, V, P> {
-    ghost use Rattle.spin_core.specs.Cell.{Lends};
+    ghost use Rattle.spin_core.specs.Cell.{MayLend};
     ghost use Rattle.spin_core.specs.Stable.{StableAt};
 
     /// Returns a mutable reference to the value if the first word is `first`. The borrow shows that there is no permit.
     ///
     /// # Contract
     /// The cell gets the key that the rule names (`lent`). Where the rule holds under the old key, it has to hold
-    /// under the new one (`Lends`). Where the new rule holds of the word `first`, the value has to be stable, and
+    /// under the new one (`MayLend`). Where the new rule holds of the word `first`, the value has to be stable, and
     /// any stable value may replace it (`StableAt`). The value stays stable.
     pub fn get_stable(&mut self, first: u64) -> Option<&mut Stable<T>>
         requires stable { StableAt (P.holds (P.lent self.old)) (P.ways (P.lent self.old)) T.stable first }
-        requires lends { Lends (P.holds self.old) (P.ways self.old) (P.holds (P.lent self.old)) (P.ways (P.lent self.old)) }
+        requires lends { MayLend (P.holds self.old) (P.ways self.old) (P.holds (P.lent self.old)) (P.ways (P.lent self.old)) }
     {
         if self.first == first {
             Some(unsafe { &mut *(&raw const self.value as *mut Stable<T>) })

@@ -5,7 +5,7 @@ ghost use Rattle.std.specs.Fn.{FnOnceTakesAt, FnOnceReturnsAt};
 ghost use Rattle.std.specs.Option.{ForSome, option_copied};
 ghost use Rattle.std.specs.HashMap.{get};
 ghost use mathlib.Core.List.{IsPrefix};
-ghost use Rattle.spin_examples.specs.Logged.{answer_in, IsKnown};
+ghost use Rattle.spin_examples.specs.Logged.{answer_in, IsLogged};
 
 use super::{Answers, Table};
 use spin_core::relax::{RelaxStrategy, Spin};
@@ -129,7 +129,7 @@ impl<C: Answers, H: History, A: Allocator + Clone, R: RelaxStrategy> LoggedCache
         requires may { (value : _) → FnOnceReturnsAt F.FnOnce make key (Ok value) → IsTrue (C.may key value) }
         ensures may { IfOk result (λ value. IsTrue (C.may key value)) }
         ensures same { ForSome (answer_in C.Key.eq seen.old.entries key) (λ answer. IfOk result (λ value. C.Value.is_clone answer value)) }
-        ensures known { IfOk result (λ value. IsKnown C.Key.eq C.Value.is_clone seen.new.entries key value) }
+        ensures known { IfOk result (λ value. IsLogged C.Key.eq C.Value.is_clone seen.new.entries key value) }
         ensures later { IsPrefix seen.old.entries seen.new.entries }
     {
         if let Some(value) = self.table.read(rt).answer(&key, seen) {
@@ -151,7 +151,7 @@ impl<C: Answers, H: History, A: Allocator + Clone, R: RelaxStrategy> LoggedCache
         requires may { (value : _) → FnOnceReturnsAt F.FnOnce make key (Ok value) → IsTrue (C.may key value) }
         ensures may { IfOk result (λ value. IsTrue (C.may key value)) }
         ensures same { ForSome (answer_in C.Key.eq seen.old.entries key) (λ answer. IfOk result (λ value. C.Value.is_clone answer value)) }
-        ensures known { IfOk result (λ value. IsKnown C.Key.eq C.Value.is_clone seen.new.entries key value) }
+        ensures known { IfOk result (λ value. IsLogged C.Key.eq C.Value.is_clone seen.new.entries key value) }
         ensures later { IsPrefix seen.old.entries seen.new.entries }
     {
         let guard = self.table.upgradeable_read(rt);

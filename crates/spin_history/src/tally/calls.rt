@@ -1,6 +1,6 @@
 //! The calls of a tally that its caller owns or borrows.
 ghost use Rattle.std.specs.Prelude.{◌≡◌, ◌<◌, ◌≤◌};
-ghost use Rattle.spin_history.specs.Shares.{parts_of, amount_of, Fits, GrewIf};
+ghost use Rattle.spin_history.specs.Shares.{parts_of, amount_of, FitsWord, GrewIf};
 ghost use Rattle.spin_history.specs.Tallies.{tallied};
 
 use super::Tally;
@@ -52,7 +52,7 @@ impl<L: Ledger> Tally<L> {
     /// ```
     pub fn add(&mut self, mine: &mut Share<L>, more: u64) -> bool
         requires { 0 < parts_of mine.old }
-        ensures full { Fits result (tallied self.old) more }
+        ensures full { FitsWord result (tallied self.old) more }
         ensures count { GrewIf result more (tallied self.old) (tallied self.new) }
         ensures bound { amount_of mine.old ≤ tallied self.old }
         ensures whole { parts_of mine.old ≡ L.parts → amount_of mine.old ≡ tallied self.old }

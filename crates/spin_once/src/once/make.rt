@@ -4,7 +4,7 @@ ghost use Rattle.spin_core.specs.Own.{what};
 ghost use Rattle.spin_session.specs.Turns.{has_begun};
 ghost use Rattle.spin_step.specs.declared.once_calls.OnceCall.TheVariants.{CallOnce, TryCallOnceOk};
 ghost use Rattle.spin_step.specs.declared.once_calls.OncePoint.TheVariants.{TryBegin};
-ghost use Rattle.spin_once.specs.Accounts.{Place, here, Since, Entered, Finds};
+ghost use Rattle.spin_once.specs.Accounts.{Place, here, MadeSince, Entered, Finds};
 ghost use Rattle.spin_once.specs.Once.{in_call, IsFailedCall};
 
 use crate::once_core::{Account, Found};
@@ -42,7 +42,7 @@ pub(super) fn try_make<'a, T, R: RelaxStrategy, F: FnOnce() -> Result<T, E>, E, 
     requires wants { what account.party.view ≡ Some (in_call (TryCallOnceOk tt) TryBegin) }
     requires calls { F.pre f }
     ensures found { IfOk result (λ found. (p : Place T (Unit {0})) → Entered (TryCallOnceOk tt) p (here account.entry) → Finds (TryCallOnceOk tt) (λ v. F.post f (Ok v)) p found.account) }
-    ensures failed { IfErr result (λ failed. (p : Place T (Unit {0})) → Entered (TryCallOnceOk tt) p (here account.entry) → Since p IsFailedCall (here failed.1)) }
+    ensures failed { IfErr result (λ failed. (p : Place T (Unit {0})) → Entered (TryCallOnceOk tt) p (here account.entry) → MadeSince p IsFailedCall (here failed.1)) }
     ensures err { IfErr result (λ failed. F.post f (Err failed.0) × (has_begun (what failed.1.party.view) ≡ false)) }
 {
     let permit = match account.claim::<R, W>(OnceCall::TryCallOnceOk(()), rt) {

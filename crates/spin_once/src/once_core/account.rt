@@ -4,7 +4,7 @@ ghost use Rattle.std.specs.Prelude.{◌≡◌, ◌≤◌, ℕ, Some, None, true,
 ghost use Rattle.spin_core.specs.Logs.{OneIsPrefix};
 ghost use Rattle.spin_core.specs.Cell.{use_of, Moved, Keeps};
 ghost use Rattle.spin_core.specs.Own.{what};
-ghost use Rattle.spin_core.specs.Passes.{mark_of};
+ghost use Rattle.spin_core.specs.Passes.{own_mark};
 ghost use Rattle.spin_core.specs.Traced.{Found as FoundIn, MayKnow, Named, Watches};
 ghost use Rattle.spin_session.specs.Meaning.{just_one};
 ghost use Rattle.spin_session.specs.Operating.{Operates};
@@ -31,7 +31,7 @@ pub(crate) struct Account<'a, T, S: Seed<T>> {
     pub(super) party: Caller<'a, T, S>,
     pub(super) seen: Watch<Entry<T>>,
     ghost named: { party.key.opening.name ≡ seen.name },
-    ghost knows: { mark_of party.view ≤ length seen.entries },
+    ghost knows: { own_mark party.view ≤ length seen.entries },
     ghost few: { length (made party.key.opening.value seen.entries) ≤ 1 },
     ghost finds: { Sees party.key.opening seen.entries (use_of use_of_party party.view) party.value },
 }

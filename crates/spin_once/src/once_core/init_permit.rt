@@ -24,7 +24,7 @@ pub(crate) struct InitPermit<'a, T, S: Seed<T>> {
 }
 
 impl<'a, T, S: Seed<T>> InitPermit<'a, T, S> {
-    ghost use Rattle.spin_once.specs.Accounts.{Place, here, HasSeed, Entered, Shows, Since};
+    ghost use Rattle.spin_once.specs.Accounts.{Place, here, HasSeed, Entered, Shows, MadeSince};
 
     /// Takes the seed out.
     pub(crate) fn take(self) -> (Self, S)
@@ -53,7 +53,7 @@ impl<'a, T, S: Seed<T>> InitPermit<'a, T, S> {
     pub(crate) fn complete(self, value: T) -> Found<'a, T, S>
         requires { S.makes self.account.party.key.seed.value value }
         ensures shows { Shows result.account value }
-        ensures since { (c : Call) (p : Place T S) → what self.entry.account.party.view ≡ Some (in_call c Run) → Entered c p (here self.entry.account) → Since p (IsCall c (Value tt)) (here result.account) }
+        ensures since { (c : Call) (p : Place T S) → what self.entry.account.party.view ≡ Some (in_call c Run) → Entered c p (here self.entry.account) → MadeSince p (IsCall c (Value tt)) (here result.account) }
     {
         let Self { account } = self;
         let Account { party, seen } = account;
@@ -70,7 +70,7 @@ impl<'a, T, S: Seed<T>> InitPermit<'a, T, S> {
     pub(crate) fn fail(self) -> Account<'a, T, S>
         requires seed { HasSeed self.account }
         requires may { what self.account.party.view ≡ Some (in_call (TryCallOnceOk tt) Run) }
-        ensures since { (p : Place T S) → Entered (TryCallOnceOk tt) p (here self.entry.account) → Since p IsFailedCall (here result) }
+        ensures since { (p : Place T S) → Entered (TryCallOnceOk tt) p (here self.entry.account) → MadeSince p IsFailedCall (here result) }
         ensures out { has_begun (what result.party.view) ≡ false }
     {
         let Self { account } = self;

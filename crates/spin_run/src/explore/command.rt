@@ -5,7 +5,7 @@ ghost use Rattle.spin_text.specs.Texts.{streams};
 ghost use Rattle.spin_run.specs.declared.faults.Fault.{Fault};
 ghost use Rattle.spin_run.specs.declared.explore.options.Options.{Options};
 ghost use Rattle.spin_run.specs.Faults.{status_of, line_of};
-ghost use Rattle.spin_run.specs.Runs.{Does, Stops, Asks, StopsProgram, status_for, usage};
+ghost use Rattle.spin_run.specs.Runs.{Does, StopsRun, AsksFor, StopsProgram, status_for, usage};
 ghost use Rattle.spin_text.specs.Lines.{texts_of};
 
 use crate::explore::explored::explored;
@@ -29,7 +29,7 @@ fn run<I: Source, O: Sink>(
     requires output { O.failed output.old ≡ false }
     ensures done { IfOk result (Does options
         (streams I.remaining I.failed O.written O.failed input.old input.new output.old output.new)) }
-    ensures stops { IfErr result (Stops options
+    ensures stops { IfErr result (StopsRun options
         (streams I.remaining I.failed O.written O.failed input.old input.new output.old output.new)
         (output.new ≡ output.old)) }
 {
@@ -75,7 +75,7 @@ pub fn program<I: Source, O: Sink, E: Sink>(
     requires errors { E.failed errors.old ≡ false }
     ensures status { result ≤ 3 }
     ensures done { (stuck : Bool) → result ≡ status_for stuck
-        → (o : Options) × Asks (texts_of words.now) o × Does o
+        → (o : Options) × AsksFor (texts_of words.now) o × Does o
         (streams I.remaining I.failed O.written O.failed input.old input.new output.old output.new) stuck }
     ensures silent { (stuck : Bool) → result ≡ status_for stuck → errors.new ≡ errors.old }
     ensures fault { 0 < result → result < 3 → (fault : Fault) × (result ≡ status_of fault)

@@ -5,7 +5,7 @@ ghost use Rattle.spin_text.specs.Texts.{streams};
 ghost use Rattle.spin_run.specs.declared.faults.Fault.{Fault};
 ghost use Rattle.spin_run.specs.declared.explore.options.Options.{Options};
 ghost use Rattle.spin_run.specs.Faults.{IsWordless, status_of, line_of};
-ghost use Rattle.spin_run.specs.Runs.{Does, StopsProgram, Asks, status_for, usage};
+ghost use Rattle.spin_run.specs.Runs.{Does, StopsProgram, AsksFor, status_for, usage};
 
 use crate::explore::command::{USAGE, program};
 use crate::faults::{Fault, report};
@@ -33,7 +33,7 @@ pub fn program_over_arguments<I: Source, O: Sink, E: Sink, R: Env + AllocGlobal>
     requires errors { E.failed errors.old ≡ false }
     ensures status { result ≤ 3 }
     ensures done { (stuck : Bool) → result ≡ status_for stuck
-        → (words : List (List ℕ)) × (o : Options) × Asks words o × Does o
+        → (words : List (List ℕ)) × (o : Options) × AsksFor words o × Does o
         (streams I.remaining I.failed O.written O.failed input.old input.new output.old output.new) stuck }
     ensures silent { (stuck : Bool) → result ≡ status_for stuck → errors.new ≡ errors.old }
     ensures fault { 0 < result → result < 3 → (fault : Fault) × (words : List (List ℕ)) × (result ≡ status_of fault)

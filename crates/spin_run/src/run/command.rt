@@ -3,7 +3,7 @@ ghost use Rattle.std.specs.Prelude.{◌≡◌, ◌≤◌, ◌<◌, ℕ, true, fa
 ghost use Rattle.std.specs.Io.KnownBytes.{Appends};
 ghost use Rattle.spin_run.specs.declared.faults.Fault.{Fault};
 ghost use Rattle.spin_run.specs.declared.faults.Fault.TheVariants.{Usage};
-ghost use Rattle.spin_run.specs.Command.{AsksCount, AsksWorld, AsksNothing, Does, Stops, StopsCount, total_text, usage};
+ghost use Rattle.spin_run.specs.Command.{AsksCount, AsksWorld, AsksNothing, Does, StopsCommand, StopsCount, total_text, usage};
 ghost use Rattle.spin_run.specs.Faults.{line_of, status_of};
 ghost use Rattle.spin_text.specs.Failures.{Told};
 ghost use Rattle.spin_text.specs.Texts.{streams};
@@ -86,7 +86,7 @@ fn run<I: Source, O: Sink, R: AllocGlobal + Threads + Wait + Sync, A: Allocator>
     requires output { O.failed output.old ≡ false }
     ensures done { OnOk result (Does (texts_of words.now) (input.new ≡ input.old)
         (streams I.remaining I.failed O.written O.failed input.old input.new output.old output.new)) }
-    ensures fault { IfErr result (Stops (texts_of words.now) (input.new ≡ input.old) (output.new ≡ output.old)
+    ensures fault { IfErr result (StopsCommand (texts_of words.now) (input.new ≡ input.old) (output.new ≡ output.old)
         (streams I.remaining I.failed O.written O.failed input.old input.new output.old output.new)) }
 {
     if asks_world(words) {
@@ -116,7 +116,7 @@ fn run<I: Source, O: Sink, R: AllocGlobal + Threads + Wait + Sync, A: Allocator>
 ///   text on `output`.
 /// - 2: the words are no command, or a line of the schedule is wrong. Then `output` is unchanged.
 ///
-/// Status 1 or 2 is that of a fault (`status_of`). The run stopped as the fault says (`Stops`), and the
+/// Status 1 or 2 is that of a fault (`status_of`). The run stopped as the fault says (`StopsCommand`), and the
 /// fault's line is on `errors`. If the write of this line failed, a beginning of it is there (`Told`).
 pub fn program<I: Source, O: Sink, E: Sink, R: AllocGlobal + Threads + Wait + Sync, A: Allocator>(
     rt: &R,
@@ -138,7 +138,7 @@ pub fn program<I: Source, O: Sink, E: Sink, R: AllocGlobal + Threads + Wait + Sy
 
     // Any other status is that of a fault. The fault's line is on standard error, or its beginning if a write failed.
     ensures fault { 0 < result → (fault : Fault) × (result ≡ status_of fault)
-        × Stops (texts_of words.now) (input.new ≡ input.old) (output.new ≡ output.old)
+        × StopsCommand (texts_of words.now) (input.new ≡ input.old) (output.new ≡ output.old)
         (streams I.remaining I.failed O.written O.failed input.old input.new output.old output.new) fault
         × Told (E.failed errors.new) (E.written errors.old) (E.written errors.new) (line_of usage fault) }
 

@@ -1,7 +1,7 @@
 //! The program over the arguments of the process. Begin with [`program_over_arguments`].
 ghost use Rattle.std.specs.Prelude.{◌≡◌, ◌≤◌, ◌<◌, ◌⊎◌, List, ℕ, false};
 ghost use Rattle.spin_run.specs.declared.faults.Fault.{Fault};
-ghost use Rattle.spin_run.specs.Command.{Does, Stops, usage};
+ghost use Rattle.spin_run.specs.Command.{Does, StopsCommand, usage};
 ghost use Rattle.spin_run.specs.Faults.{IsWordless, line_of, status_of};
 ghost use Rattle.spin_text.specs.Failures.{Told};
 ghost use Rattle.spin_text.specs.Texts.{streams};
@@ -37,7 +37,7 @@ pub fn program_over_arguments<
         (streams I.remaining I.failed O.written O.failed input.old input.new output.old output.new) }
     ensures silent { result ≡ 0 → errors.new ≡ errors.old }
     ensures fault { 0 < result → (fault : Fault) × (words : List (List ℕ)) × (result ≡ status_of fault)
-        × (Stops words (input.new ≡ input.old) (output.new ≡ output.old)
+        × (StopsCommand words (input.new ≡ input.old) (output.new ≡ output.old)
         (streams I.remaining I.failed O.written O.failed input.old input.new output.old output.new) fault
         ⊎ (IsWordless fault × (input.new ≡ input.old) × (output.new ≡ output.old)))
         × Told (E.failed errors.new) (E.written errors.old) (E.written errors.new) (line_of usage fault) }

@@ -10,7 +10,7 @@ ghost use Rattle.spin_step_more.specs.Readers.{reader_limit};
 ghost use Rattle.spin_step_more.specs.declared.rw_calls.RwCall.TheVariants.{TryRead, Read, TryUpgradeableRead, UpgradeableRead, TryWrite, Write, ReaderCount, WriterCount, Release};
 ghost use Rattle.spin_session.specs.Turns.{Ended, GoesOn, IsAnsweredBy, Knows, MayBegin, SeesLast, SeesOn, Stands, StaysQuiet, Under, spot_of};
 ghost use Rattle.spin_rwlock.specs.Rw.{call_of, rw_meaning, rw_tables};
-ghost use Rattle.spin_rwlock.specs.RwPasses.{◌⨾◌, After, Calls, Grants, Holds, Lends, Recalls, RwSpot, ShowsLast, Unlocks, WroteSome, history, lock_of, new_in, opening, opening_of, shared_spot};
+ghost use Rattle.spin_rwlock.specs.RwPasses.{◌⨾◌, After, Calls, Grants, KnowsItsSteps, Lends, Recalls, RwSpot, ShowsLast, Unlocks, WroteSome, history, lock_of, new_in, opening, opening_of, shared_spot};
 
 use super::RwLock;
 use super::reader::{RwLockReadGuard, SharedGuard};
@@ -104,11 +104,11 @@ impl<T, R> RwLock<T, R> {
     /// A guard that is dropped releases the lock too, and ends its pass.
     ///
     /// # Contract
-    /// The guard has to be one that a call of this lock returned (`Holds`), with or without a pass. The release is the
+    /// The guard has to be one that a call of this lock returned (`KnowsItsSteps`), with or without a pass. The release is the
     /// next call of its party. Just before the release the party writes the guard's value into the history, so this
     /// value is the one written last (`Unlocks`).
     pub fn unlock<'a>(guard: RwLockWriteGuard<'a, T, R>) -> Pass<'a, T, R>
-        requires { Holds guard }
+        requires { KnowsItsSteps guard }
         ensures { Unlocks Release guard.entry result }
     {
         Pass {

@@ -52,7 +52,7 @@ pub struct WriteHeld<'a, T, R = Spin> {
 }
 
 impl<'a, T, R> RwLockWriteGuard<'a, T, R> {
-    ghost use Rattle.spin_rwlock.specs.Guards.{RwSpot, shared_value, write_value, write_held_value, shared_spot, write_spot, write_held_spot, Holds};
+    ghost use Rattle.spin_rwlock.specs.Guards.{RwSpot, shared_value, write_value, write_held_value, shared_spot, write_spot, write_held_spot, KnowsItsSteps};
     ghost use Rattle.spin_rwlock.specs.RwPasses.{Calls, Grants, Lowers, Unlocks};
 
     fn new(writer: Writer<'a, T>, seen: Watch<Entry<T>>) -> Self
@@ -80,7 +80,7 @@ impl<'a, T, R> RwLockWriteGuard<'a, T, R> {
     /// It makes one atomic addition, so no other writer acquires the lock in between.
     ///
     /// # Contract
-    /// The reader's guard has the value that this one had (`value`). If this guard knows the history (`Holds`), which
+    /// The reader's guard has the value that this one had (`value`). If this guard knows the history (`KnowsItsSteps`), which
     /// each call that grants it says, its party writes the value into the history, and then makes one call, `Downgrade`
     /// (`made`). The call returns.
     ///
@@ -108,7 +108,7 @@ impl<'a, T, R> RwLockWriteGuard<'a, T, R> {
     ///
     /// # Contract
     /// The upgradable reader's guard has the value that this one had (`value`). If this guard knows the history
-    /// (`Holds`), its party writes the value into the history, and then makes one call, `DowngradeToUpgradeable`
+    /// (`KnowsItsSteps`), its party writes the value into the history, and then makes one call, `DowngradeToUpgradeable`
     /// (`made`). The call returns.
     ///
     /// # Examples
@@ -140,7 +140,7 @@ impl<'a, T, R> RwLockWriteGuard<'a, T, R> {
     pub(super) fn leave(self, call: RwCall, after: Option<Hold>) -> RwSession<'a, T>
         requires { MayLeave call after self.writer.key }
         ensures stands { Stands after result }
-        ensures made { Holds self.entry → Unlocks call self.entry (spot_of result) }
+        ensures made { KnowsItsSteps self.entry → Unlocks call self.entry (spot_of result) }
         ensures same { use_at rw_meaning (resting after) ≢ off → result.permit.value ≡ Some (write_value self.entry) }
     {
         let (writer, seen) = self.into_parts();

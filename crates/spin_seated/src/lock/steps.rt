@@ -4,7 +4,7 @@
 //! may make the call, the words become those of the machine's next state, and the answer is the machine's.
 ghost use Rattle.std.specs.Prelude.{◌≡◌, ℕ, ◌<◌, ◌+◌, ◌-◌, ◌%◌, ◌^◌, ◌==◌, Option};
 ghost use prog.Atomic.{either};
-ghost use Rattle.spin_seated.specs.Histories.{Owes, Turned, holds, held_then};
+ghost use Rattle.spin_seated.specs.Histories.{OwesAlways, Turned, holds, held_then};
 ghost use Rattle.spin_seated.specs.Passes.{IsPassOf, pass_holds, PassMet};
 
 use super::{Answer, Calls, Opening, Pass, Place, SeatedLock};
@@ -48,7 +48,7 @@ impl<C: Calls, A: Allocator> SeatedLock<C, A> {
     pub(crate) fn load<T: Tells<C>>(&self, place: &mut Place<C>, word: usize) -> u64
         requires own { IsPassOf self.now place.old }
         requires word { word < 2 }
-        requires owes { Owes C.machine place.old.known word (λ n. n) (T.told 0) }
+        requires owes { OwesAlways C.machine place.old.known word (λ n. n) (T.told 0) }
         ensures own { IsPassOf self.now place.new }
         ensures told { Turned C.machine (T.told 0 result) place.old.known place.new.known }
         ensures holds { holds C.machine place.new.known ≡ held_then C.machine (T.told 0 result) (holds C.machine place.old.known) }
@@ -65,7 +65,7 @@ impl<C: Calls, A: Allocator> SeatedLock<C, A> {
     pub(crate) fn store<T: Tells<C>>(&self, place: &mut Place<C>, word: usize, new: u64)
         requires own { IsPassOf self.now place.old }
         requires word { word < 2 }
-        requires owes { Owes C.machine place.old.known word (λ _. new) (λ _. T.told new new) }
+        requires owes { OwesAlways C.machine place.old.known word (λ _. new) (λ _. T.told new new) }
         ensures own { IsPassOf self.now place.new }
         ensures told { Turned C.machine (T.told new new) place.old.known place.new.known }
         ensures holds { holds C.machine place.new.known ≡ held_then C.machine (T.told new new) (holds C.machine place.old.known) }
@@ -88,7 +88,7 @@ impl<C: Calls, A: Allocator> SeatedLock<C, A> {
     ) -> u64
         requires own { IsPassOf self.now place.old }
         requires word { word < 2 }
-        requires owes { Owes C.machine place.old.known word (λ n. either (n == old) new n) (T.told old) }
+        requires owes { OwesAlways C.machine place.old.known word (λ n. either (n == old) new n) (T.told old) }
         ensures own { IsPassOf self.now place.new }
         ensures told { Turned C.machine (T.told old result) place.old.known place.new.known }
         ensures holds { holds C.machine place.new.known ≡ held_then C.machine (T.told old result) (holds C.machine place.old.known) }
@@ -107,7 +107,7 @@ impl<C: Calls, A: Allocator> SeatedLock<C, A> {
     pub(crate) fn add<T: Tells<C>>(&self, place: &mut Place<C>, word: usize, by: u64) -> u64
         requires own { IsPassOf self.now place.old }
         requires word { word < 2 }
-        requires owes { Owes C.machine place.old.known word (λ n. (n + by) % 2 ^ 64) (T.told by) }
+        requires owes { OwesAlways C.machine place.old.known word (λ n. (n + by) % 2 ^ 64) (T.told by) }
         ensures own { IsPassOf self.now place.new }
         ensures told { Turned C.machine (T.told by result) place.old.known place.new.known }
         ensures holds { holds C.machine place.new.known ≡ held_then C.machine (T.told by result) (holds C.machine place.old.known) }
@@ -124,7 +124,7 @@ impl<C: Calls, A: Allocator> SeatedLock<C, A> {
     pub(crate) fn subtract<T: Tells<C>>(&self, place: &mut Place<C>, word: usize, by: u64) -> u64
         requires own { IsPassOf self.now place.old }
         requires word { word < 2 }
-        requires owes { Owes C.machine place.old.known word (λ n. (n + (2 ^ 64 - by)) % 2 ^ 64) (T.told by) }
+        requires owes { OwesAlways C.machine place.old.known word (λ n. (n + (2 ^ 64 - by)) % 2 ^ 64) (T.told by) }
         ensures own { IsPassOf self.now place.new }
         ensures told { Turned C.machine (T.told by result) place.old.known place.new.known }
         ensures holds { holds C.machine place.new.known ≡ held_then C.machine (T.told by result) (holds C.machine place.old.known) }

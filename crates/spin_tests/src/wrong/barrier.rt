@@ -4,7 +4,7 @@ ghost use Rattle.std.specs.Prelude.{◌++◌};
 ghost use Rattle.spin_step.specs.Operations.{Stepwise};
 ghost use Rattle.spin_world_core.specs.Runs.{KeepsAll, MomentsAll, CountsAll};
 ghost use Rattle.spin_world.specs.Groups.{InGroups, FollowersLeave};
-ghost use Rattle.spin_world.specs.Barrier.{IsBarrierOf};
+ghost use Rattle.spin_world.specs.Barrier.{IsBarrierMachine};
 ghost use Rattle.spin_world.specs.declared.barrier.BarrierCall.TheVariants.{Wait};
 ghost use Rattle.spin_tests.specs.Schedules.{calls, weak};
 ghost use Rattle.spin_tests.specs.WrongBarrier.{first_leads, leaves_early, nobody_leads, leads_late, told_late, leaves_in_quiet, never_begins, asks_for_a_value, leaves_by_chance, opens_with_one, gathers_three, leaves_in_the_next};
@@ -61,7 +61,7 @@ pub fn a_barrier_opens_empty()
 
 /// A barrier with groups of another size than asked for, which is right otherwise.
 pub fn a_group_has_the_size_asked_for()
-    ensures { IsBarrierOf 2 gathers_three → ⊥ }
+    ensures { IsBarrierMachine 2 gathers_three → ⊥ }
 {}
 
 /// A follower that leaves only while the next group gathers. If this follower steps too late, it waits for ever.

@@ -5,7 +5,7 @@ ghost use Rattle.spin_step.specs.Operations.{Stepwise};
 ghost use Rattle.spin_world_core.specs.Runs.{KeepsAll, MomentsAll, CountsAll};
 ghost use Rattle.spin_step_more.specs.FairCalls.{fair_machine};
 ghost use Rattle.spin_world.specs.Fairness.{IsGrantedNext, GoesForAClearFlag};
-ghost use Rattle.spin_world.specs.Fair.{IsFairLock};
+ghost use Rattle.spin_world.specs.Fair.{IsFairMachine};
 ghost use Rattle.spin_step_more.specs.declared.fair_calls.FairCall.TheVariants.{Lock, Release, Starve, StarverDrop, StarverLock, StarverTryLock, TryLock, TryLockStarver};
 ghost use Rattle.spin_tests.specs.Schedules.{calls, steps, weak};
 ghost use Rattle.spin_tests.specs.WrongFair.{wrong, spins_by_setting, waits_for_starvers, refuses_late, tries_greedily, stays_a_starver, starves_without_cap, never_registers, lock_beside_a_holder, returns_to_its_exchange, registers_at_once, drop_frees, tells_the_other_reason, waits_for_ever, waits_for_quiet, never_looks, loads_uncounted, counts_each_second_look, keeps_the_flag, leaves_by_exchange, sets_by_chance, starves_again, tries_alone, opens_with_a_starver, counts_anew, counts_anew_at_the_cap, waits_at_the_cap, sets_the_flag_alone, looks_once_it_starves, starves_in_one};
@@ -115,14 +115,14 @@ pub fn a_starver_may_not_starve_again<V: Copy>()
 /// A `starver_try_lock` that asks to lock as the only starver, and one that is refused beside another starver. It should
 /// also succeed beside other starvers.
 pub fn a_starver_tries_beside_others<V: Copy>()
-    ensures asks { (value : V) → IsFairLock value 2 1 (wrong value tries_alone) → ⊥ }
+    ensures asks { (value : V) → IsFairMachine value 2 1 (wrong value tries_alone) → ⊥ }
     ensures steps { (value : V) → MomentsAll (wrong value sets_the_flag_alone) 2
         (calls 0 Starve 2 ++ calls 1 Starve 2 ++ calls 0 StarverTryLock 1) → ⊥ }
 {}
 
 /// A fair lock that admits one starver, though two were asked for.
 pub fn as_many_may_starve_as_the_cap_says<V: Copy>()
-    ensures { (value : V) → IsFairLock value 2 1 (fair_machine value 1 1) → ⊥ }
+    ensures { (value : V) → IsFairMachine value 2 1 (fair_machine value 1 1) → ⊥ }
 {}
 
 /// A fair lock whose word says at first that a starver is registered, though no party is a starver.

@@ -5,8 +5,8 @@ ghost use Rattle.spin_step.specs.Operations.{Stepwise};
 ghost use Rattle.spin_world_core.specs.Runs.{KeepsAll, MomentsAll, CountsAll};
 ghost use Rattle.spin_world_core.specs.Values.{ValuesAll};
 ghost use Rattle.spin_step.specs.OnceCalls.{once_machine};
-ghost use Rattle.spin_world.specs.Keeping.{AnswersAtOnce, LooksFirst, LooksWhereComplete, MayRunAgain, OneRuns};
-ghost use Rattle.spin_world.specs.Once.{IsOnceOf};
+ghost use Rattle.spin_world.specs.OnceClosures.{AnswersAtOnce, LooksFirst, LooksWhereComplete, MayRunAgain, OneRuns};
+ghost use Rattle.spin_world.specs.Once.{IsOnceMachine};
 ghost use Rattle.spin_step.specs.declared.once_calls.OnceCall.TheVariants.{CallOnce, Get, Poll, TryCallOnceErr, Wait};
 ghost use Rattle.spin_tests.specs.Schedules.{calls, steps, weak};
 ghost use Rattle.spin_tests.specs.WrongOnce.{wrong, peeks, runs_on, waits_idly, always_fails, never_gets, never_looks, loses_by_chance, opens_at_nothing, replaces, sticks, sticks_silently, gets_early, polls_early, tells_another, places_another, hesitates, begins_again, polls_twice, fails_late};
@@ -68,12 +68,12 @@ pub fn a_wait_answers_what_it_sees<V: Copy>()
 
 /// A `try_call_once` that fails whatever its closure returns, and is right otherwise.
 pub fn a_try_call_once_runs_its_closure<V: Copy>()
-    ensures { (v : V) → IsOnceOf None (wrong V always_fails) → ⊥ }
+    ensures { (v : V) → IsOnceMachine None (wrong V always_fails) → ⊥ }
 {}
 
 /// A cell that has lost its opening value, and is right otherwise.
 pub fn an_initialized_cell_has_its_value<V: Copy>()
-    ensures { (v : V) → IsOnceOf (Some v) (once_machine None) → ⊥ }
+    ensures { (v : V) → IsOnceMachine (Some v) (once_machine None) → ⊥ }
 {}
 
 /// A `get` that can never begin.

@@ -4,7 +4,7 @@ ghost use Rattle.std.specs.Prelude.{◌++◌, ◌≡◌, []};
 ghost use Rattle.spin_step.specs.Operations.{Stepwise};
 ghost use Rattle.spin_world_core.specs.Runs.{KeepsAll, MomentsAll, CountsAll};
 ghost use Rattle.spin_step_more.specs.RwCalls.{rw_machine};
-ghost use Rattle.spin_world.specs.Rw.{IsRw};
+ghost use Rattle.spin_world.specs.Rw.{IsRwMachine};
 ghost use Rattle.spin_step_more.specs.declared.rw_calls.RwCall.TheVariants.{Downgrade, DowngradeToUpgradeable, Read, ReaderCount, TryRead, TryUpgrade, TryUpgradeableRead, TryWrite, Upgrade, Write, WriterCount};
 ghost use Rattle.spin_tests.specs.Schedules.{calls, steps, weak};
 ghost use Rattle.spin_tests.specs.WrongRw.{wrong, upgrades_plainly, upgrades_by_looks, refuses_late, upgrades_at_once, upgrades_unasked, asks_twice, downgrades_asking, counts_without_asking, downgrades_in_two, reads_and_regrets, reads_and_regrets_unseen, reads_by_a_mask, writes_by_chance, upgrades_anew, counts_without_upgradable, looks_for_ever, looks_twice, looks_first, tries_for_ever, reads_in_one, reads_by_a_guess, reads_weakly, writes_strongly, waits_strongly, upgrades_by_chance, never_releases, upgrades_any_reader, writes_by_reading, never_writes, opens_written, forgets_its_value, has_no_owner, comes_beyond_the_cap, ends_reading, reads_anew, upgrades_strongly, counts_asking_as_writing};
@@ -146,7 +146,7 @@ pub fn only_the_upgradable_reader_upgrades<V: Copy>()
 
 /// A `write` that asks for shared access and acquires it, and one that asks what such a lock grants to no party.
 pub fn a_write_asks_to_write<V: Copy>()
-    ensures other { (value : V) → IsRw value 9 (wrong value writes_by_reading) → ⊥ }
+    ensures other { (value : V) → IsRwMachine value 9 (wrong value writes_by_reading) → ⊥ }
     ensures unknown { (value : V) → Stepwise (wrong value never_writes) → ⊥ }
 {}
 
@@ -157,9 +157,9 @@ pub fn a_lock_opens_free<V: Copy>()
 
 /// A lock without the value given to it, one that nobody owns, and one that admits fewer parties than asked for.
 pub fn a_lock_is_as_it_was_made<V: Copy>()
-    ensures value { (value : V) → IsRw value 9 (wrong value forgets_its_value) → ⊥ }
-    ensures owner { (value : V) → IsRw value 9 (wrong value has_no_owner) → ⊥ }
-    ensures cap { (value : V) → IsRw value 9 (rw_machine value 1) → ⊥ }
+    ensures value { (value : V) → IsRwMachine value 9 (wrong value forgets_its_value) → ⊥ }
+    ensures owner { (value : V) → IsRwMachine value 9 (wrong value has_no_owner) → ⊥ }
+    ensures cap { (value : V) → IsRwMachine value 9 (rw_machine value 1) → ⊥ }
 {}
 
 /// A `try_read` that finds the lock closed, loads the word once more, and is refused even if the lock is then open.

@@ -4,7 +4,7 @@ ghost use Rattle.std.specs.Prelude.{◌++◌, ◌≡◌, []};
 ghost use Rattle.spin_step.specs.Operations.{Stepwise};
 ghost use Rattle.spin_world_core.specs.Runs.{KeepsAll, CountsAll, MomentsAll};
 ghost use Rattle.spin_seats.specs.Table.{seats_machine};
-ghost use Rattle.spin_world_seats.specs.Named.{IsSeats};
+ghost use Rattle.spin_world_seats.specs.Named.{IsSeatsMachine};
 ghost use Rattle.spin_seats.specs.declared.calls.SeatsCall.TheVariants as call;
 ghost use Rattle.spin_tests.specs.Schedules.{calls, steps, weak};
 ghost use Rattle.spin_tests.specs.WrongSeats.{wrong, seats_one_too_many, leaves_for_two, tries_for_ever, looks_twice, enters_in_one, enters_by_a_guess, enters_by_chance, nobody_leaves, enters_or_not, opens_taken, seats_one_on_none, counts_free, looks_on, keeps_all, enters_anew};
@@ -56,7 +56,7 @@ pub fn a_seated_party_may_leave()
 
 /// An `enter` that makes the steps of a `try_enter` and promises what a `try_enter` promises.
 pub fn an_enter_waits()
-    ensures { IsSeats 2 (wrong enters_or_not) → ⊥ }
+    ensures { IsSeatsMachine 2 (wrong enters_or_not) → ⊥ }
 {}
 
 /// A lock whose word says at first that a seat is taken, though no party has a seat.
@@ -66,7 +66,7 @@ pub fn all_seats_are_free_at_first()
 
 /// A lock with fewer seats than asked for.
 pub fn a_lock_has_its_seats()
-    ensures { IsSeats 2 (seats_machine 1) → ⊥ }
+    ensures { IsSeatsMachine 2 (seats_machine 1) → ⊥ }
 {}
 
 /// A lock that has no seats, but lets one party sit.
@@ -85,7 +85,7 @@ pub fn a_kind_of_lock_has_four_steps()
     ensures { CountsAll (wrong looks_on) 1 (calls 0 call.Enter 4) → ⊥ }
 {}
 
-/// Seats whose promise of `leave` lets no party begin this call. `IsSeats` says what each call promises.
+/// Seats whose promise of `leave` lets no party begin this call. `IsSeatsMachine` says what each call promises.
 pub fn a_lock_is_of_its_kind()
-    ensures { IsSeats 2 (wrong keeps_all) → ⊥ }
+    ensures { IsSeatsMachine 2 (wrong keeps_all) → ⊥ }
 {}

@@ -3,8 +3,8 @@
 ghost use Rattle.std.specs.Prelude.{◌++◌, ◌≡◌, []};
 ghost use Rattle.spin_step.specs.Operations.{Stepwise};
 ghost use Rattle.spin_world_core.specs.Runs.{KeepsAll, MomentsAll, CountsAll};
-ghost use Rattle.spin_world.specs.Ticket.{IsTicketLock};
-ghost use Rattle.spin_world.specs.Turns.{TriesByTwoLoads};
+ghost use Rattle.spin_world.specs.Ticket.{IsTicketMachine};
+ghost use Rattle.spin_world.specs.TicketOrder.{TriesByTwoLoads};
 ghost use Rattle.spin_step.specs.declared.ticket_calls.TicketCall.TheVariants.{IsLocked, Lock, Release, TryLock};
 ghost use Rattle.spin_tests.specs.Schedules.{calls, steps, weak};
 ghost use Rattle.spin_tests.specs.WrongTicket.{wrong, tries_by_one_load, swaps_its_loads, looks_in_vain, looks_backwards, queues_behind_nobody, never_enters, enters_by_look, never_tries, looks_at_both, locks_again, tries_by_looking, takes_by_chance, opens_with_a_ticket, leaves_the_last_ticket, tries_until_it_wins, refuses_without_tickets};
@@ -78,7 +78,7 @@ pub fn the_last_ticket_is_taken<V: Copy>()
 
 /// A `try_lock` that does what `is_locked` does.
 pub fn a_try_lock_asks_to_enter<V: Copy>()
-    ensures { (value : V) → IsTicketLock value 0 (wrong value tries_by_looking) → ⊥ }
+    ensures { (value : V) → IsTicketMachine value 0 (wrong value tries_by_looking) → ⊥ }
 {}
 
 /// A `try_lock` that takes the served number, in two steps. Also a `try_lock` that loads the served number before the

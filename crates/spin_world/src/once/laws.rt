@@ -2,7 +2,7 @@
 //! what the law states. Begin with [`a_value_stays`].
 ghost use Rattle.std.specs.Prelude.{ℕ};
 ghost use Rattle.spin_world.specs.declared.once.OnceObject.{OnceObject};
-ghost use Rattle.spin_world.specs.Keeping.{OnceSchedule, ValueStays, OneRuns, AnswersAtOnce, GetAgrees, MayRunAgain, LooksFirst, LooksWhereComplete};
+ghost use Rattle.spin_world.specs.OnceClosures.{OnceSchedule, ValueStays, OneRuns, AnswersAtOnce, GetAgrees, MayRunAgain, LooksFirst, LooksWhereComplete};
 
 use crate::once::OnceObject;
 use spin_world_core::Object;

@@ -7,7 +7,7 @@ ghost use Rattle.spin_world_core.specs.Runs.{opening};
 ghost use Rattle.spin_world_core.specs.Users.{seen_after, ReadsAgreeAcross};
 ghost use Rattle.spin_step_more.specs.declared.rw_calls.RwCall.{RwCall};
 ghost use Rattle.spin_world.specs.declared.rw.Rw.{Rw};
-ghost use Rattle.spin_world.specs.Standing.{StandTogether, Downgrades, Opens, converts};
+ghost use Rattle.spin_world.specs.Standing.{StandTogether, Downgrades, OpensForAll, converts};
 
 use crate::rw::Rw;
 use spin_world_core::Object;
@@ -32,7 +32,7 @@ pub fn a_downgrade_keeps_writers_out<V: Copy>()
 /// States that no reader joins while a party asks to upgrade. The upgrade is open exactly if all readers that held
 /// beside this party have released. The upgrade's next step succeeds exactly then.
 pub fn an_upgrade_opens_by_releases<V: Copy>()
-    ensures { (object : Rw V) (n : ℕ) (past further : List (ℕ × Move RwCall V)) → Opens (⟦<Rw<V> as Object>⟧.machine object) n past further }
+    ensures { (object : Rw V) (n : ℕ) (past further : List (ℕ × Move RwCall V)) → OpensForAll (⟦<Rw<V> as Object>⟧.machine object) n past further }
 {}
 
 /// States that two reads of a party find the same value, if in between the party wrote nothing and only converted its

@@ -7,7 +7,7 @@ ghost use Rattle.spin_world_core.specs.Runs.{opening};
 ghost use Rattle.spin_world_core.specs.Users.{seen_after};
 ghost use Rattle.spin_step.specs.declared.ticket_calls.TicketCall.{TicketCall};
 ghost use Rattle.spin_world.specs.declared.ticket.Ticket.{Ticket};
-ghost use Rattle.spin_world.specs.Turns.{TicketsInOrder, InTurn, TriesByTwoLoads};
+ghost use Rattle.spin_world.specs.TicketOrder.{TicketsInOrder, InTurn, TriesByTwoLoads};
 
 use crate::ticket::Ticket;
 use spin_world_core::Object;

@@ -19,7 +19,7 @@ use Rattle.spin_world_core.specs.Runs.{Seen, opening}
 use Rattle.spin_world_core.proofs.Reached.{state_is}
 use Rattle.spin_world.proofs.TicketOwed.{ticket_notes, ticket_facts}
 use Rattle.spin_world.proofs.Queues.{in_turn}
-use Rattle.spin_laws.specs.Turns.{EntersInTurn}
+use Rattle.spin_laws.specs.TicketTurns.{EntersInTurn}
 use Rattle.spin_laws.proofs.Calls.{event, one_more, longer, Call, call_of}
 use Rattle.spin_laws.proofs.limits.a_lock_of_a_ticket_mutex_enters_in_turn.Goals as goal
 

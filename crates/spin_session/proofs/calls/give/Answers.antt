@@ -3,7 +3,7 @@ use Rattle.spin_core.specs.Own.{what}
 use Rattle.spin_core.specs.Cell.{off, writes, use_of}
 use Rattle.spin_core.specs.Values.{IsLast}
 use Rattle.std.specs.Option.{IfSome}
-use Rattle.spin_core.specs.Passes.{mark_of}
+use Rattle.spin_core.specs.Passes.{own_mark}
 use Rattle.spin_core.specs.Spots.{Releases}
 use Rattle.spin_core.specs.Traced.{Named}
 use Rattle.spin_step.specs.Acts.{begin_of, operation_by}
@@ -59,7 +59,7 @@ returns g c =
           let all_last = c.laws.ensures.lasts p.key p.view f.result.1.view p.value f.result.1.value f.result.2 f.ensures.kept f.ensures.found (λ e e'. c.requires.stops (ap (use_of (use_at b)) (sym sits) ∙ e')) in
           let last : IsLast p.key f.result.2.entries w.value = subst (λ o. IfSome o (IsLast p.key f.result.2.entries)) it.ensures.same.1 (all_last.1 (λ e. absurd (let no : off ≡ writes = sym e ∙ writing in cc (no)))) in
           let all = releases t b call a.holds a.after from now is ends its f.result.0 (c.laws.ensures.named p.key a.seen.name (ap (λ k. k.name) it.ensures.key ∙ named)) f.ensures.key
-          (subst (λ v. mark_of v ≤ length a.seen.entries) (sym it.ensures.same.0) knew) w.value last moved in
+          (subst (λ v. own_mark v ≤ length a.seen.entries) (sym it.ensures.same.0) knew) w.value last moved in
           subst (λ (z : SeatSpot g.row.T.Denot g.row.P-Call.Denot g.row.P-Point.Denot). Releases (model_at t) (λ o. o) call Done w.value z now) (λ i. (it.ensures.key i, it.ensures.same.0 i, a.seen)) all;
     }
 

@@ -1,5 +1,5 @@
 use Rattle.std.proofs.Common.{ℕ, List, arith, length, ◌∙◌, ap, sym, subst}
-use Rattle.spin_text.specs.Readable.{AllRead}
+use Rattle.spin_text.specs.Readable.{AllLinesRead}
 use Rattle.spin_text.specs.Reading.{lines_left}
 use Rattle.spin_text.proofs.Scripts.{checked_next, checked_all, all_read}
 use Rattle.spin_text.proofs.entries.check_entries.Goals as goal
@@ -23,5 +23,5 @@ pub returns-clause-read : goal.returns-clause-read
 returns-clause-read g c =
     let reads = c.reads_calls.ensures in
     let spelled = checked_all g.O.Spelled.calls g.O.Spelled.read reads _ _ _ c.loop-rest.invariant.checked (ap lines_left c.in_default.is) in
-    let P : List (List (List ℕ)) → Type 0 = AllRead g.O.Spelled.read in
+    let P : List (List (List ℕ)) → Type 0 = AllLinesRead g.O.Spelled.read in
     subst P (sym spelled.1) (all_read g.O.Spelled.calls g.O.Spelled.read reads _ spelled.0)

@@ -2,7 +2,7 @@ use Rattle.std.proofs.Common.{◌≡◌, ◌++◌, ◌+◌, ◌-◌, ◌∙◌, 
 use Rattle.spin_step.specs.Schedules.{happens}
 use Rattle.spin_text.specs.declared.piece.TheConstants.{LONGEST_LINE}
 use Rattle.spin_text.specs.Ends.{AppendsBut}
-use Rattle.spin_text.specs.Readable.{AllRead}
+use Rattle.spin_text.specs.Readable.{AllLinesRead}
 use Rattle.spin_text.specs.Reading.{entries_in, lines_left, numbers_of}
 use Rattle.spin_text.specs.Transcripts.{event_line}
 use Rattle.spin_text.proofs.Appended.{but_all, but_line, but_then, but_beginning, beginning_longer, rest_is}
@@ -62,7 +62,7 @@ loop-rest-preserved g c =
     let further = ap lines_left c.in-Some.is ∙ c.first_line.ensures.lines in
     let now = next g (goal.at.loop-rest-preserved g c).After-write_line in
     record {
-      read = (subst (AllRead g.O.Spelled.read) further so_far.read).1;
+      read = (subst (AllLinesRead g.O.Spelled.read) further so_far.read).1;
       counted = omega (arith, so_far.counted, ap length further);
       told = (now.0, now.1, but_then _ _ _ _ _ now.2 _ c.in_ok-used.ensures.bytes);
       object = c.act.ensures.object ∙ so_far.object;

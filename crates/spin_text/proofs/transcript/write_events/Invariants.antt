@@ -2,7 +2,7 @@
 use Rattle.std.proofs.Common.{◌≡◌, ◌≤◌, ◌+◌, ℕ, List, length, take}
 use Rattle.spin_text.specs.declared.piece.TheConstants.{LONGEST_LINE, PIECE}
 use Rattle.spin_text.specs.Ends.{AppendsBut}
-use Rattle.spin_text.specs.Readable.{AllRead}
+use Rattle.spin_text.specs.Readable.{AllLinesRead}
 use Rattle.spin_text.specs.Reading.{entries_in, lines_left}
 use Rattle.spin_text.proofs.Cuts.{bytes_left}
 use Rattle.spin_text.proofs.Lines.{SoFar}
@@ -12,7 +12,7 @@ abbrev pub invariant-loop-rest : goal.invariant-loop-rest
 invariant-loop-rest g l =
     let entries = entries_in g.O.Spelled.read in
     record {
-      read : AllRead g.O.Spelled.read (lines_left l.rest);
+      read : AllLinesRead g.O.Spelled.read (lines_left l.rest);
       counted : l.place + length (lines_left l.rest) ≤ length (lines_left l.fn.lines);
       told : (text : List ℕ)
           × SoFar (g.O.Object.machine l.initial.world.object) l.initial.world.state (entries (lines_left l.fn.lines)) l.world.state l.begins (entries (lines_left l.rest)) l.place text

@@ -31,8 +31,8 @@ use denote.Struct.Members.{Member, row_of}
 use denote.Struct.Lending.{Law}
 use Rattle.core.proofs.cell.Borrows.{by_one}
 use Rattle.atomic_table.specs.Seated.{halved}
-use Rattle.spin_core.specs.Cell.{Way, alone, lends, fixes, Ways, writes, Limits, Fixed, Meets, Starts, readers_of, writers_of, IsKnown, Knowing}
-use Rattle.spin_core.specs.CellMemory.{offset, second_at, Known, Id, unused, roster, tag, idle, resting, state, core_at, standing, inner, kept, cell_shares}
+use Rattle.spin_core.specs.Cell.{Way, alone, lends, fixes, Ways, writes, Limits, Fixed, MeetsRule, Starts, readers_of, writers_of, IsKnown, Knowing}
+use Rattle.spin_core.specs.CellMemory.{offset, second_at, Known, Id, unused, roster, tag, idle, resting_value, value_state, core_at, standing, inner, kept, cell_shares}
 use Rattle.spin_core.specs.declared.cell.Rule.{Ghosts}
 use Rattle.spin_core.specs.contracts.cell.Cell as C
 use Rattle.spin_core.proofs.CellFields.{Written, written_out, written_in, At, Joins, fields_out, rejoined}
@@ -90,7 +90,7 @@ module _ {M : Type 1} {𝓤 : Ura M} (𝓛 : Logic 𝓤) (m ms : Member) (V Y K 
   wrote vs = writers_of ways.1 vs
 
   abbrev Met : ℕ × S.Denot → List V.Denot → Type 0
-  Met s vs = Meets (g.holds key) ways s.0 s.1 vs
+  Met s vs = MeetsRule (g.holds key) ways s.0 s.1 vs
 
   abbrev views_at : GName → ℕ × S.Denot → List V.Denot → Fml
   views_at ν s vs = fsep (fact (Met s vs)) (fex (Option R.Denot) (found s.1 way ν (read vs) (wrote vs)))
@@ -151,12 +151,12 @@ module _ {M : Type 1} {𝓤 : Ura M} (𝓛 : Logic 𝓤) (m ms : Member) (V Y K 
     t = record { life = κ; round = γ; views = ρ; value = ν }
 
     abbrev St : Way R.Denot → (R.Denot → Type 0) → ℕ → ℕ → Fml
-    St = state R b o t
+    St = value_state R b o t
 
     abbrev φ : S.Denot → R.Denot → Type 0
     φ = IsKnown ways.2
 
-    rests : (k : S.Denot) (w : Way R.Denot) (r : ℕ) (x : R.Denot) → φ k x → ‵ (whole 𝓛 R b o t x) ⊩ ‵ (resting R b o t w r x)
+    rests : (k : S.Denot) (w : Way R.Denot) (r : ℕ) (x : R.Denot) → φ k x → ‵ (whole 𝓛 R b o t x) ⊩ ‵ (resting_value R b o t w r x)
         → ‵ (idle γ) ⊛ ‵ (fex ℕ (begun 𝓛 R b o t x)) ⊫ ‵ (St w (φ k) r 0)
     rests k w r x known to = renewed 𝓛 R b o t x _ (script ∵ cite _ to $ by ! (lies 𝓛 R b o t w (φ k) r x known).prf)
 
@@ -174,7 +174,7 @@ module _ {M : Type 1} {𝓤 : Ura M} (𝓛 : Logic 𝓤) (m ms : Member) (V Y K 
     begins k w r (suc n) x lim known = updates ∵ settled ! _ $ keep ! (0 ∷ []) $ by ! (away k w r (suc n) (omega arith)).prf
 
     -- ---- what is found of the value in each state
-    named_at : (w : Way R.Denot) (r : ℕ) (x : R.Denot) → ‵ (resting R b o t w r x) ⊩ given (Fixed w r 0 x) (‵ (fobs ν (R.coded.code x)))
+    named_at : (w : Way R.Denot) (r : ℕ) (x : R.Denot) → ‵ (resting_value R b o t w r x) ⊩ given (Fixed w r 0 x) (‵ (fobs ν (R.coded.code x)))
     named_at alone r x = script ∵ check ! tt $ fsplit ! $ keep ! (0 ∷ []) $ done !
     named_at lends r x = script ∵ check ! tt $ fpick ! (λ a. fsplit ! $ drop ! $ fsplit ! $ keep ! (0 ∷ []) $ done !)
     named_at (fixes fact) zero x = script ∵

@@ -10,7 +10,7 @@ use denote.Struct.Members.{Member}
 use Rattle.spin_core.proofs.CellWays.{restarts}
 use Rattle.spin_core.proofs.WalkSteps.{last_two}
 use Rattle.spin_core.proofs.Walking.{walks, as_mut}
-use Rattle.spin_core.specs.Cell.{Frees, Freeing, Lends}
+use Rattle.spin_core.specs.Cell.{Frees, Freeing, MayLend}
 use Rattle.spin_core.specs.CellMemory.{offset}
 use Rattle.spin_core.proofs.CellFields.{Row, row_out, row_in, standing_words, Joins, fields_out, rejoined, rekeyed}
 use Rattle.spin_core.specs.contracts.cell.Cell as cell
@@ -28,7 +28,7 @@ get_mut_spec 𝓤 𝓛 𝓜 𝓡 wired X U P K S L _ _ _ LS g d _ =
     walks 𝓛 (ended X U P K S g d) (clauses X U P K S g d 𝓛 𝓜.mem 𝓡.returns) 𝓜 𝓡 (λ κs x f. refl, tt) _ fn (code.unfolded 𝓤 𝓛.H 𝓜 𝓡 wired (X, (U, (P, (K, (S, tt))))) d)
     (λ κs. (as_mut (named 0) κs.0 Ty, tt)) (λ κs qs bounds a gh are Post out.
     let b = a.0.ref_ptr.0 in let o = a.0.ref_ptr.1 in let κ = κs.0 in let q = qs.0 in let e = o + offset R in
-    let old = a.0.now in let key = g.lent old in let γ = a.0.ghost_name in let at = vptr b e in let Free = Freeing (g.ways key).2 (Frees (g.ways key).0) in let Same = Lends (g.holds old) (g.ways old) (g.holds key) (g.ways key) in let Lent = MutRef (named 0) κ R in
+    let old = a.0.now in let key = g.lent old in let γ = a.0.ghost_name in let at = vptr b e in let Free = Freeing (g.ways key).2 (Frees (g.ways key).0) in let Same = MayLend (g.holds old) (g.ways old) (g.holds key) (g.ways key) in let Lent = MutRef (named 0) κ R in
     let Cell : Fml = Row 𝓛 m ms V Y Kr g key b o in let words = standing_words 𝓛 m ms V Y Kr g key b o in
     let takes_out = row_out 𝓛 m ms V Y Kr g key b o in let back = row_in 𝓛 m ms V Y Kr g key b o in
     let Joined = Joins 𝓛 m ms V Y Kr g key b o Lw Ls Cell takes_out back in

@@ -9,7 +9,7 @@ use types.Mut.{open_ref, close_ref}
 use denote.Memory.{part_of, mem as in_memory}
 use denote.Struct.OwningLaws.{part_out, part_in}
 use Rattle.spin_core.specs.CellMemory.{offset, tracked, writer_owns}
-use Rattle.spin_core.specs.Writer.{with_value}
+use Rattle.spin_core.specs.Writer.{writer_of}
 use Rattle.spin_core.specs.contracts.cell.WritePermit.{the_type, the_row}
 use Rattle.spin_core.proofs.PermitFields.{hand_of, Words, told}
 use Rattle.spin_core.proofs.CellThrough.{Back, Cut, again, cuts, through as goes_through}
@@ -23,7 +23,7 @@ module _ {M : Type 1} {𝓤 : Ura M} (𝓛 : Logic 𝓤) (ℓ : NamedLft) (R W Y
     (g : Ghosts Y.Denot R.Denot W.Denot Kr.Denot Sr.Denot) (h : (the_row ℓ R W Y Kr Sr g).Denot) (b o c e : ℕ)
     (at : h.cell ≡ block_ptr c e) where
   abbrev It : R.Denot → Fml
-  It x = part_at (the_row ℓ R W Y Kr Sr g) full_share (with_value h x) b o
+  It x = part_at (the_row ℓ R W Y Kr Sr g) full_share (writer_of h x) b o
 
   abbrev Pen : R.Denot → Ptr → Fml
   Pen x p = writer_owns Y R W.coded.code Sr (g.holds h.key) (g.ways h.key) ℓ.lft p h.view x
@@ -38,7 +38,7 @@ module _ {M : Type 1} {𝓤 : Ura M} (𝓛 : Logic 𝓤) (ℓ : NamedLft) (R W Y
       frame ! $ frame ! $ frame ! $ each ! (Back 𝓛 R ℓ.lft c e It i) (λ z. assume ! (‵ (tracked R c e i z)) $
       move ! (1 ∷ 0 ∷ []) $ cite _ (again 𝓛 R ℓ.lft c e (λ x. Pen x (block_ptr c e)) i z) $
       rewrite ! 0 (λ (p : Ptr). ‵ (Pen z p)) (sym at) refl $ move ! (1 ∷ 0 ∷ []) $
-      by ! (part_in 𝓛 t full_share (with_value h z) b o)))
+      by ! (part_in 𝓛 t full_share (writer_of h z) b o)))
 
 pub get_mut_spec : {M : Type 1} → statement M
 unfolding part_of
@@ -64,7 +64,7 @@ get_mut_spec 𝓤 𝓛 𝓜 𝓡 wired T V P K S L _ _ _ LS g d _ =
     rewrite ! 1 (λ (us : List Val). ‵ (cell_at full_share D.mir us b o)) (sym ev) refl $ move ! (1 ∷ 0 ∷ []) $ fjoin ! $
     fpack ! (List Val) (λ us. fsep (cell_at full_share D.mir us b o) (D.own_val (p, (tt, tt)) us)) vs $
     use2 𝓛 (‵ (part_at G full_share h b o)) (part_in 𝓛 (the_type ℓ R W Y Kr Sr g) full_share h b o) $ close_ref ! tt (in_memory G) h $
-    cite _ (goes_through 𝓛 R G β pb po (with_value h) (λ y z. ap (λ (it : G.Denot). it.value)) (named 0) κ bounds.0 q m
+    cite _ (goes_through 𝓛 R G β pb po (writer_of h) (λ y z. ap (λ (it : G.Denot). it.value)) (named 0) κ bounds.0 q m
     x (cut 𝓛 ℓ R W Y Kr Sr g h b o pb po at)) $ await ! tt $ pick ! (λ δ. split3 ! $ move ! (1 ∷ 3 ∷ []) $ fjoin ! $
     says ! (x ≡ x) refl $ move ! (3 ∷ 0 ∷ []) $ join ! $
     returns ! (look_at ! 0 refl) $ free_all ! refl $ keep ! (1 ∷ 2 ∷ 0 ∷ []) $ by ! (out (vptr pb e) (record { ref_ptr = (pb, e); ghost_name = δ; now = x }))))))))

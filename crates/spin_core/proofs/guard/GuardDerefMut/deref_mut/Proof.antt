@@ -16,7 +16,7 @@ use denote.Triple.Call.{calls_at}
 use borrow.Follows.Field.{HandsTo, hands_on}
 use borrow.Struct.Lend.{kept_record, record_fill, record_apart}
 use Rattle.core.proofs.atomic.Steps.{fm}
-use Rattle.spin_core.specs.Writer.{with_value}
+use Rattle.spin_core.specs.Writer.{writer_of}
 use Rattle.spin_core.specs.declared.cell.Rule.{Ghosts}
 use Rattle.spin_core.specs.contracts.cell.WritePermit as Permit
 use Rattle.spin_core.specs.contracts.cell.WritePermit.get_mut as callee
@@ -87,9 +87,9 @@ deref_mut_spec 𝓤 𝓛 𝓜 𝓡 wired T V E P S K N LT LV LE LP LS LK LN rele
     sets ! (addr ! (through ! refl (fld ! refl (stop !)))) refl (tt, tt) $
     calls_at ! (fm 𝓛 𝓜 𝓡) C called yc (and_then ! (get ! refl) (no_more !)) (λ v.
     use1 𝓛 (later (some (λ (r : MutBor T.Denot). ((‵ (flft κ q) ⊛ (‵ β ⊛ (‵ τ ⊛ (‵ ν ⊛ (‵ π ⊛ (‵ ι ⊛ ‵ others)))))) ⊛ ‵ ((MutRef (named 0) κ R).own_val r (v ∷ []))) ⊛
-    some (λ (ws : Unit {0} × Unit {0}). ‵ (fsep ftrue ftrue) ⊛ (‵ (follows P' R δ r.ghost_name (with_value h.writer)) ⊛ raw (fact 𝓤 (r.now ≡ h.writer.value))))))) (id⊢ 𝓤 (C.post yc v)) $
+    some (λ (ws : Unit {0} × Unit {0}). ‵ (fsep ftrue ftrue) ⊛ (‵ (follows P' R δ r.ghost_name (writer_of h.writer)) ⊛ raw (fact 𝓤 (r.now ≡ h.writer.value))))))) (id⊢ 𝓤 (C.post yc v)) $
     await ! tt $ pick ! (λ r. split ! $ split ! $ move ! (1 ∷ []) $ fsplit3 ! $ feq_l ! (λ e. move ! (3 ∷ []) $ pick ! (λ ws. split3 ! $ drop ! $ move ! (5 ∷ 0 ∷ []) $
-    use2 𝓛 (‵ (follows G R γ r.ghost_name (guard_with h))) (follows_then 𝓛 G P' R (put ℓ T V E P S K N LT LV LE LP LS LK LN g h) (with_value h.writer) γ δ r.ghost_name) $
+    use2 𝓛 (‵ (follows G R γ r.ghost_name (guard_with h))) (follows_then 𝓛 G P' R (put ℓ T V E P S K N LT LV LE LP LS LK LN g h) (writer_of h.writer) γ δ r.ghost_name) $
     -- context: [what follows; the fact on the value; the value; its borrow; the tokens; u; ..]
     move ! (4 ∷ []) $ split3 ! $ move ! (2 ∷ []) $ split3 ! $ move ! (2 ∷ []) $ split3 ! $ move ! (1 ∷ 2 ∷ []) $ join ! $ move ! (10 ∷ 0 ∷ []) $ join ! $ move ! (1 ∷ 0 ∷ []) $ join ! $ move ! (9 ∷ 0 ∷ []) $ join ! $
     move ! (2 ∷ 0 ∷ []) $ join ! $ move ! (1 ∷ 0 ∷ []) $ join ! $ move ! (2 ∷ 0 ∷ []) $ join ! $ move ! (1 ∷ 0 ∷ []) $ join ! $

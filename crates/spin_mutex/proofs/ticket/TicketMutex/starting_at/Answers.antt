@@ -1,5 +1,5 @@
 use Rattle.std.proofs.Common.{[], refl, sym, ◌∙◌, subst, arith}
-use Rattle.spin_core.specs.Cell.{Meets}
+use Rattle.spin_core.specs.Cell.{MeetsRule}
 use Rattle.spin_session.specs.Meaning.{ways_of}
 use Rattle.spin_mutex.specs.Queue.{IsQueue, ticket_meaning}
 use denote.Param.{param}
@@ -14,4 +14,4 @@ new-cell-requires-clause-known g c = (λ no. absurd no, (λ v e. absurd (never_r
 
 pub new-cell-requires-clause-rule : goal.new-cell-requires-clause-rule
 new-cell-requires-clause-rule g c = let t = c.new-trace in let o = c.starting_at-opening in
-    ([], refl, subst (λ n. Meets (IsQueue o.result) (ways_of ticket_meaning o.result) n t.result []) o.ensures.3 (starts o.result t.result (sym o.ensures.0) t.ensures.0 (t.ensures.1 ∙ sym o.ensures.3) (rw o.ensures.3 (omega (arith, c.ranges.first)))), (opens_last o.result t.result.entries c.args.value t.ensures.0 o.ensures.1, tt))
+    ([], refl, subst (λ n. MeetsRule (IsQueue o.result) (ways_of ticket_meaning o.result) n t.result []) o.ensures.3 (starts o.result t.result (sym o.ensures.0) t.ensures.0 (t.ensures.1 ∙ sym o.ensures.3) (rw o.ensures.3 (omega (arith, c.ranges.first)))), (opens_last o.result t.result.entries c.args.value t.ensures.0 o.ensures.1, tt))

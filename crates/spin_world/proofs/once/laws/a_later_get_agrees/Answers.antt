@@ -1,4 +1,4 @@
-use Rattle.spin_world.proofs.Keeping.{a_later_get_agrees}
+use Rattle.spin_world.proofs.OneClosure.{a_later_get_agrees}
 use Rattle.spin_world.proofs.once.laws.a_later_get_agrees.Goals as goal
 
 pub returns : goal.returns

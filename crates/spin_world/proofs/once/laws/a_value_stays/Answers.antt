@@ -1,4 +1,4 @@
-use Rattle.spin_world.proofs.Keeping.{a_value_stays}
+use Rattle.spin_world.proofs.OneClosure.{a_value_stays}
 use Rattle.spin_world.proofs.once.laws.a_value_stays.Goals as goal
 
 pub returns : goal.returns

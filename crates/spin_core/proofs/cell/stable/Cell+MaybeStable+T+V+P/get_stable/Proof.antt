@@ -18,7 +18,7 @@ use Rattle.core.proofs.option.Made.{Some-of, none_of}
 use Rattle.core.proofs.alloc.Shapes.{after}
 use Rattle.spin_core.proofs.WalkSteps.{last_two}
 use Rattle.spin_core.proofs.Walking.{walks, as_u64, as_mut}
-use Rattle.spin_core.specs.Cell.{Starts, Lends}
+use Rattle.spin_core.specs.Cell.{Starts, MayLend}
 use Rattle.spin_core.specs.Stable.{StableAt}
 use Rattle.spin_core.specs.CellMemory.{offset}
 use Rattle.spin_core.specs.declared.cell.stable.Stabilizes.{Ghosts}
@@ -52,7 +52,7 @@ get_stable_spec 𝓤 𝓛 𝓜 𝓡 wired X U P K N L _ _ _ LN s d' g d _ _ =
     (λ κs. (as_mut (named 0) κs.0 Ty, (as_u64, tt))) (λ κs qs bounds a gh are Post out.
     let b = a.0.ref_ptr.0 in let o = a.0.ref_ptr.1 in let old = a.0.now in let key = g.lent old in let γ = a.0.ghost_name in let wanted = a.1.0 in let κ = κs.0 in let q = qs.0 in
     let e = o + offset R in let at = vptr b e in let Lent = MutRef (named 0) κ S in let Out = option.the_row Lent in
-    let Ok = StableAt (g.holds key) (g.ways key) s.stable wanted in let Same = Lends (g.holds old) (g.ways old) (g.holds key) (g.ways key) in let Q = sem 𝓛 (Row 𝓛 m ms V Y Kr g key b o) in
+    let Ok = StableAt (g.holds key) (g.ways key) s.stable wanted in let Same = MayLend (g.holds old) (g.ways old) (g.holds key) (g.ways key) in let Q = sem 𝓛 (Row 𝓛 m ms V Y Kr g key b o) in
     let Joined = Joins 𝓛 m ms V Y Kr g key b o Lw Ls (Row 𝓛 m ms V Y Kr g key b o) (row_out 𝓛 m ms V Y Kr g key b o) (row_in 𝓛 m ms V Y Kr g key b o) in
     let Rest : ℕ × N.Denot → SProp 𝓤 = λ ns. sep 𝓤 (sem 𝓛 (standing_words 𝓛 m ms V Y Kr g key b o ns)) Joined in
     let shuts = rejoined 𝓛 m ms V Y Kr g key b o Lw Ls (Row 𝓛 m ms V Y Kr g key b o) (row_out 𝓛 m ms V Y Kr g key b o) (row_in 𝓛 m ms V Y Kr g key b o) in

@@ -1,7 +1,7 @@
 use mathlib.Core.Logic.{inr}
 use Rattle.spin_core.specs.Spots.{spot}
 use Rattle.spin_core.specs.Own.{what}
-use Rattle.spin_core.specs.Passes.{IsStep}
+use Rattle.spin_core.specs.Passes.{IsOneStep}
 use Rattle.spin_session.specs.Turns.{has_begun, outcome_of}
 use Rattle.spin_once.specs.Accounts.{here}
 use Rattle.spin_once.specs.Once.{next_at, turn, view_of}
@@ -22,7 +22,7 @@ pub invariant_of-result : goal.invariant_of-result
 invariant_of-result g c =
     let a = c.args in let me = a.self in let f = c.operate-found in
     let on = has_begun (what me.party.view) in
-    accounts.keeps g.S.Seed.makes (here me) (spot f.result.1 f.result.2) f.result.0 me.knows me.named f.ensures.key (turn on a.call a.point) (λ n. view_of a.call (next_at a.call a.point n)) (λ n. IsStep on a.call (outcome_of (next_at a.call a.point n)))
+    accounts.keeps g.S.Seed.makes (here me) (spot f.result.1 f.result.2) f.result.0 me.knows me.named f.ensures.key (turn on a.call a.point) (λ n. view_of a.call (next_at a.call a.point n)) (λ n. IsOneStep on a.call (outcome_of (next_at a.call a.point n)))
     (λ own outs n v said. said) f.ensures.moved me.party.value f.result.1.value f.ensures.kept f.ensures.found (λ same. me.finds)
 
 pub returns : goal.returns

@@ -1,6 +1,6 @@
 use Rattle.std.proofs.Common.{true, None, ap, ◌∙◌, subst}
 use mathlib.Core.Logic.{inr}
-use Rattle.spin_core.specs.Passes.{IsStep}
+use Rattle.spin_core.specs.Passes.{IsOneStep}
 use Rattle.spin_step.specs.declared.answer.Answer.TheVariants.{Value}
 use Rattle.spin_step.specs.declared.schedule.Outcome.TheVariants.{Answered}
 use Rattle.spin_once.proofs.Moves.{gives_by}
@@ -28,19 +28,19 @@ pub returns-clause-since : goal.returns-clause-since
 returns-clause-since g c call p is on =
     let me = c.args.self.account in let f = c.operate-party in let so = c.put-party.ensures.same in let now = spot f.result.1 f.result.2 in
     completes p (here me) now call on
-    (took g.S.Seed.makes (here me) now f.result.0 me.knows me.named (f.ensures.key ∙ so.0) gives_by (λ n. reader) (λ n. IsStep true call (Answered (Value tt) None)) (λ own outs n v said. said) (rw (so.0, so.1) at f.ensures.moved)).0
+    (took g.S.Seed.makes (here me) now f.result.0 me.knows me.named (f.ensures.key ∙ so.0) gives_by (λ n. reader) (λ n. IsOneStep true call (Answered (Value tt) None)) (λ own outs n v said. said) (rw (so.0, so.1) at f.ensures.moved)).0
 
 pub invariant_of-result-2 : goal.invariant_of-result-2
 invariant_of-result-2 g c =
     let me = c.args.self.account in let f = c.operate-party in let so = c.put-party.ensures.same in record {
       reads =
-          (took g.S.Seed.makes (here me) (spot f.result.1 f.result.2) f.result.0 me.knows me.named (f.ensures.key ∙ so.0) gives_by (λ n. reader) (λ n. IsStep true (CallOnce tt) (Answered (Value tt) None)) (λ own outs n v said. said) (rw (so.0, so.1) at f.ensures.moved)).1;
+          (took g.S.Seed.makes (here me) (spot f.result.1 f.result.2) f.result.0 me.knows me.named (f.ensures.key ∙ so.0) gives_by (λ n. reader) (λ n. IsOneStep true (CallOnce tt) (Answered (Value tt) None)) (λ own outs n v said. said) (rw (so.0, so.1) at f.ensures.moved)).1;
     }
 
 pub invariant_of-result : goal.invariant_of-result
 invariant_of-result g c =
     let me = c.args.self.account in let f = c.operate-party in let so = c.put-party.ensures.same in let (call, may, is) = running_call (what me.party.view) c.args.self.runs in
-    let makes = g.S.Seed.makes in let now = spot f.result.1 f.result.2 in let course = IsStep true (CallOnce tt) (Answered (Value tt) None) in let moved = rw (so.0, so.1) at f.ensures.moved in
+    let makes = g.S.Seed.makes in let now = spot f.result.1 f.result.2 in let course = IsOneStep true (CallOnce tt) (Answered (Value tt) None) in let moved = rw (so.0, so.1) at f.ensures.moved in
     let reads = (took makes (here me) now f.result.0 me.knows me.named (f.ensures.key ∙ so.0) gives_by (λ n. reader) (λ n. course) (λ own outs n v said. said) moved).1 in
     keeps makes (here me) now f.result.0 me.knows me.named (f.ensures.key ∙ so.0) gives_by (λ n. reader) (λ n. course) (λ own outs n v said. said) moved
     c.put-party.result.value f.result.1.value (subst (λ (z : Place _ _). Keeps (once_ways makes z.0) z.1 f.result.1.view c.put-party.result.value f.result.1.value) (λ i. (so.0 i, so.1 i, me.seen)) f.ensures.kept) (rw (so.0, so.1) at f.ensures.found)

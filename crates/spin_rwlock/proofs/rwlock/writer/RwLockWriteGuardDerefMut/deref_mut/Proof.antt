@@ -24,7 +24,7 @@ use borrow.Struct.Lend.{kept_record, record_fill, record_apart}
 use Rattle.core.proofs.atomic.Steps.{fm}
 use Rattle.spin_core.proofs.Walking.{walks, as_mut, others, passed, passed_laws}
 use Rattle.spin_core.proofs.WalkSteps.{says}
-use Rattle.spin_core.specs.Writer.{with_value}
+use Rattle.spin_core.specs.Writer.{writer_of}
 use Rattle.spin_core.specs.contracts.cell.WritePermit as Permit
 use Rattle.spin_core.specs.contracts.cell.WritePermit.get_mut as callee
 use Rattle.spin_core.proofs.cell.WritePermit.get_mut.Met.{met}
@@ -142,10 +142,10 @@ deref_mut_spec {M} 𝓤 𝓛 𝓜 𝓡 wired T S LT LS =
     calls_at ! (fm 𝓛 𝓜 𝓡) C called yc (and_then ! (get ! refl) (no_more !)) (λ v.
     use1 𝓛 (later (some (λ (r : MutBor T.Denot). (‵ (others 7 κs' qs') ⊛ ‵ ((MutRef (named 0) κ R).own_val r (v ∷ []))) ⊛
     some (λ (ws : Unit {0} × Unit {0}). ‵ (fsep ftrue ftrue) ⊛
-    (‵ (follows P R δ r.ghost_name (with_value h.writer)) ⊛ raw (fact 𝓤 (r.now ≡ h.writer.value))))))) (id⊢ 𝓤 _) $
+    (‵ (follows P R δ r.ghost_name (writer_of h.writer)) ⊛ raw (fact 𝓤 (r.now ≡ h.writer.value))))))) (id⊢ 𝓤 _) $
     await ! tt $ pick ! (λ r. split ! $ split ! $ move ! (1 ∷ []) $ fsplit3 ! $ feq_l ! (λ e. move ! (3 ∷ []) $
     pick ! (λ ws. split3 ! $ drop ! $ move ! (5 ∷ 0 ∷ []) $
-    use2 𝓛 (‵ (follows G R γ r.ghost_name (write_with h))) (follows_then 𝓛 G P R (put ℓ T S LT LS h) (with_value h.writer) γ δ r.ghost_name) $
+    use2 𝓛 (‵ (follows G R γ r.ghost_name (write_with h))) (follows_then 𝓛 G P R (put ℓ T S LT LS h) (writer_of h.writer) γ δ r.ghost_name) $
     -- context: [what follows; the value; its place; its borrow; the tokens; the others]
     move ! (4 ∷ []) $ fsplit3 ! $ move ! (2 ∷ []) $ fsplit3 ! $ move ! (2 ∷ []) $ fsplit ! $ move ! (1 ∷ []) $ fsplit3 ! $
     use2 𝓛 (‵ more) (𝓛.lfts.lft_join τ (other (other s))) $ move ! (2 ∷ 0 ∷ []) $ use2 𝓛 (‵ rest) (𝓛.lfts.lft_join τ (other s)) $

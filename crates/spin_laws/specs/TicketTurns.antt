@@ -9,7 +9,7 @@ use Rattle.spin_core.specs.declared.tie.Opening.{Opening}
 use Rattle.spin_mutex.specs.Queue.{Made, model}
 use Rattle.spin_world_core.specs.Runs.{opening}
 use Rattle.spin_world_core.specs.Users.{seen_after}
-use Rattle.spin_world.specs.Turns.{tickets_gone}
+use Rattle.spin_world.specs.TicketOrder.{tickets_gone}
 use Rattle.spin_laws.specs.Moments.{OfPass}
 
 -- A party knew the history `old`. After that it has entered with a ticket. Now it knows the history `new` and has
