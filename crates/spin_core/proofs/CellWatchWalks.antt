@@ -1,6 +1,6 @@
 -- How the walk of a step begins and ends: a permit is opened for a step on its cell, and closed at its new view, with a
 -- watch of the trace. Assumes `Logic`.
-use Rattle.std.proofs.Common.{◌≡◌, ℕ, ◌+◌, ◌<◌, ◌^◌, List, [], ◌∷◌, ◌++◌, Option, Some, refl, w64}
+use Rattle.std.proofs.Common.{ℕ, ◌+◌, ◌<◌, ◌^◌, List, [], ◌∷◌, ◌++◌, Option, Some, refl, w64}
 use seplogic.Ra.Ura.{Ura}
 use mir.Val.{Val, vint, vstruct, vcons, vnil, of_list}
 use base.Logic.{SProp, sep, apply∗, id⊢}
@@ -26,9 +26,9 @@ use Rattle.spin_core.specs.contracts.trace.Watch as watch
 use Rattle.spin_core.specs.declared.trace.Watch.{Watch}
 use Rattle.spin_core.specs.declared.cell.Permit.{Permit}
 use Rattle.spin_core.proofs.TraceTokens.{token, Token, token_made}
-use Rattle.spin_core.specs.Cell.{Ways, use_of, Keeps}
+use Rattle.spin_core.specs.Cell.{Ways, use_of}
 use Rattle.spin_core.specs.CellMemory.{second_at, Known as Shares, Id, inner, kept, permit_owns}
-use Rattle.spin_core.specs.Traced.{Watches, Learnt, Named, MayKnow, Traces, TracesSecond}
+use Rattle.spin_core.specs.Traced.{MadeStep, MayKnow, Traces, TracesSecond}
 use Rattle.spin_core.specs.declared.cell.Rule.{Ghosts}
 use Rattle.spin_core.specs.contracts.cell.Permit as permit
 use Rattle.spin_core.proofs.PermitFields.{hand_of, Words, made}
@@ -84,7 +84,10 @@ module _ {M : Type 1} {𝓤 : Ura M} (𝓛 : Logic 𝓤) (𝓜 : Model 𝓤 𝓛
   -- A step of the party with this permit and this watch. The step has two tokens: one of the cell's borrow β, and one
   -- of a lifetime τ of the value's type. `answer` makes the step's answer from the number found.
   module _ (h : Hr.Denot) (q : Share) (τ : Lft) (r : Share) (seen : Watch Er.Denot)
-      (told : List Er.Denot → List Er.Denot → ℕ → W.Denot → Type 0) (answer : ℕ → ℕ) where
+      (tells : Kr.Denot → Option W.Denot → List Er.Denot → List Er.Denot → ℕ → W.Denot → Type 0) (answer : ℕ → ℕ) where
+    abbrev told : List Er.Denot → List Er.Denot → ℕ → W.Denot → Type 0
+    told = tells h.key h.view
+
     abbrev ways : Ways R.Denot W.Denot Sr.Denot
     ways = g.ways h.key
 
@@ -131,17 +134,8 @@ module _ {M : Type 1} {𝓤 : Ura M} (𝓛 : Logic 𝓤) (𝓜 : Model 𝓤 𝓛
       abbrev back : SProp 𝓤
       back = ⟦ Remains ⟧ ∗ Gives ∗ A.lft τ r
 
-    -- what the party learns of the value, if the trace has these entries after the step
-    abbrev finds : List Er.Denot → W.Denot → Option R.Denot → Type 0
-    finds es w x = Learnt ways.2 (use_of ways.1 h.view) (ways.1 w) h.value x es
-
-    -- what the step tells, if it returns the watch with this name and these entries
-    abbrev then : ℕ × List Er.Denot → ℕ → W.Denot → Type 0
-    then l = Watches (Named (g.holds h.key) ways seen.name) seen (knowing l) told
-
     abbrev Says : ℕ × List Er.Denot → ℕ → W.Denot × Option R.Denot → Item 𝓤
-    Says l n s = raw (fact 𝓤 (then l n s.0)) ⊛ raw (fact 𝓤 (Keeps ways h.view (Some s.0) h.value s.1)) ⊛ raw (fact 𝓤 (finds l.1 s.0 s.1))
-        ⊛ raw (fact 𝓤 (h.key ≡ h.key))
+    Says l n s = raw (fact 𝓤 (MadeStep g.holds g.ways tells h seen n (next h b o s) (knowing l)))
 
     abbrev Tokens : Fml → Item 𝓤
     Tokens os = ‵ (flft β q) ⊛ ‵ (flft τ r) ⊛ ‵ os
@@ -161,8 +155,8 @@ module _ {M : Type 1} {𝓤 : Ura M} (𝓛 : Logic 𝓤) (𝓜 : Model 𝓤 𝓛
           move t (4 ∷ 1 ∷ []) $ use2 𝓛 (later (‵ (flft β q))) (apply∗ 𝓤 (A.lft k.1.0.life k.1.1) (H.⇛ (A.lft β q))) $
           await t z $ move t (1 ∷ []) $
           use0 𝓛 (‵ ((Words ℓ R W Y Kr Sr g).own_val (here, (tt, tt)) (hand_of here ∷ []))) (made ℓ R W Y Kr Sr g 𝓛 here) $ fjoin t $
-          says t (h.key ≡ h.key) refl $ says t (finds l.1 v.0 v.1) so.0.1 $ join t $ says t (Keeps ways h.view (Some v.0) h.value v.1) so.1 $ join t $
-          says t (then l n v.0) (p.1, (s.1.0, s.1.1, p.0, refl, so.0.0)) $ join t $
+          says t (MadeStep g.holds g.ways tells h seen n (next h b o v) (knowing l))
+          (record { moved = (p.1, (s.1.0, s.1.1, p.0, refl, so.0.0)); kept = so.1; found = so.0.1; key = refl }) $
           -- context: [what the step says; the permit; two tokens; what the watch knows; the other tokens]
           move t (3 ∷ 5 ∷ []) $ join t $ move t (3 ∷ 0 ∷ []) $ join t $ move t (3 ∷ []) $
           use0 𝓛 (‵ ((Token Er).own_val (record {}, tt) (token ∷ []))) (token_made Er 𝓛) $ fjoin t $
@@ -246,23 +240,23 @@ module _ {M : Type 1} {𝓤 : Ura M} (𝓛 : Logic 𝓤) (𝓜 : Model 𝓤 𝓛
 -- a step on the first word, and one on the second word, if that is a number
 module _ {M : Type 1} {𝓤 : Ura M} {𝓛 : Logic 𝓤} {𝓜 : Model 𝓤 𝓛.H} {𝓡 : Running 𝓤 𝓛.H 𝓜} {ℓ : NamedLft}
     {T W Y Kr Er : RattleType} {L : Laws T} {q : Share} {τ : Lft} {r : Share} {seen : Watch Er.Denot}
-    {told : List Er.Denot → List Er.Denot → ℕ → W.Denot → Type 0} {answer f : ℕ → ℕ} where
+    {tells : Kr.Denot → Option W.Denot → List Er.Denot → List Er.Denot → ℕ → W.Denot → Type 0} {answer f : ℕ → ℕ} where
   pub asks_first : {Ur : RattleType} {g : Ghosts Y.Denot T.Denot W.Denot Kr.Denot (trace.the_row Er Ur).Denot}
       {h : (permit.the_row ℓ (param 0 T) W Y Kr (trace.the_row Er Ur) g).Denot}
       → MayKnow (g.holds h.key) (g.ways h.key) seen × Traces (g.holds h.key) (g.ways h.key) h.view h.value f
-      (λ log es n. told log es (answer n))
-      → Asks 𝓛 𝓜 𝓡 ℓ T W Y Kr Er Ur L g h q τ r seen told answer (block_ptr (block_of h.cell) (count_of h.cell + 0)) f
+      (λ log es n. tells h.key h.view log es (answer n))
+      → Asks 𝓛 𝓜 𝓡 ℓ T W Y Kr Er Ur L g h q τ r seen tells answer (block_ptr (block_of h.cell) (count_of h.cell + 0)) f
   asks_first {Ur = Ur} {g} {h} asked = record {
     step = λ k. steps.first_steps 𝓛 Er Ur (param 0 T) (param_laws 0 T L).shr_laws _ _ k.1.0 W.coded (g.holds h.key)
-        (g.ways h.key) h.view h.value (λ log es n. told log es (answer n)) k.1.1 f _ _ asked.0 asked.1;
+        (g.ways h.key) h.view h.value (λ log es n. tells h.key h.view log es (answer n)) k.1.1 f _ _ asked.0 asked.1;
   }
 
   pub asks_second : {g : Ghosts Y.Denot T.Denot W.Denot Kr.Denot (trace.the_row Er u64).Denot}
       {h : (permit.the_row ℓ (param 0 T) W Y Kr (trace.the_row Er u64) g).Denot}
       → MayKnow (g.holds h.key) (g.ways h.key) seen × TracesSecond (g.holds h.key) (g.ways h.key) h.view h.value f
-      (λ log es n. told log es (answer n)) → Asks 𝓛 𝓜 𝓡 ℓ T W Y Kr Er u64 L g h q τ r seen told answer
+      (λ log es n. tells h.key h.view log es (answer n)) → Asks 𝓛 𝓜 𝓡 ℓ T W Y Kr Er u64 L g h q τ r seen tells answer
       (block_ptr (block_of h.cell) ((count_of h.cell + second_at (trace.the_row Er u64) (param 0 T)) + 0)) f
   asks_second {g = g} {h} asked = record {
     step = λ k. steps.second_steps 𝓛 Er (param 0 T) (param_laws 0 T L).shr_laws _ _ k.1.0 W.coded (g.holds h.key)
-        (g.ways h.key) h.view h.value (λ log es n. told log es (answer n)) k.1.1 f _ _ asked.0 asked.1;
+        (g.ways h.key) h.view h.value (λ log es n. tells h.key h.view log es (answer n)) k.1.1 f _ _ asked.0 asked.1;
   }

@@ -4,7 +4,8 @@ use Rattle.std.specs.Prelude.{◌≡◌, ◌⊎◌, ℕ, ◌<◌, List, [], ◌+
 use mathlib.Core.List.{IsPrefix}
 use Rattle.spin_core.specs.declared.trace.Trace.{Trace}
 use Rattle.spin_core.specs.declared.trace.Watch.{Watch}
-use Rattle.spin_core.specs.Cell.{Use, Knowledge, no_fact, knows, Ways, Going, Carrying, Learns, MeetsRule, HasView, OnWord, by_first, by_second, after, use_of, readers_of, word_limit}
+use Rattle.spin_core.specs.declared.cell.Permit.{Permit}
+use Rattle.spin_core.specs.Cell.{Use, Knowledge, no_fact, knows, Ways, Going, Carrying, Learns, Keeps, MeetsRule, Moved, HasView, OnWord, by_first, by_second, after, use_of, readers_of, word_limit}
 
 module _ {E S : Type 0} where
   -- the trace with these entries appended
@@ -57,3 +58,13 @@ module _ {X V E S : Type 0} (holds : ℕ → Trace E S → List V → Type 0) (w
 module _ {X V E : Type 0} (holds : ℕ → Trace E ℕ → List V → Type 0) (ways : Ways X V (Trace E ℕ)) where
   abbrev pub TracesSecond : Option V → Option X → (ℕ → ℕ) → (List E → List E → ℕ → V → Type 0) → Type 0
   TracesSecond view shown f told = TracesTo holds ways view shown (by_second f) told
+
+-- A party has made a step on a word, which found the number n, and which says what `told` says. Before it the party had this permit and this
+-- watch; now it has the permit `now` and the watch `known`.
+pub record MadeStep {T V E S K P : Type 0} (holds : K → ℕ → Trace E S → List V → Type 0) (ways : K → Ways T V (Trace E S))
+    (told : K → Option V → List E → List E → ℕ → V → Type 0) (before : Permit T V P K (Trace E S)) (seen : Watch E) (n : ℕ)
+    (now : Permit T V P K (Trace E S)) (known : Watch E) : Type 0 where
+  pub moved : Moved (Watches (Named (holds before.key) (ways before.key) seen.name) seen known (told before.key before.view) n) now.view
+  pub kept : Keeps (ways before.key) before.view now.view before.value now.value
+  pub found : Found (ways before.key) before.view now.view before.value now.value known
+  pub key : now.key ≡ before.key

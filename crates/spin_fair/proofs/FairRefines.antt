@@ -1,11 +1,11 @@
 -- The table of a fair lock refines the plain lock: of its holders and starvers at most one holds.
-use Rattle.std.proofs.Common.{◌≡◌, ◌≢◌, ◌⊎◌, ℕ, ◌+◌, ◌<◌, ◌≤◌, ◌%◌, ◌==◌, false, if◌then◌else◌, Option, Some, None, List, [], length, inr, bit_or, ◌/◌, slice_get, refl, arith}
+use Rattle.std.proofs.Common.{◌≡◌, ◌≢◌, ◌⊎◌, ℕ, ◌+◌, ◌<◌, ◌≤◌, ◌%◌, ◌==◌, if◌then◌else◌, Option, Some, None, List, [], length, inr, bit_or, ◌/◌, slice_get, refl, arith}
 use Rattle.std.proofs.lemmas.Nat.{or_block}
 use Rattle.std.specs.Int.Bits.{or_zero_r}
 use Rattle.spin_step.specs.Plain.{Plain, writing, fair_word}
 use Rattle.spin_step.specs.Parties.{OneHolds}
 use Rattle.spin_step.specs.Orders.{IsInOrder}
-use Rattle.spin_step.specs.Acts.{Table, is_section}
+use Rattle.spin_step.specs.Acts.{Table}
 use Rattle.spin_step.specs.declared.answer.Answer.{Answer}
 use Rattle.spin_step.specs.declared.place.Hold.{Hold}
 use Rattle.spin_step.specs.declared.place.Hold.TheVariants as hold
@@ -19,8 +19,8 @@ use Rattle.spin_step_more.specs.declared.fair_calls.FairPoint.TheVariants.{First
 use Rattle.spin_step_more.specs.Starvers.{most_starvers}
 use Rattle.spin_step_more.specs.FairCalls.{fair_table}
 use Rattle.spin_step_more.proofs.FairSteps.{fair_lock-grants, fair_starve-grants, fair_lock_fair-grants, fair_lock_starved-grants, fair_unstarve-gives, fair_unlock-gives}
-use Rattle.spin_core.specs.Cell.{word_limit, reads, reading, writing as writes_of, MeetsRule}
-use Rattle.spin_core.specs.Views.{Part, HasPart, IsLockOf, entries_of_part}
+use Rattle.spin_core.specs.Cell.{word_limit, reading, writing as writes_of, MeetsRule}
+use Rattle.spin_core.specs.Views.{Part, starves, HasPart, IsLockOf, entries_of_part}
 use Rattle.spin_core.specs.declared.tie.Opening.{Opening}
 use Rattle.spin_core.specs.declared.trace.Trace.{Trace}
 use Rattle.spin_core.proofs.Leaving.{fair_word-up}
@@ -49,20 +49,24 @@ module _ {T : Type 0} (value : T) (p : ℕ) (s : Plain) (from : Part) (room : s.
   small : fair_word s < word_limit
   small = omega (arith, room, order.starvers_fit, one)
 
+  -- a starver sets the flag
+  sets : (c : FairCall) (h : Option Hold) → ComesFrom (fair_table value most_starvers patience) fair_meaning c SetFlag h from → Sound (fair_table value most_starvers patience) fair_meaning c SetFlag h p s from
+  sets c h comes = let e : from ≡ starves = grind (arith, comes) in
+      grind (arith, comes, has.0, is_starver-from_entries p s.starvers, fair_lock_starved-grants s p (fair_word s) one, set_is (fair_word s))
+
   -- what each step of a call is in the plain lock
-  sound : (c : FairCall) (l : FairPoint) (h : Option Hold) → ComesFrom (fair_table value most_starvers patience) fair_meaning c l h from → Sound (fair_table value most_starvers patience) fair_meaning c l h p s from
-  sound Release First h comes = grind (arith, comes, has.0, is_holder-from_entries p writing s.holders, release-own s p writing, fair_unlock-gives s p writing (fair_word s) refl, length-without_holder p writing s.holders, small)
-  sound StarverDrop First h comes = grind (arith, comes, has.0, is_starver-from_entries p s.starvers, fair_unstarve-gives s p (fair_word s) refl, length-without_starver p s.starvers, small)
-  sound c Unregister h comes = grind (arith, comes, has.0, is_starver-from_entries p s.starvers, fair_unstarve-gives s p (fair_word s) refl, length-without_starver p s.starvers, small)
-  sound StarverTryLockFair First h comes = grind (arith, comes, has.0, is_starver-from_entries p s.starvers, fair_lock_fair-grants s p (fair_word s) one)
-  sound c SetFlag h comes = grind (arith, comes, has.0, is_starver-from_entries p s.starvers, fair_lock_starved-grants s p (fair_word s) one, set_is (fair_word s))
-  sound c (Register n) h comes = grind (arith, comes, fair_starve-grants s p (fair_word s) most_starvers one room refl)
-  sound c l h comes = grind (arith, comes, fair_lock-grants s p (fair_word s) refl)
+  sound : (l : FairPoint) (c : FairCall) (h : Option Hold) → ComesFrom (fair_table value most_starvers patience) fair_meaning c l h from → Sound (fair_table value most_starvers patience) fair_meaning c l h p s from
+  sound First Release h comes = grind (arith, comes, has.0, is_holder-from_entries p writing s.holders, release-own s p writing, fair_unlock-gives s p writing (fair_word s) refl, length-without_holder p writing s.holders, small)
+  sound First StarverDrop h comes = grind (arith, comes, has.0, is_starver-from_entries p s.starvers, fair_unstarve-gives s p (fair_word s) refl, length-without_starver p s.starvers, small)
+  sound Unregister c h comes = grind (arith, comes, has.0, is_starver-from_entries p s.starvers, fair_unstarve-gives s p (fair_word s) refl, length-without_starver p s.starvers, small)
+  sound First StarverTryLockFair h comes = grind (arith, comes, has.0, is_starver-from_entries p s.starvers, fair_lock_fair-grants s p (fair_word s) one)
+  sound SetFlag c h comes = sets c h comes
+  sound (Register n) c h comes = grind (arith, comes, fair_starve-grants s p (fair_word s) most_starvers one room refl)
+  sound l c h comes = grind (arith, comes, fair_lock-grants s p (fair_word s) refl)
 
 -- A party that uses the value holds the lock, and writes.
 facts : (v : View) → MayWrite (part_of fair_meaning) (part_of fair_meaning v) × (reading (use_at fair_meaning v) ≡ 0) × (writes_of (use_at fair_meaning v) ≤ length (entries_of_part 0 (part_of fair_meaning v)).holders)
-facts (Holding hold.Write) = (λ p. refl, refl, omega arith)
-facts v = (λ p. grind arith, grind arith, grind arith)
+facts v = grind arith
 
 pub one_holder : (vs : List View) (plain : Plain) → IsInOrder plain → IsLockOf (part_of fair_meaning) vs plain → OneHolds plain
 one_holder = one_holds (part_of fair_meaning) (λ v. (facts v).0)
@@ -71,27 +75,21 @@ module _ {T : Type 0} (value : T) where
   abbrev table : Table ℕ T FairCall FairPoint (Answer T)
   table = fair_table value most_starvers patience
 
-  operates : (c : FairCall) (l : FairPoint) (h : Option Hold) → is_section (table.act c l h) ≡ false
-  operates = grind arith
-
   pub fair_refines : Refines table fair_meaning
   fair_refines = record {
     one_word = λ l. refl;
-    operates = operates;
-    writes_word = λ c l h w. word_is T (table.act c l h) w (operates c l h);
+    operates = grind arith;
+    writes_word = λ c l h w. word_is T (table.act c l h) w (grind arith);
     opens_at = (refl, refl);
     bounds_opening = tt;
     nobody = fair_word-up;
     fits = one_user (part_of fair_meaning) facts most_starvers;
     goes = grind arith;
-    sound = λ c l h p plain vs from comes room order is fine has. sound value p plain from room order (one_holder vs plain order is) has c l h comes;
+    sound = λ c l h p plain vs from comes room order is fine has. sound value p plain from room order (one_holder vs plain order is) has l c h comes;
   }
 
 pub starts : {T : Type 0} (opening : Opening T) (trace : Trace (Done T) (Unit {0})) → trace.name ≡ opening.name → trace.entries ≡ [] → MeetsRule (IsFair opening) (ways_of fair_meaning opening) 0 trace []
 starts opening trace named empty = session.starts (fair_table opening.value most_starvers patience) fair_meaning (fair_refines opening.value) opening trace named empty
-
-pub never_reads : (v : View) → use_at fair_meaning v ≡ reads → ⊥
-never_reads v e = grind (arith, e)
 
 -- A newcomer that asks for the reason is granted the lock, or finds it held, or finds a starver.
 module _ {T : Type 0} (p q : FairSpot T) (a : Answer (Unit {0})) (after : Option Hold) (so : Ended fair_tables fair_meaning TryLockStarver None a after p q) where

@@ -9,10 +9,7 @@ use Rattle.spin_core.proofs.Views.{part-there, part-beyond}
 use Rattle.spin_step.specs.declared.place.Hold.TheVariants as hold
 use Rattle.spin_step.specs.declared.place.Seat.TheVariants.{Holding}
 use Rattle.spin_mutex.specs.Queue.{View, part, Word}
-use Rattle.spin_mutex.specs.TicketQueue.{tickets_of, IsPlainQueue, stands_with, IsInTurn}
-
-standing : (id : ℕ) (v : View) → (entries_of_part id (part v)).tickets ≡ tickets_of id v
-standing id v = grind arith
+use Rattle.spin_mutex.specs.TicketQueue.{IsPlainQueue, stands_with, IsInTurn}
 
 pub plain_queue : (next serving : ℕ) (vs : List View) (is : Word next serving vs) → IsPlainQueue is.0 next serving vs
 plain_queue next serving vs is = record {
@@ -20,18 +17,15 @@ plain_queue next serving vs is = record {
   serving_is = is.5;
   numbered = is.2.numbered;
   one_entered = is.2.exclusive.one_entered;
-  parties = λ id v at. ap (λ e. e.tickets) (is.3 id).0 ∙ (ap (λ x. (entries_of_part id x).tickets) (part-there part id v vs at) ∙ standing id v);
+  parties = λ id v at. ap (λ e. e.tickets) (is.3 id).0 ∙ (ap (λ x. (entries_of_part id x).tickets) (part-there part id v vs at) ∙ grind arith);
   nobody_else = λ id far. ap (λ e. e.tickets) (is.3 id).0 ∙ ap (λ x. (entries_of_part id x).tickets) (part-beyond part id vs far);
 }
-
-stands : (t p : ℕ) (v : View) → one_if (stands_with t v) ≡ sum_by (has_number t) (entries_of_part p (part v)).tickets
-stands t p v = grind arith
 
 pub in_turn : (next serving : ℕ) (vs : List View) → Word next serving vs → IsInTurn next serving vs
 in_turn next serving vs is = let s = is.0 in let order = is.2 in
     let plain = plain_queue next serving vs is in
     let count : (t : ℕ) → count_by (stands_with t) vs ≡ sum_by (has_number t) s.tickets = λ t.
-    exactly (λ u. u.party) (has_number t) part (λ v. one_if (stands_with t v)) (λ p x. sum_by (has_number t) (entries_of_part p x).tickets) (λ p v. stands t p v) vs s.tickets
+    exactly (λ u. u.party) (has_number t) part (λ v. one_if (stands_with t v)) (λ p x. sum_by (has_number t) (entries_of_part p x).tickets) (λ p v. grind arith) vs s.tickets
     (λ p. ap (λ e. sum_by (has_number t) e.tickets) (is.3 p).0) (λ p. refl) in
     record {
       in_order = omega (arith, is.4, is.5, order.numbered.0);

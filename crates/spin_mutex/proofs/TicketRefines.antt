@@ -1,5 +1,5 @@
 -- The table of tickets can be executed by a cell of two words.
-use Rattle.std.proofs.Common.{◌≡◌, ◌≤◌, ◌<◌, ◌+◌, ◌-◌, ◌%◌, ◌^◌, ℕ, [], true, false, Option, Some, None, List, zero, suc, refl, ap, sym, ◌∙◌, arith, subst}
+use Rattle.std.proofs.Common.{◌≡◌, ◌≤◌, ◌+◌, ◌-◌, ◌%◌, ◌^◌, ℕ, [], true, false, Option, Some, None, List, zero, suc, refl, ap, sym, ◌∙◌, arith, subst}
 use Rattle.std.proofs.lemmas.Bool.{eqb-true}
 use Rattle.spin_step.specs.Plain.{Plain, ticket_limit, fresh, is_first, next_word, serving_word}
 use Rattle.spin_step.specs.Orders.{IsInOrder}
@@ -7,7 +7,7 @@ use Rattle.spin_step.proofs.InOrder.{in_order-fresh}
 use Rattle.spin_step.proofs.TicketSteps.{ticket_take-grants, ticket_take-grants_alone, ticket_serve-gives}
 use Rattle.spin_step.proofs.Tickets.{serving-taken, serving-entered, entered_is_served, first-length, enters_in_turn}
 use Rattle.spin_step.specs.TicketCalls.{ticket_table, ticket_memory, word_of, act_of}
-use Rattle.spin_step.specs.Acts.{Table}
+use Rattle.spin_step.specs.Acts.{Table, next_of}
 use Rattle.spin_step.specs.declared.answer.Answer.{Answer}
 use Rattle.spin_step.specs.declared.place.Hold.{Hold}
 use Rattle.spin_step.specs.declared.place.Hold.TheVariants as hold
@@ -19,31 +19,25 @@ use Rattle.spin_step.specs.declared.ticket_calls.TicketPoint.{TicketPoint}
 use Rattle.spin_step.specs.declared.ticket_calls.TicketPoint.TheVariants.{Take, Await, TryTake, Serve}
 use Rattle.spin_core.specs.Views.{Part, queues, HasPart, IsLockOf}
 use Rattle.spin_core.proofs.Leaving.{serving_word-up}
-use Rattle.spin_core.proofs.Owners.{OfTickets, one_ticket}
+use Rattle.spin_core.proofs.Owners.{one_ticket}
 use Rattle.spin_session.specs.Meaning.{Peeks, use_at, ways_of, with_second, FindsAt, SoundOn, part_of, seat_after, ComesFrom, RefinesOn}
-use Rattle.spin_core.specs.Cell.{reads, writes, MeetsRule}
+use Rattle.spin_core.specs.Cell.{writes, MeetsRule}
 use Rattle.spin_core.specs.declared.tie.Opening.{Opening}
 use Rattle.spin_core.specs.declared.trace.Trace.{Trace}
-use Rattle.spin_session.specs.Operating.{Executes, SameSteps}
+use Rattle.spin_session.specs.Operating.{Executes}
 use Rattle.spin_session.proofs.Executing.{executes_on}
 use Rattle.spin_session.proofs.Refining.{starts_on}
 use Rattle.spin_mutex.specs.Queue.{View, Made, IsQueue, part, ticket_meaning, ticket_tables}
-
-pub kind : (v : View) → OfTickets part v
-kind v = grind arith
 
 opened : (n : ℕ) → n ≡ n - 0
 opened n = omega arith
 
 module _ {T : Type 0} (value : T) (first : ℕ) where
-  abbrev w₀ : TicketWords
-  w₀ = record { next = first; serving = first }
-
   abbrev t : Table TicketWords T TicketCall TicketPoint (Answer T)
   t = ticket_table value first
 
   abbrev Step : TicketCall → TicketPoint → Option Hold → ℕ → Plain → Part → Type 0
-  Step c l h = SoundOn with_second ticket_memory w₀ (word_of l) (λ x. (next_word x, serving_word x)) (λ n. Unit {0}) (act_of l h) (λ next. part_of ticket_meaning (seat_after {A = Answer T} c h next))
+  Step c l h = SoundOn with_second ticket_memory (record { next = first; serving = first }) (word_of l) (λ x. (next_word x, serving_word x)) (λ n. Unit {0}) (act_of l h) (λ next. part_of ticket_meaning (seat_after {A = Answer T} c h next))
 
   module _ (p : ℕ) (plain : Plain) (order : IsInOrder plain) where
     -- the ticket of a party that has entered is the first one, and the one served
@@ -51,12 +45,9 @@ module _ {T : Type 0} (value : T) (first : ℕ) where
       own : (is_first p true plain.tickets ≡ true) × (serving_word plain ≡ t)
       own = entered_is_served plain p t order.numbered order.exclusive.one_entered (ap (λ e. e.tickets) has.0)
 
-      below : t < ticket_limit
-      below = omega (arith, order.within_limit, order.numbered.0, first-length p true plain.tickets own.0, own.1)
-
       frees : Step Release (Serve t) (Some (hold.Ticket t)) p plain (queues t true)
       frees =
-          let small : (t + 1) % 2 ^ 64 ≡ t + 1 = omega (arith, below) in
+          let small : (t + 1) % 2 ^ 64 ≡ t + 1 = omega (arith, order.within_limit, order.numbered.0, first-length p true plain.tickets own.0, own.1) in
           record { opens = (refl, own.0); entries = refl; knows = tt; counts = λ i. (next_word plain, (small ∙ ticket_serve-gives plain p t order.numbered.0 own.1 own.0) i); same = small; bounded = tt }
 
   sound : (c : TicketCall) (l : TicketPoint) (h : Option Hold) (p : ℕ) (plain : Plain) (vs : List View) (from : Part) → ComesFrom (ticket_table value first) ticket_meaning c l h from → plain.cap ≡ 0 → IsInOrder plain → IsLockOf (part_of ticket_meaning) vs plain → Unit {0}
@@ -84,14 +75,14 @@ module _ {T : Type 0} (value : T) (first : ℕ) where
     opens_at = (λ i. (first, opened first i), tt);
     empty = λ l. empty (word_of l);
     nobody = (λ k s. refl, serving_word-up);
-    fits = one_ticket part kind 0;
+    fits = one_ticket part (λ v. grind arith) 0;
     goes = grind arith;
     sound = sound;
   }
 
-  -- the steps do not depend on the number with which the words open
-  pub alike : SameSteps (ticket_table value 0) (ticket_table value first)
-  alike = record { begins = λ c h. refl; places = λ l. refl; operations = λ c l h. refl; goes = λ c l h n. grind arith }
+  -- how a call goes on does not depend on the number with which the words open
+  pub goes_alike : (c : TicketCall) (l : TicketPoint) (h : Option Hold) (n : ℕ) → next_of (ticket_table value 0) c l h n ≡ next_of (ticket_table value first) c l h n
+  goes_alike c l h n = grind arith
 
 pub starts : {T : Type 0} (key : Opening T) (t : Trace (Made T) ℕ) → t.name ≡ key.name → t.entries ≡ [] → t.word ≡ key.start → key.start ≤ ticket_limit → MeetsRule (IsQueue key) (ways_of ticket_meaning key) key.start t []
 unfolding ticket_refines
@@ -99,15 +90,12 @@ starts key t named empty word small =
     starts_on with_second (ticket_table key.value key.start) ticket_meaning (ticket_refines key.value key.start) key small t named empty (word ∙ opened key.start)
 
 pub ticket_executes : {T : Type 0} → Executes with_second (ticket_tables {T = T}) ticket_meaning IsQueue (ways_of ticket_meaning)
-ticket_executes {T} = executes_on with_second (ticket_tables {T = T}) ticket_meaning alike (λ start value. ticket_refines value start)
+ticket_executes {T} = executes_on with_second (ticket_tables {T = T}) ticket_meaning (λ start value. ticket_refines value start)
 
 -- only a party with a ticket that has entered writes
 pub entered_of : (v : View) → use_at ticket_meaning v ≡ writes → (n : ℕ) × (v ≡ Holding (hold.Ticket n))
 entered_of (Holding (hold.Ticket n)) uses = (n, refl)
 entered_of v uses = absurd (grind (arith, uses))
-
-pub never_reads : (v : View) → use_at ticket_meaning v ≡ reads → ⊥
-never_reads v e = grind (arith, e)
 
 -- a party that writes, and found this number served, has entered with the ticket of this number
 pub peeked_seat : (v : View) (found : ℕ) → use_at ticket_meaning v ≡ writes → Peeks with_second ticket_meaning v found → v ≡ Holding (hold.Ticket found)

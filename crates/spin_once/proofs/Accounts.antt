@@ -1,13 +1,14 @@
 -- What a step tells a party that keeps a record of its calls, and how the party's steps add up to its calls.
-use Rattle.std.proofs.Common.{◌≡◌, ◌≤◌, le_of_eq, ◌++◌, ℕ, ◌+◌, true, false, Option, Some, None, List, [], ◌∷◌, length, arith, sym, ap, ◌∙◌, subst}
+use Rattle.std.proofs.Common.{◌≡◌, ◌≤◌, le_of_eq, ◌++◌, ℕ, ◌+◌, true, false, Option, Some, None, List, [], ◌∷◌, length, arith, refl, sym, ap, ◌∙◌, subst}
 use mathlib.Core.Logic.{◌⊎◌, inl, inr}
-use Rattle.spin_core.specs.Cell.{Moved, Keeps, use_of, off, writes}
+use Rattle.spin_core.specs.Cell.{use_of, off}
 use Rattle.spin_core.specs.Own.{Numbered, what}
 use Rattle.spin_core.specs.Passes.{own_mark, IsCall, Begins as BeginsWith, IsOneStep, Waits}
 use Rattle.spin_core.specs.Spots as spots
-use Rattle.spin_core.specs.Stable.{maybe_stable}
-use Rattle.spin_core.specs.Traced.{Watches, Named, Found}
-use Rattle.spin_core.specs.declared.cell.stable.MaybeStable.{MaybeStable}
+use Rattle.spin_core.specs.Spots.{spot}
+use Rattle.spin_core.specs.Traced.{MadeStep, Named}
+use Rattle.spin_core.specs.declared.cell.Permit.{Permit}
+use Rattle.spin_core.specs.declared.trace.Trace.{Trace}
 use Rattle.spin_core.specs.declared.trace.Watch.{Watch}
 use Rattle.spin_core.proofs.Passes as passes
 use Rattle.spin_core.proofs.Passes.{Learnt, one_number}
@@ -16,21 +17,21 @@ use Rattle.spin_core.proofs.Spots.{both, in_one, comes_in, stays_in, is_answered
 use Rattle.spin_core.proofs.Ties as tie
 use Rattle.spin_session.specs.Turns.{outcome_of, has_begun}
 use Rattle.spin_step.specs.declared.answer.Answer.TheVariants.{Failed, Value}
-use Rattle.spin_step.specs.declared.once_calls.OnceCall.TheVariants.{TryCallOnceOk}
+use Rattle.spin_step.specs.declared.once_calls.OnceCall.TheVariants.{TryCallOnceOk, Wait}
 use Rattle.spin_step.specs.declared.once_calls.OncePoint.{OncePoint}
 use Rattle.spin_step.specs.declared.once_calls.OncePoint.TheVariants.{Run}
 use Rattle.spin_step.specs.declared.place.Seat.TheVariants.{Idle}
 use Rattle.spin_step.specs.declared.schedule.Move.TheVariants.{Step, Weak}
 use Rattle.spin_step.specs.declared.schedule.Outcome.TheVariants.{GoingOn, Answered}
 use Rattle.spin_step.specs.declared.stepped.Next.TheVariants.{Continue, Answers}
-use Rattle.spin_once.specs.Accounts.{Place, bare_place, model_of, Moves, MadeSince, WroteNone, Entered, Comes, Under}
-use Rattle.spin_once.specs.OnceValues.{Valued, bare_watch, Sees}
+use Rattle.spin_once.specs.Accounts.{Place, here, bare_place, model_of, Moves, MadeSince, MadeSteps, WroteNone, Entered, Comes, Under}
+use Rattle.spin_once.specs.OnceValues.{Content, Valued, bare_watch, Sees}
 use Rattle.spin_once.specs.OnceValues.{made as made_in}
-use Rattle.spin_once.specs.Once.{is_run, runs_closure, reader, in_call, Call, View, Onward, Moving, Says, OneMove, IsAt, IsFailure, Fails, IsFailedCall, IsOnce, Told, once_ways, seat_of, words_of, use_of_view, use_of_party, next_at, view_of, turn}
+use Rattle.spin_once.specs.Once.{is_run, stops, runs_closure, HasClosure, IsStepOf, reader, in_call, Call, View, Onward, Moving, Says, OneMove, IsAt, IsFailure, Fails, IsFailedCall, IsOnce, Told, once_ways, seat_of, words_of, use_of_view, use_of_party, next_at, view_of, turn}
+use Rattle.spin_once.specs.declared.once_core.account.Account.{Account}
 use Rattle.spin_once.specs.declared.once_core.rule.Key.{Key}
-use Rattle.spin_once.specs.declared.once_core.rule.Stage.{Stage}
-use Rattle.spin_once.specs.declared.once_core.rule.Stage.TheVariants.{Seed}
-use Rattle.spin_once.proofs.Moves.{begins_at}
+use Rattle.spin_once.proofs.Kept.{writes_at}
+use Rattle.spin_once.proofs.Moves.{begins_at, gets_value}
 use Rattle.spin_once.proofs.Valued.{as_long, both_none, learns, stays, sees_on}
 
 -- ---- the moves of the model
@@ -63,6 +64,23 @@ module _ {T S : Type 0} (p q r : Place T S) where
     comes_by (inr (same, not)) (Answers a h) since silent =
         subst (λ x. Comes c (Answers a h) x r) same (sealed q r (IsCall c a) (in_one model_of c (bare_place q) (bare_place r) a (opened q r (IsOneStep false c (outcome_of {L = OncePoint} (Answers a h))) (rw not at since))), silent)
 
+module _ {T S : Type 0} where
+  -- a party in a call has made no step of it since
+  pub stays_at : (c : Call) (l : OncePoint) (it : Account T S) → what it.party.view ≡ Some (in_call c l) → is_run l ≡ false → MadeSteps c (Continue l) it it
+  stays_at c l it at quiet = record { comes = λ p under. grind (arith, at, under); key = refl; view = at; seed = λ runs. grind (arith, quiet, runs) }
+
+  module _ {c : Call} {next : Onward} {it now : Account T S} (made : MadeSteps c next it now) where
+    pub joins : {l : OncePoint} {old : Account T S} → MadeSteps c (Continue l) old it → MadeSteps c next old now
+    joins first = record { comes = λ p under. made.comes p (inl (first.comes p under, ap has_begun first.view)); key = made.key ∙ first.key; view = made.view; seed = made.seed }
+
+    -- a call with a closure that is answered gets the value
+    pub gets : HasClosure c → IsStepOf c next → {a : _} {h : _} → next ≡ Answers a h → MadeSteps c (Answers (Value tt) h) it now
+    gets may (l, n, step) {a} {h} is = subst (λ x. MadeSteps c x it now) (is ∙ ap (λ x. Answers x h) (gets_value c may l n a h (sym step ∙ is))) made
+
+    -- a call that waits and stops gets the value
+    pub waited : c ≡ Wait → IsStepOf c next × (stops next ≡ true) → MadeSteps c (Answers (Value tt) None) it now
+    waited on (step, stopped) = subst (λ x. MadeSteps c x it now) (grind (arith, on, step, stopped)) made
+
 -- a call whose closure gives a value
 pub completes : {T S : Type 0} (p q r : Place T S) (c : Call) → Entered c p q → MadeSince q (IsOneStep true c (Answered (Value tt) None)) r → MadeSince p (IsCall c (Value tt)) r
 completes p q r c (is_in, none) since =
@@ -89,66 +107,54 @@ module _ {T S : Type 0} (makes : S → T → Type 0) where
   unfolding IsOnce
   may_know key seen named = passes.may_know (IsOnce key.opening) (once_ways makes key) key.opening.name (λ n t vs is. is.0.0) seen.name named
 
-  -- for a party that makes one step, from the point `p` to the point `q`
-  module _ (p q : Place T S) (found : ℕ) (knew : own_mark p.1 ≤ length p.2.entries) (named : p.0.opening.name ≡ p.2.name) (same : q.0 ≡ p.0) where
-    abbrev pub Took : Says → Type 0
-    Took says = Moved (Watches (Of p.0 p.2.name) p.2 q.2 (Told p.0.opening says p.1) found) q.1
+  -- what a party's step says, by its view before
+  module _ (says : Option (Numbered View) → Says) where
+    abbrev pub Made : {P : Type 0} (before now : Permit (Content T S) (Numbered View) P (Key T S) (Trace (Valued T) (Unit {0}))) → ℕ → (seen known : Watch (Valued T)) → Type 0
+    Made before now n seen known = MadeStep (λ key. IsOnce key.opening) (once_ways makes) (λ key view. Told key.opening (says view) view) before seen n now known
 
-    -- the step leads to the view that `to` gives for the number found, by the moves of this course
-    module _ (says : Says) (to : ℕ → View) (course : ℕ → Moving) (means : (own : List OneMove) (outs : List _) (n : ℕ) (v : View) → says own outs n v → (v ≡ to n) × course n own outs) (moved : Took says) where
-      told : Learnt (model_of p.0) p.1 q.1 (bare_watch p.2) (bare_watch q.2) (to found) (course found)
-      told = passes.learnt (model_of p.0) seat_of words_of says to course means (Of p.0 p.2.name) (may_know p.0 p.2 named) p.1 q.1 (bare_watch p.2) (bare_watch q.2) found
-          (subst (λ k. own_mark p.1 ≤ k) (sym (as_long p.2.entries)) knew) (learns makes p.0 says (Of p.0 p.2.name) p.1 p.2 q.2 found q.1 knew moved).0
-
-      pub took : MadeSince p (course found) q × (what q.1 ≡ Some (to found))
-      took = (sealed p q (course found) (told.made, told.named, same), told.is)
-
+    module _ {P : Type 0} {before now : Permit (Content T S) (Numbered View) P (Key T S) (Trace (Valued T) (Unit {0}))} {n : ℕ} {seen known : Watch (Valued T)}
+        (knew : own_mark before.view ≤ length seen.entries) (named : before.key.opening.name ≡ seen.name) (made : Made before now n seen known) where
       -- only a party that runs its closure writes a value
-      pub silent : runs_closure (what p.1) ≡ false → WroteNone p q
+      pub silent : runs_closure (what before.view) ≡ false → WroteNone (spot before seen) (spot now known)
       unfolding WroteNone
-      silent quiet = (learns makes p.0 says (Of p.0 p.2.name) p.1 p.2 q.2 found q.1 knew moved).2 quiet
+      silent quiet = (learns makes before.key (says before.view) (Of before.key seen.name) before.view seen known n now.view knew made.moved).2 quiet
 
-      abbrev Knows : Option (MaybeStable (Stage T S)) → Type 0
-      Knows shown = record {
-        named : q.0.opening.name ≡ q.2.name;
-        knows : own_mark q.1 ≤ length q.2.entries;
-        few : length (made_in q.0.opening.value q.2.entries) ≤ 1;
-        finds : Sees q.0.opening q.2.entries (use_of use_of_party q.1) shown;
+      -- the step leads to the view that `to` gives for the number found, by the moves of this course
+      module _ (to : ℕ → View) (course : ℕ → Moving) (means : (own : List OneMove) (outs : List _) (n : ℕ) (v : View) → says before.view own outs n v → (v ≡ to n) × course n own outs) where
+        told : Learnt (model_of before.key) before.view now.view (bare_watch seen) (bare_watch known) (to n) (course n)
+        told = passes.learnt (model_of before.key) seat_of words_of (says before.view) to course means (Of before.key seen.name) (may_know before.key seen named) before.view now.view (bare_watch seen) (bare_watch known) n
+            (subst (λ k. own_mark before.view ≤ k) (sym (as_long seen.entries)) knew) (learns makes before.key (says before.view) (Of before.key seen.name) before.view seen known n now.view knew made.moved).0
+
+        pub took : MadeSince (spot before seen) (course n) (spot now known) × (what now.view ≡ Some (to n))
+        took = (sealed (spot before seen) (spot now known) (course n) (told.made, told.named, made.key), told.is)
+
+        -- After the step the party knows all moves up to this step, in the trace of its cell. If it uses the content, it sees the content.
+        pub keeps : (use_of use_of_party before.view ≡ use_of use_of_party now.view → Sees before.key.opening seen.entries (use_of use_of_party before.view) before.value) → record {
+          named : now.key.opening.name ≡ known.name;
+          knows : own_mark now.view ≤ length known.entries;
+          few : length (made_in now.key.opening.value known.entries) ≤ 1;
+          finds : Sees now.key.opening known.entries (use_of use_of_party now.view) now.value;
+        }
+        keeps sees = let grown = (learns makes before.key (says before.view) (Of before.key seen.name) before.view seen known n now.view knew made.moved).1 in record {
+          named = ap (λ k. k.opening.name) made.key ∙ named ∙ sym told.named;
+          knows = le_of_eq (told.knows ∙ as_long known.entries);
+          few = subst (λ k. length (made_in k.opening.value known.entries) ≤ 1) (sym made.key) grown.1;
+          finds = subst (λ k. Sees k.opening known.entries (use_of use_of_party now.view) now.value) (sym made.key)
+              (sees_on makes before.key seen.entries known.entries (stays before.key.opening seen.entries known.entries grown.0 grown.1) (use_of use_of_party before.view)
+              (use_of use_of_party now.view) before.value now.value sees made.kept.0 made.found);
+        }
+
+  -- the step of a call at a point
+  pub made_steps : (old now : Account T S) (c : Call) (l : OncePoint) (n : ℕ) (next : Onward) → IsAt c l (what old.party.view) → is_run l ≡ false → next ≡ next_at c l n
+      → Made (λ view. turn (has_begun (what view)) c l) old.party now.party n old.seen now.seen → MadeSteps c next old now
+  made_steps old now c l n next at quiet is made =
+      let says : Option (Numbered View) → Says = λ view. turn (has_begun (what view)) c l in let view = old.party.view in
+      let so = took says old.knows old.named made (λ n. view_of c (next_at c l n)) (λ n. IsOneStep (has_begun (what view)) c (outcome_of (next_at c l n))) (λ own outs n v said. said) in
+      let at_next : what now.party.view ≡ Some (view_of c next) = rw is so.1 in record {
+        comes = λ p under. rw is (comes_by p (here old) (here now) c under (next_at c l n) so.0 (silent says old.knows old.named made (grind (arith, at, quiet))));
+        key = made.key;
+        view = at_next;
+        seed = λ runs.
+            let none : use_of use_of_party view ≡ off = sym (tie.same_use use_of_view view) ∙ begins_at c l (what view) at quiet n (sym is ∙ runs) in
+            let on = writes_at now.party.view c (at_next ∙ ap (λ x. Some (view_of c x)) runs) in grind (arith, none, made.kept, made.key, on);
       }
-
-      -- After the step the party knows all moves up to this step, in the trace of its cell. If it uses the content, it sees the content.
-      pub keeps : (shown shown' : Option (MaybeStable (Stage T S))) → Keeps (once_ways makes p.0) p.1 q.1 shown shown' → Found (once_ways makes p.0) p.1 q.1 shown shown' q.2
-          → (use_of use_of_party p.1 ≡ use_of use_of_party q.1 → Sees p.0.opening p.2.entries (use_of use_of_party p.1) shown) → Knows shown'
-      keeps shown shown' kept learnt sees = let grown = (learns makes p.0 says (Of p.0 p.2.name) p.1 p.2 q.2 found q.1 knew moved).1 in record {
-        named = ap (λ k. k.opening.name) same ∙ named ∙ sym told.named;
-        knows = le_of_eq (told.knows ∙ as_long q.2.entries);
-        few = subst (λ k. length (made_in k.opening.value q.2.entries) ≤ 1) (sym same) grown.1;
-        finds = subst (λ k. Sees k.opening q.2.entries (use_of use_of_party q.1) shown') (sym same)
-            (sees_on makes p.0 p.2.entries q.2.entries (stays p.0.opening p.2.entries q.2.entries grown.0 grown.1) (use_of use_of_party p.1)
-            (use_of use_of_party q.1) shown shown' sees kept.0 learnt);
-      }
-
-    -- the step of a call at a point
-    module _ (c : Call) (l : OncePoint) (at : IsAt c l (what p.1)) (moved : Took (turn (has_begun (what p.1)) c l)) where
-      abbrev pub ends : ℕ → View
-      ends n = view_of c (next_at c l n)
-
-      abbrev pub steps : ℕ → Moving
-      steps n = IsOneStep (has_begun (what p.1)) c (outcome_of (next_at c l n))
-
-      made : MadeSince p (steps found) q × (what q.1 ≡ Some (ends found))
-      made = took (turn (has_begun (what p.1)) c l) ends steps (λ own outs n v said. said) moved
-
-      module _ (next : Onward) (is : next ≡ next_at c l found) where
-        pub next_view : what q.1 ≡ Some (view_of c next)
-        next_view = rw is made.1
-
-        pub comes : is_run l ≡ false → (r : Place T S) → Under c r p → Comes c next r q
-        comes quiet r under = rw is (comes_by r p q c under (next_at c l found) made.0 (silent (turn (has_begun (what p.1)) c l) ends steps (λ own outs n v said. said) moved (grind (arith, at, quiet))))
-
-      module _ (shown shown' : Option (MaybeStable (Stage T S))) (kept : Keeps (once_ways makes p.0) p.1 q.1 shown shown') where
-        -- a party that begins to run its closure finds the seed
-        pub seed : is_run l ≡ false → use_of use_of_party q.1 ≡ writes → shown' ≡ Some (maybe_stable (Seed q.0.seed.value))
-        seed quiet runs =
-            let none : use_of use_of_party p.1 ≡ off = sym (tie.same_use use_of_view p.1) ∙ begins_at c l (what p.1) at quiet found (sym (ap (use_of use_of_view) made.1) ∙ tie.same_use use_of_view q.1 ∙ runs) in
-            rw same (grind (arith, none, kept, runs))

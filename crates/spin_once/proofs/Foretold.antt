@@ -154,14 +154,7 @@ module _ (given : Option (Unit {0})) where
 
 pub is_run : (given : Option (Unit {0})) (log : List Made) (s : ℕ × Unit {0}) (parties : List (Numbered View)) → IsRun (m given) seat_of words_of log s parties → IsRun (t given) place_of words_of (foretold log) s (map (counted log) parties)
 is_run given log s parties (came, w, value, is, words_is, led, played, rested, so) =
-    let both = leads given log w value (map kind came) led played in (
-      map (marked log) came,
-      w,
-      value,
-      ap (map (counted log)) is ∙ present_marked log 0 came,
-      words_is,
-      subst (λ us. LeadsTo (t given) place_of words_of (foretold log) w value us) (sym (kinds_marked log came)) both.0,
-      subst (λ us. IsPlayed (t given) (length us) (foretold log)) (sym (kinds_marked log came)) both.1,
-      rested_marked log 0 came rested,
-      fits given log so,
-    )
+    let both = leads given log w value (map kind came) led played in let kinds = sym (kinds_marked log came) in
+    let leads_so = subst (λ us. LeadsTo (t given) place_of words_of (foretold log) w value us) kinds both.0 in
+    let played_so = subst (λ us. IsPlayed (t given) (length us) (foretold log)) kinds both.1 in
+    (map (marked log) came, w, value, ap (map (counted log)) is ∙ present_marked log 0 came, words_is, leads_so, played_so, rested_marked log 0 came rested, fits given log so)

@@ -2,7 +2,6 @@
 use Rattle.std.specs.Prelude.{◌≡◌, Option, None, ◌⊎◌, ℕ, true, false, Some, Result, Ok, Err, List, [], ◌++◌}
 use Rattle.std.specs.Borrow.{Bor}
 use Rattle.std.specs.Option.{IfSome}
-use Rattle.spin_core.specs.Cell.{use_of, writes}
 use Rattle.spin_core.specs.Own.{MayBe, what}
 use Rattle.spin_core.specs.Passes.{Begins as Starts, IsCall, HasNumber, Waits}
 use Rattle.spin_core.specs.Spots as spots
@@ -16,7 +15,7 @@ use Rattle.spin_step.specs.declared.once_calls.OncePoint.TheVariants.{TryBegin, 
 use Rattle.spin_step.specs.declared.stepped.Next.TheVariants.{Continue, Answers}
 use Rattle.spin_once.specs.Model.{Point, model}
 use Rattle.spin_once.specs.OnceValues.{Valued, Made, IsValue, bare_watch, given_of, values_by}
-use Rattle.spin_once.specs.Once.{Call, View, Onward, Moving, use_of_party, in_call}
+use Rattle.spin_once.specs.Once.{Call, View, Onward, Moving, in_call, view_of}
 use Rattle.spin_once.specs.declared.once_core.account.Account.{Account}
 use Rattle.spin_once.specs.declared.once_core.account.Found.{Found}
 use Rattle.spin_once.specs.declared.once_core.init_permit.InitPermit.{InitPermit}
@@ -96,10 +95,6 @@ module _ {T S : Type 0} where
   abbrev pub Has : Place T S → T → Type 0
   Has p v = IsValue p.0.opening p.2.entries v
 
-  -- a party that has just begun to run its closure finds the seed
-  abbrev pub FindsSeed : Account T S → Type 0
-  FindsSeed it = use_of use_of_party it.party.view ≡ writes → HasSeed it
-
   -- Either a call with a closure is answered by its first load. Or it may begin its closure.
   abbrev pub ComesIn : Call → Place T S → Result (Found T S) (Account T S) → Type 0
   ComesIn c p (Ok found) = Answered c (Value tt) p (here found.account)
@@ -118,3 +113,11 @@ module _ {T S : Type 0} where
   abbrev pub GetsOrNone : Call → Place T S → Option (Bor T) × Account T S → Type 0
   GetsOrNone c p (found, it) =
       Answered c (found_or_none found) p (here it) × IfSome found (λ value. Has (here it) value.now) × (has_begun (what it.party.view) ≡ false)
+
+-- From the account `old` to the account `now` the party has made steps of this call, after which the call goes on so. A party that may now
+-- run its closure sees the seed.
+pub record MadeSteps {T S : Type 0} (c : Call) (next : Onward) (old now : Account T S) : Type 0 where
+  pub comes : (p : Place T S) → Under c p (here old) → Comes c next p (here now)
+  pub key : now.party.key ≡ old.party.key
+  pub view : what now.party.view ≡ Some (view_of c next)
+  pub seed : next ≡ Continue Run → HasSeed now

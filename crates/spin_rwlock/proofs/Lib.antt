@@ -1,4 +1,3 @@
 pub mod RwRefines
 pub mod RwCalls
 pub mod Standing
-pub mod Lends

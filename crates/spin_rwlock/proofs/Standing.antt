@@ -46,8 +46,7 @@ stands : (vs : List View) (p : ℕ) (k : Kind) (word : ℕ) (rule : Word word tt
 stands vs p k word rule at = is_holder-from_entries p k rule.0.holders (ap (λ e. e.holders) (rule.3 p).0 ∙ ap (λ x. (entries_of_part p x).holders) at)
 
 told : (vs : List View) (p : ℕ) (k : Kind) (word : ℕ) (rule : Word word tt vs) → HoldsAt vs p k → tells k word ≡ true
-told vs p k word rule at =
-    ap (tells k) rule.4 ∙ tells-holder rule.0 p k rule.2.exclusive (few rule.0 rule.1 rule.2) (stands vs p k word rule at)
+told vs p k word rule at = ap (tells k) rule.4 ∙ tells-holder rule.0 p k rule.2.exclusive (few rule.0 rule.1 rule.2) (stands vs p k word rule at)
 
 pub goes_as_step : (word : ℕ) (vs : List View) (p : ℕ) (k : Kind) → Word word tt vs → HoldsAt vs p k → (tells k word ≡ true) × ((word + (2 ^ 64 - weight k)) % 2 ^ 64 ≡ released k word)
 goes_as_step word vs p k rule at =

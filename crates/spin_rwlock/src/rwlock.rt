@@ -133,7 +133,6 @@ impl<T, R> RwLock<T, R> {
     /// drop(writer);
     /// ```
     #[must_use = "dropping the guard at once releases the lock: bind the answer, or write `drop(..)`"]
-    #[tactic(auto, using(crate::proofs::RwCalls::peeks, crate::proofs::RwCalls::peek_wins))]
     pub fn try_read_weak(&self) -> Option<RwLockReadGuard<'_, T, R>>
         ensures { IfSome result (Lends TryRead Granted (new_in (opening self.now))) }
     {
@@ -147,11 +146,10 @@ impl<T, R> RwLock<T, R> {
             number: word,
             looks: true,
         };
-        let (read, count) = (RwCall::TryRead, RwCall::ReaderCount);
         match exchange_for(
             enter(&self.cell),
-            read,
-            count,
+            RwCall::TryRead,
+            RwCall::ReaderCount,
             None,
             Some(Hold::Read),
             ahead,

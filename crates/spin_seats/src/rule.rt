@@ -9,6 +9,7 @@ use spin_core::cell::Rule;
 use spin_core::tie::Opening;
 use spin_core::trace::Trace;
 use spin_session::table::{self, Runs};
+use spin_step::{Answer, Hold, Next, Operation, Steps};
 
 /// A party: its seat in the model, its number, and how long the trace was after the party's last step.
 pub type Party = table::Party<SeatsCall, SeatsPoint>;
@@ -42,14 +43,37 @@ impl<const N: usize> Runs<()> for SeatsRule<N> {
 
     type Point = SeatsPoint;
 
-    type Table = SeatsTable;
+    type Words = usize;
 
     ghost tables = { seats_tables N };
 
     ghost meaning = { seats_meaning N };
 
-    fn table() -> SeatsTable {
-        SeatsTable { seats: N }
+    fn start(call: SeatsCall, holds: Option<Hold>) -> Option<SeatsPoint> {
+        Steps::<(), SeatsCall, SeatsPoint>::start(&SeatsTable { seats: N }, call, holds)
+    }
+
+    fn place(point: SeatsPoint) -> usize {
+        Steps::<(), SeatsCall, SeatsPoint>::place(&SeatsTable { seats: N }, point)
+    }
+
+    fn operation(call: SeatsCall, point: SeatsPoint, holds: Option<Hold>) -> Operation {
+        Steps::<(), SeatsCall, SeatsPoint>::operation(&SeatsTable { seats: N }, call, point, holds)
+    }
+
+    fn next(
+        call: SeatsCall,
+        point: SeatsPoint,
+        holds: Option<Hold>,
+        found: u64,
+    ) -> Next<SeatsPoint, Answer<()>> {
+        Steps::<(), SeatsCall, SeatsPoint>::next(
+            &SeatsTable { seats: N },
+            call,
+            point,
+            holds,
+            found,
+        )
     }
 
     fn laws() {}

@@ -18,7 +18,7 @@ use Rattle.spin_step.specs.declared.stepped.Next.TheVariants.{Continue, Answers}
 use Rattle.spin_session.specs.Meaning.{Meaning, model_at, seat_after, seat_now, use_at, rests_at, table_at}
 use Rattle.spin_session.specs.declared.session.Session.{Session}
 use Rattle.spin_session.specs.Passes.{Writes}
-use Rattle.spin_session.specs.Turns.{MayFind, RestsAt, IsLed, IsLedTo, Lands, SeesOn, course_of, next_after, outcome_of, has_begun, held_now, SeatSpot, Comes, GoesBy, GoesOn, Under, Ended, Quiet, StaysQuiet, IsAtPoint, Knows, StandsAt, EachAnswer, Tries, IsAnsweredBy, IsAnswered, Acquires, TriesToAcquire, IsTry, IsLook, Tells, AnswersWith, is_granted}
+use Rattle.spin_session.specs.Turns.{Follows, IsMade, MayFind, RestsAt, IsLed, IsLedTo, Lands, SeesOn, course_of, next_after, outcome_of, has_begun, held_now, SeatSpot, Comes, GoesBy, GoesOn, Under, Ended, Quiet, StaysQuiet, IsAtPoint, Knows, StandsAt, EachAnswer, Tries, IsAnsweredBy, IsAnswered, Acquires, TriesToAcquire, IsTry, IsLook, Tells, AnswersWith, is_granted}
 
 -- the seat of a party does not depend on what its answer says
 pub same_seat : {C L : Type 0} (V : Type 0) (c : C) (h : Option Hold) (next : Next L (Answer (Unit {0}))) → seat_after c h (filled {V = V} None next) ≡ seat_after c h next
@@ -139,6 +139,23 @@ module _ {W V C L : Type 0} (t : ℕ → V → Table W V C L (Answer V)) (s : Me
       once n _ o e e' l to to' (ap (λ a. next_of (table_at t key) c a h o) (sym led.0) ∙ sym (rw is at first.0))
   answered_on key once i o (suc (suc (suc b)), n, (e, to, (e', to', (e'', to'', led)))) m j l k x y z first is second is' third u is'' = once n _ _ e e' e'' to to' to''
 
+  -- so does a call of which two further steps were made
+  abbrev Steps : Type 0 → Type 0 → Type 0
+  Steps P S = Next L (Answer (Unit {0})) × L × ℕ × Session V (Numbered (Seat C L)) (Entry C V) P (Opening V) S
+
+  module _ {P S : Type 0} where
+    by_key : (key : Opening V) (x : Steps P S) → x.3.permit.key ≡ key → IsMade t s c h x → GoesBy t s c x.1 h x.2 x.0 key
+    by_key key x same made = subst (λ k. GoesBy t s c x.1 h x.2 x.0 k) same made.goes
+
+    pub three_steps : (key : Opening V) → IsAnswered t c h key → (x y z : Steps P S) → x.3.permit.key ≡ key → y.3.permit.key ≡ x.3.permit.key → z.3.permit.key ≡ y.3.permit.key
+        → IsLedTo t s c h x.1 x.2 key → IsMade t s c h x → IsMade t s c h y → IsMade t s c h z → Follows x.0 y.1 y.0 → Follows y.0 z.1 z.0 → (u : L) → z.0 ≡ Continue u → ⊥
+    three_steps key once (Answers b k, i, m, it) (next, j, n, now) z e e' e'' led first second third to to' u is = absurd (cc (subst (λ o. Follows o z.1 z.0) to to', is))
+    three_steps key once (Continue l, i, m, it) (Answers b k, j, n, now) z e e' e'' led first second third to to' u is = absurd (cc (to', is))
+    three_steps key once (Continue l, i, m, it) (Continue k, j, n, now) z e e' e'' led first second third to to' u is =
+        answered_on key once i m led n z.2 l k (Continue l) (Continue k) z.0 (by_key key (Continue l, i, m, it) e first) refl
+        (subst (λ o. GoesBy t s c o h n (Continue k) key) to (by_key key (Continue k, j, n, now) (e' ∙ e) second)) refl
+        (subst (λ o. GoesBy t s c o h z.2 z.0 key) to' (by_key key z (e'' ∙ (e' ∙ e)) third)) u is
+
 -- a party whose call was answered, and which then holds this, sits so
 pub rests_held : {C L A : Type 0} (c : C) (h : Option Hold) (next : Next L A) → AnswersWith h next → seat_after c h next ≡ resting h
 rests_held c h (Continue l) is = absurd is
@@ -161,7 +178,7 @@ module _ {W V C L : Type 0} (t : ℕ → V → Table W V C L (Answer V)) (s : Me
   pub record Leapt (l : L) (m : ℕ) (next : Next L (Answer (Unit {0}))) : Type 0 where
     pub seat : what q.1 ≡ Some (seat_after c h next)
     pub comes : Comes t s c h next p q
-    pub goes : GoesBy t s c l h m next p.0
+    pub goes : GoesBy t s c l h m next q.0
     pub reached : IsLedTo t s c h l m p.0
 
   comes_so : (next : Next L (Answer (Unit {0}))) (l : L) (m : ℕ) → filled None next ≡ next_of (table_at t p.0) c l h m → MayFind t s c l h m p.0
@@ -178,7 +195,7 @@ module _ {W V C L : Type 0} (t : ℕ → V → Table W V C L (Answer V)) (s : Me
       record {
         seat = sits';
         comes = comes_so next l m which fine (subst (λ x. Since (model_at t) (course_of c x) p q) goes since) sits';
-        goes = (which, fine.0);
+        goes = subst (λ k. GoesBy t s c l h m next k) (sym since.2) (which, fine.0);
         reached = (led'.0, n, led'.1);
       }
 

@@ -1,19 +1,18 @@
 -- A cell whose table refines the plain lock gives what sessions use.
-use Rattle.std.proofs.Common.{◌≡◌, ◌≢◌, ℕ, refl, sym, ◌∙◌}
+use Rattle.std.proofs.Common.{◌≡◌, ◌≢◌, ℕ, sym, ◌∙◌}
 use Rattle.spin_core.specs.Cell.{writes, use_of}
 use Rattle.spin_core.proofs.Ties as tie
 use Rattle.spin_step.specs.Acts.{Table}
 use Rattle.spin_step.specs.declared.answer.Answer.{Answer}
 use Rattle.spin_session.specs.Meaning.{Meaning, Beside, just_one, table_at, use_at, use_of_party, Refines, RefinesOn, RunsOn, RunsTable, ways_of}
-use Rattle.spin_session.specs.Operating.{Executes, SameSteps}
+use Rattle.spin_session.specs.Operating.{Executes}
 use Rattle.spin_session.proofs.Leaping as leaping
 use Rattle.spin_session.proofs.Refining as refining
 use Rattle.spin_session.proofs.Seen.{seen_last, left_last, sees_on}
 
-pub executes_on : {W V C L S : Type 0} (k : Beside S) (t : ℕ → V → Table W V C L (Answer V)) (s : Meaning C L) → ((value : V) (start : ℕ) → SameSteps (t 0 value) (t start value)) → ((start : ℕ) (value : V) → RefinesOn (t start value) k s)
+pub executes_on : {W V C L S : Type 0} (k : Beside S) (t : ℕ → V → Table W V C L (Answer V)) (s : Meaning C L) → ((start : ℕ) (value : V) → RefinesOn (t start value) k s)
     → Executes k t s (RunsOn t s k) (ways_of s)
-executes_on k t s alike d = record {
-  alike = alike;
+executes_on k t s d = record {
   uses = λ key view. sym (tie.same_use (use_at s) view);
   named = λ key name same n x vs meets. meets.0.0 ∙ same;
   turns = λ key view shown c l h o is at rests quiet. refining.operates k (table_at t key) s (d key.start key.value) key view shown c l h o is at rests quiet;
@@ -31,5 +30,4 @@ executes_on k t s alike d = record {
 
 -- the same for a table of one word
 pub executes : {W V C L : Type 0} (t : V → Table W V C L (Answer V)) (s : Meaning C L) → ((v : V) → Refines (t v) s) → Executes just_one (λ start. t) s (RunsTable (λ start. t) s) (ways_of s)
-executes t s d = executes_on just_one (λ start. t) s (λ value start. record { begins = λ c h. refl; places = λ l. refl; operations = λ c l h. refl; goes = λ c l h n. refl })
-    (λ start v. refining.refines_on (t v) s (d v))
+executes t s d = executes_on just_one (λ start. t) s (λ start v. refining.refines_on (t v) s (d v))

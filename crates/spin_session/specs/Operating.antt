@@ -10,7 +10,7 @@ use Rattle.spin_core.specs.Values.{IsLast}
 use Rattle.spin_core.specs.declared.tie.Opening.{Opening}
 use Rattle.spin_core.specs.declared.trace.Trace.{Trace}
 use Rattle.spin_core.specs.declared.trace.Watch.{Watch}
-use Rattle.spin_step.specs.Acts.{Table, begin_of, next_of, operation_by}
+use Rattle.spin_step.specs.Acts.{Table, next_of, operation_by}
 use Rattle.spin_step.specs.Operations.{wrapped}
 use Rattle.spin_step.specs.Schedules.{Entry, may_write, resting}
 use Rattle.spin_step.specs.declared.answer.Answer.{Answer}
@@ -35,18 +35,10 @@ module _ {X V E S : Type 0} (k : Beside S) (holds : ℕ → Trace E S → List V
   Operates (suc j) (op.Store to) told = HasSecond k × TracesTo holds ways view shown (on_place k 1 (λ n. to)) (λ log es n. told log es 0)
   Operates (suc j) o told = ⊥
 
--- two tables with the same steps, whose words may open with different numbers
-pub record SameSteps {W V C L A : Type 0} (r t : Table W V C L A) : Type 0 where
-  pub begins : (c : C) (h : Option Hold) → begin_of r c h ≡ begin_of t c h
-  pub places : (l : L) → r.word l ≡ t.word l
-  pub operations : (c : C) (l : L) (h : Option Hold) → operation_by (r.act c l h) ≡ operation_by (t.act c l h)
-  pub goes : (c : C) (l : L) (h : Option Hold) (n : ℕ) → next_of r c l h n ≡ next_of t c l h n
-
 -- what generic code knows of a rule whose cell runs this table; its words open with the number `start` of the cell's opening
 pub record Executes {W V C L S : Type 0} (k : Beside S) (t : ℕ → V → Table W V C L (Answer V)) (s : Meaning C L)
     (holds : Opening V → ℕ → Trace (Entry C V) S → List (Numbered (Seat C L)) → Type 0)
     (ways : Opening V → Ways V (Numbered (Seat C L)) (Trace (Entry C V) S)) : Type 0 where
-  pub alike : (value : V) (start : ℕ) → SameSteps (t 0 value) (t start value)
   pub uses : (key : Opening V) (view : Option (Numbered (Seat C L))) → use_of (ways key).1 view ≡ use_of (use_at s) (what view)
   pub named : (key : Opening V) (name : ℕ) → key.name ≡ name → Named (holds key) (ways key) name
   pub turns : (key : Opening V) (view : Option (Numbered (Seat C L))) (shown : Option V) (c : C) (l : L) (h : Option Hold) (o : Operation)

@@ -32,6 +32,10 @@ outcome_of next = elim next [ Continue l ↦ GoingOn | Answers a after ↦ Answe
 abbrev pub AnswersWith : {L A : Type 0} → Option Hold → Next L A → Type 0
 AnswersWith h next = elim next [ Continue l ↦ ⊥ | Answers a after ↦ after ≡ h ]
 
+-- a call that went on so made its next step at the point l, and then goes on as `now` says; one that was answered made none
+abbrev pub Follows : {L A : Type 0} → Next L A → L → Next L A → Type 0
+Follows before l now = elim before [ Continue k ↦ l ≡ k | Answers a h ↦ now ≡ Answers a h ]
+
 abbrev pub is_granted : {V : Type 0} → Answer V → Bool
 is_granted answer = elim answer [ Granted ↦ true | _ ↦ false ]
 
@@ -229,6 +233,13 @@ module _ {W V C L : Type 0} (t : ℕ → V → Table W V C L (Answer V)) (s : Me
   -- the step of this call at this point found this number, which is in bounds, and so the call goes on so
   abbrev pub GoesBy : C → L → Option Hold → ℕ → Next L (Answer (Unit {0})) → Opening V → Type 0
   GoesBy c l h n next key = (filled None next ≡ next_of (table_at t key) c l h n) × FindsAt s ((table_at t key).word l) n
+
+  -- So far the party's call was made: its last step was at the point `made.1`, and found the number `made.2`; it goes on as `made.0` says.
+  pub record IsMade {P S : Type 0} (c : C) (h : Option Hold) (made : Next L (Answer (Unit {0})) × L × ℕ × Session V (Numbered (Seat C L)) (Entry C V) P (Opening V) S) : Type 0 where
+    pub knows : Knows s (spot_of made.3)
+    pub seat : what made.3.permit.view ≡ Some (seat_after c h made.0)
+    pub goes : GoesBy c made.1 h made.2 made.0 made.3.permit.key
+    pub last : SeesLast made.3
 
   -- from p to q the party has begun this call, and made steps of it, after which the call goes on so
   abbrev pub Comes : C → Option Hold → Next L (Answer (Unit {0})) → SeatSpot V C L → SeatSpot V C L → Type 0

@@ -1,12 +1,12 @@
 //! The calls of a session: each is made by the steps of the lock's table. Begin with [`acquire`].
-ghost use Rattle.std.specs.Prelude.{◌≡◌, ◌≢◌, ◌≤◌, true, None, Some, Option, IfOk, IfErr, length};
+ghost use Rattle.std.specs.Prelude.{◌≡◌, ◌≢◌, ◌≤◌, ℕ, true, false, None, Some, Option, IfOk, IfErr, length};
 ghost use Rattle.std.specs.Option.{IfSome};
 ghost use Rattle.spin_core.specs.Values.{IsLast};
-ghost use Rattle.spin_core.specs.Cell.{off, writes, use_of, Moved, Keeps};
+ghost use Rattle.spin_core.specs.Cell.{off, writes, use_of};
 ghost use Rattle.spin_core.specs.Own.{what};
 ghost use Rattle.spin_core.specs.Passes.{IsOut, Nothing, own_mark};
 ghost use Rattle.spin_core.specs.Spots.{Releases, Since};
-ghost use Rattle.spin_core.specs.Traced.{Found, MayKnow, Named, Watches};
+ghost use Rattle.spin_core.specs.Traced.{MadeStep, MayKnow};
 ghost use Rattle.spin_step.specs.Acts.{next_of};
 ghost use Rattle.spin_step.specs.Schedules.{may_write, resting};
 ghost use Rattle.spin_step.specs.declared.place.Seat.{Seat};
@@ -16,20 +16,20 @@ ghost use Rattle.spin_step.specs.declared.answer.Answer.{Answer as AnAnswer};
 ghost use Rattle.spin_step.specs.declared.answer.Answer.TheVariants.{Granted, Refused, Done};
 ghost use Rattle.spin_step.specs.declared.place.Hold.{Hold as AHold};
 ghost use Rattle.spin_step.specs.declared.table.Operation.TheVariants.{Exchange};
-ghost use Rattle.spin_session.specs.Meaning.{HasSecond, seat_now, seat_after, table_at, use_at, model_at};
+ghost use Rattle.spin_session.specs.Meaning.{seat_now, seat_after, table_at, use_at, model_at};
 ghost use Rattle.spin_session.specs.Operating.{Operates};
 ghost use Rattle.spin_session.specs.Passes.{After, Grants, Writes, lock_of};
-ghost use Rattle.spin_session.specs.Turns.{PeekTold, SeesLast, SeesOn, EndsWith, IsLedTo, Fuses, Lands, last_step, next_after, course_of, IsAt, Knows, StaysQuiet, Stands, MayBegin, Ended, Comes, GoesBy, GoesOn, Under, IsAnswered, Acquires, TriesToAcquire, IsLook, Tells, Calls, SeatSpot, new_in, spot_of, is_granted};
+ghost use Rattle.spin_session.specs.Turns.{Follows, IsMade, SeesLast, SeesOn, EndsWith, IsLedTo, Fuses, IsLed, Lands, last_step, next_after, course_of, IsAt, Knows, StaysQuiet, Stands, MayBegin, Ended, Comes, GoesBy, GoesOn, Under, IsAnswered, Acquires, TriesToAcquire, IsLook, Tells, Calls, SeatSpot, new_in, spot_of, is_granted};
 
 use crate::second::Word;
 use crate::session::Session;
-use crate::table::{Ahead, Entry, Party, Peek, Runs};
+use crate::table::{Ahead, Entry, Party, Runs};
 use spin_core::cell::{Cell, Left, Permit, Play, WritePermit};
 use spin_core::guard::{Guard, Release};
 use spin_core::relax::RelaxStrategy;
 use spin_core::tie::Opening;
 use spin_core::trace::Watch;
-use spin_step::{Answer, Hold, Next, Operation, Steps};
+use spin_step::{Answer, Hold, Next, Operation};
 use std::marker::Brand;
 use std::sync::Wait;
 
@@ -87,31 +87,6 @@ pub fn ask<'a, T, P: Runs<T>>(
     }
 }
 
-/// Loads the word at place 1. The load is no step of a call.
-#[inline(always)]
-pub fn peek<'a, T, P: Runs<T>>(
-    permit: Permit<'a, T, Party<P::Call, P::Point>, P>,
-    seen: Watch<Entry<P::Call, T>>,
-) -> (
-    u64,
-    Permit<'a, T, Party<P::Call, P::Point>, P>,
-    Watch<Entry<P::Call, T>>,
-)
-    requires second { HasSecond P.Word.words }
-    requires knows { MayKnow (P.holds permit.key) (P.ways permit.key) seen }
-    ensures moved { Moved (Watches (Named (P.holds permit.entry.key) (P.ways permit.entry.key) seen.name) seen result.2 (PeekTold P.tables P.Word.words P.meaning permit.entry.key permit.entry.view) result.0) result.1.view }
-    ensures kept { Keeps (P.ways permit.entry.key) permit.entry.view result.1.view permit.entry.value result.1.value }
-    ensures found { Found (P.ways permit.entry.key) permit.entry.view result.1.view permit.entry.value result.1.value result.2 }
-    ensures key { result.1.key ≡ permit.entry.key }
-{
-    P::laws();
-    P::Word::operate::<T, Party<P::Call, P::Point>, Entry<P::Call, T>, P, Peek<P>>(
-        permit,
-        Operation::Load,
-        seen,
-    )
-}
-
 /// Makes a call of one step of a holder that writes, which then holds `after`. The holder first writes its value, and
 /// then no longer writes.
 ///
@@ -141,14 +116,12 @@ pub fn give<'a, T, P: Runs<T>>(
     let _ = after;
     P::laws();
     let permit = writer.into_permit();
-    let table = P::table();
     let hold = Some(holds);
-    let point = match table.start(call, hold) {
+    let point = match P::start(call, hold) {
         Some(point) => point,
         None => unreachable!(),
     };
-    let place = table.place(point);
-    let operation = table.operation(call, point, hold);
+    let (place, operation) = (P::place(point), P::operation(call, point, hold));
     let (_, permit, seen) = operate::<T, P, Brand>(permit, place, operation, seen, call);
     Session { permit, seen }
 }
@@ -265,7 +238,7 @@ pub fn point_of<'a, T, P: Runs<T>>(
 {
     let _ = session;
     P::laws();
-    match P::table().start(call, holds) {
+    match P::start(call, holds) {
         Some(point) => point,
         None => unreachable!(),
     }
@@ -310,8 +283,8 @@ pub fn wait<'a, T, P: Runs<T>, R: RelaxStrategy, W: Wait>(
             due = hints.saturating_mul(2);
         }
         let (next, found, session) = step(party, call, at, holds);
-        let made = further((next, at, found, session), call, holds, 0);
-        let (next, point, found, session) = further(made, call, holds, 1);
+        let made = further((next, at, found, session), call, holds, Some(0));
+        let (next, point, found, session) = further(made, call, holds, Some(1));
         match next {
             Next::Answers(_, _) => return session,
             Next::Continue(to) => {
@@ -338,7 +311,7 @@ fn point_after<T, P: Runs<T>>(
 {
     let _ = session;
     P::laws();
-    match P::table().next(call, point, holds, found) {
+    match P::next(call, point, holds, found) {
         Next::Continue(point) => point,
         Next::Answers(_, _) => unreachable!(),
     }
@@ -362,23 +335,21 @@ pub fn begin<'a, T, P: Runs<T>>(
 )
     requires stands { Stands holds session }
     requires may { MayBegin P.tables P.meaning call holds session.permit.key }
-    ensures knows { Knows P.meaning (spot_of result.3) }
+    ensures made { IsMade P.tables P.meaning call holds result }
     ensures key { result.3.permit.key ≡ session.entry.permit.key }
-    ensures seat { what result.3.permit.view ≡ Some (seat_after call holds result.0) }
     ensures comes { Comes P.tables P.meaning call holds result.0 (spot_of session.entry) (spot_of result.3) }
-    ensures goes { GoesBy P.tables P.meaning call result.1 holds result.2 result.0 session.entry.permit.key }
-    ensures last { SeesLast result.3 }
     ensures sees { SeesOn P.meaning call holds session.entry.permit.value result.3 }
 {
     further(
-        further(first(session, call, holds), call, holds, 0),
+        further(first(session, call, holds), call, holds, Some(0)),
         call,
         holds,
-        1,
+        Some(1),
     )
 }
 
-// Makes one more step of the call, unless the call is answered or pauses. `due` is 0 after the first step of a round.
+// Makes one more step of the call, unless the call is answered or pauses. `due` is 0 after the first step of a round; a
+// call without pauses gives `None`.
 #[inline(always)]
 fn further<'a, T, P: Runs<T>>(
     made: (
@@ -389,37 +360,49 @@ fn further<'a, T, P: Runs<T>>(
     ),
     call: P::Call,
     holds: Option<Hold>,
-    due: u32,
+    due: Option<u32>,
 ) -> (
     Next<P::Point, Answer<()>>,
     P::Point,
     u64,
     SessionOf<'a, T, P>,
 )
-    requires knows { Knows P.meaning (spot_of made.3) }
-    requires seat { what made.3.permit.view ≡ Some (seat_after call holds made.0) }
+    requires made { IsMade P.tables P.meaning call holds made }
     requires quiet { StaysQuiet P.meaning call holds }
-    requires goes { GoesBy P.tables P.meaning call made.1 holds made.2 made.0 made.3.permit.key }
-    requires last { SeesLast made.3 }
-    ensures knows { Knows P.meaning (spot_of result.3) }
+    ensures made { IsMade P.tables P.meaning call holds result }
     ensures key { result.3.permit.key ≡ made.entry.3.permit.key }
-    ensures seat { what result.3.permit.view ≡ Some (seat_after call holds result.0) }
     ensures comes { (p : SeatSpot T P.Call P.Point) → Comes P.tables P.meaning call holds made.entry.0 p (spot_of made.entry.3) → Comes P.tables P.meaning call holds result.0 p (spot_of result.3) }
-    ensures goes { GoesBy P.tables P.meaning call result.1 holds result.2 result.0 made.entry.3.permit.key }
-    ensures last { SeesLast result.3 }
+    ensures follows { due ≡ None → Follows made.entry.0 result.1 result.0 }
     ensures sees { (v : Option T) → SeesOn P.meaning call holds v made.entry.3 → SeesOn P.meaning call holds v result.3 }
 {
     let (next, from, found, session) = made;
     match next {
         Next::Answers(answer, after) => (Next::Answers(answer, after), from, found, session),
         Next::Continue(to) => {
-            if P::hints(call, from, to, holds, found, due) > 0 {
+            if pauses::<T, P>(call, from, to, holds, found, due) {
                 (Next::Continue(to), from, found, session)
             } else {
                 let (next, found, session) = step(session, call, to, holds);
                 (next, to, found, session)
             }
         }
+    }
+}
+
+// Returns whether the call pauses between these points.
+fn pauses<T, P: Runs<T>>(
+    call: P::Call,
+    from: P::Point,
+    to: P::Point,
+    holds: Option<Hold>,
+    found: u64,
+    due: Option<u32>,
+) -> bool
+    ensures { due ≡ None → result ≡ false }
+{
+    match due {
+        Some(due) => P::hints(call, from, to, holds, found, due) > 0,
+        None => false,
     }
 }
 
@@ -442,22 +425,11 @@ pub fn in_three<'a, T, P: Runs<T>>(
     ensures last { SeesLast result.2 }
     ensures sees { SeesOn P.meaning call holds session.entry.permit.value result.2 }
 {
-    let (next, _, found, session) = first(session, call, holds);
+    let made = further(first(session, call, holds), call, holds, None);
+    let (next, _, found, session) = further(made, call, holds, None);
     match next {
         Next::Answers(answer, after) => (answer, after, session, found),
-        Next::Continue(second) => {
-            let (next, found, session) = step(session, call, second, holds);
-            match next {
-                Next::Answers(answer, after) => (answer, after, session, found),
-                Next::Continue(third) => {
-                    let (next, found, session) = step(session, call, third, holds);
-                    match next {
-                        Next::Answers(answer, after) => (answer, after, session, found),
-                        Next::Continue(_) => unreachable!(),
-                    }
-                }
-            }
-        }
+        Next::Continue(_) => unreachable!(),
     }
 }
 
@@ -483,13 +455,10 @@ pub fn first<'a, T, P: Runs<T>>(
 )
     requires stands { Stands holds session }
     requires may { MayBegin P.tables P.meaning call holds session.permit.key }
-    ensures knows { Knows P.meaning (spot_of result.3) }
+    ensures made { IsMade P.tables P.meaning call holds result }
     ensures key { result.3.permit.key ≡ session.entry.permit.key }
-    ensures seat { what result.3.permit.view ≡ Some (seat_after call holds result.0) }
     ensures comes { Comes P.tables P.meaning call holds result.0 (spot_of session.entry) (spot_of result.3) }
-    ensures goes { GoesBy P.tables P.meaning call result.1 holds result.2 result.0 session.entry.permit.key }
     ensures reached { IsLedTo P.tables P.meaning call holds result.1 result.2 session.entry.permit.key }
-    ensures last { SeesLast result.3 }
     ensures sees { SeesOn P.meaning call holds session.entry.permit.value result.3 }
 {
     let point = point_of(&session, call, holds);
@@ -498,20 +467,20 @@ pub fn first<'a, T, P: Runs<T>>(
         return (next, point, found, session);
     };
     P::laws();
-    let table = P::table();
-    let (found, session) = begin_by(session, call, holds, point, ahead);
-    if found == ahead.old {
-        let next = table.next(call, ahead.point, holds, ahead.number);
-        (next, ahead.point, ahead.number, session)
-    } else if ahead.looks {
-        (table.next(call, point, holds, found), point, found, session)
-    } else {
+    let (made, session) = begin_by(session, call, holds, point, ahead);
+    let Some(last) = made else {
         let (next, found, session) = step(session, call, point, holds);
-        (next, point, found, session)
-    }
+        return (next, point, found, session);
+    };
+    (
+        P::next(call, last.0, holds, last.1),
+        last.0,
+        last.1,
+        session,
+    )
 }
 
-// Begins the call by this exchange. Returns the number found.
+// Begins the call by this exchange. Returns the last step that it makes, if it makes one: its point, and the number found.
 #[inline(always)]
 fn begin_by<'a, T, P: Runs<T>>(
     session: SessionOf<'a, T, P>,
@@ -519,16 +488,17 @@ fn begin_by<'a, T, P: Runs<T>>(
     holds: Option<Hold>,
     start: P::Point,
     ahead: Ahead<P::Point>,
-) -> (u64, SessionOf<'a, T, P>)
+) -> (Option<(P::Point, u64)>, SessionOf<'a, T, P>)
     requires stands { Stands holds session }
     requires may { MayBegin P.tables P.meaning call holds session.permit.key }
     requires start { start ≡ (table_at P.tables session.permit.key).start call holds }
     requires fuses { Fuses (table_at P.tables session.permit.key) P.meaning call holds ahead }
     ensures knows { Knows P.meaning (spot_of result.1) }
     ensures key { result.1.permit.key ≡ session.entry.permit.key }
-    ensures lands { Lands (table_at P.tables session.entry.permit.key) P.meaning call holds (last_step start ahead result.0) (seat_now (what result.1.permit.view)) }
-    ensures seat { what result.1.permit.view ≡ Some (seat_after call holds (next_after (table_at P.tables session.entry.permit.key) call holds (last_step start ahead result.0))) }
-    ensures since { Since (model_at P.tables) (course_of call (next_after (table_at P.tables session.entry.permit.key) call holds (last_step start ahead result.0))) (spot_of session.entry) (spot_of result.1) }
+    ensures led { (n n' : ℕ) × IsLed (table_at P.tables session.entry.permit.key) P.meaning call holds result.0 n n' }
+    ensures lands { Lands (table_at P.tables session.entry.permit.key) P.meaning call holds result.0 (seat_now (what result.1.permit.view)) }
+    ensures seat { what result.1.permit.view ≡ Some (seat_after call holds (next_after (table_at P.tables session.entry.permit.key) call holds result.0)) }
+    ensures since { Since (model_at P.tables) (course_of call (next_after (table_at P.tables session.entry.permit.key) call holds result.0)) (spot_of session.entry) (spot_of result.1) }
     ensures last { SeesLast result.1 }
     ensures sees { SeesOn P.meaning call holds session.entry.permit.value result.1 }
 {
@@ -536,7 +506,20 @@ fn begin_by<'a, T, P: Runs<T>>(
     let _ = holds;
     let Session { permit, seen } = session;
     let (found, permit, seen) = leap::<T, P, Brand>(permit, seen, start, ahead, call, call);
-    (found, Session { permit, seen })
+    (last_step(start, ahead, found), Session { permit, seen })
+}
+
+// Returns the last step that the exchange makes where it finds this number, if the call begins at `start`.
+fn last_step<L: Copy>(start: L, ahead: Ahead<L>, found: u64) -> Option<(L, u64)>
+    ensures { result ≡ last_step start ahead found }
+{
+    if found == ahead.old {
+        Some((ahead.point, ahead.number))
+    } else if ahead.looks {
+        Some((start, found))
+    } else {
+        None
+    }
 }
 
 /// Makes an exchange that is the first steps of one of these calls. The proof of a caller picks what it tells.
@@ -555,10 +538,7 @@ pub fn leap<'a, T, P: Runs<T>, M: Play<Opening<T>, Party<P::Call, P::Point>, Ent
 )
     requires knows { MayKnow (P.holds permit.key) (P.ways permit.key) seen }
     requires keeps { Operates P.Word.words (P.holds permit.key) (P.ways permit.key) permit.view permit.value 0 (Exchange ahead.old ahead.new) (M.told permit.key permit.view) }
-    ensures moved { Moved (Watches (Named (P.holds permit.entry.key) (P.ways permit.entry.key) seen.name) seen result.2 (M.told permit.entry.key permit.entry.view) result.0) result.1.view }
-    ensures kept { Keeps (P.ways permit.entry.key) permit.entry.view result.1.view permit.entry.value result.1.value }
-    ensures found { Found (P.ways permit.entry.key) permit.entry.view result.1.view permit.entry.value result.1.value result.2 }
-    ensures key { result.1.key ≡ permit.entry.key }
+    ensures { MadeStep P.holds P.ways M.told permit.entry seen result.0 result.1 result.2 }
 {
     let _ = (start, call, other);
     permit.exchange::<M>(ahead.old, ahead.new, seen)
@@ -575,23 +555,18 @@ pub fn step<'a, T, P: Runs<T>>(
     requires knows { Knows P.meaning (spot_of session) }
     requires at { IsAt P.tables call point holds session.permit.key (what session.permit.view) }
     requires quiet { StaysQuiet P.meaning call holds }
-    ensures knows { Knows P.meaning (spot_of result.2) }
+    ensures made { IsMade P.tables P.meaning call holds (result.0, point, result.1, result.2) }
     ensures key { result.2.permit.key ≡ session.entry.permit.key }
-    ensures seat { what result.2.permit.view ≡ Some (seat_after call holds result.0) }
     ensures comes { (p : SeatSpot T P.Call P.Point) → Under P.tables P.meaning call p (spot_of session.entry) → Comes P.tables P.meaning call holds result.0 p (spot_of result.2) }
-    ensures goes { GoesBy P.tables P.meaning call point holds result.1 result.0 session.entry.permit.key }
-    ensures last { SeesLast result.2 }
     ensures left { use_of (use_at P.meaning) (what session.entry.permit.view) ≢ off → IfSome session.entry.permit.value (IsLast result.2.permit.key result.2.seen.entries) }
     ensures sees { SeesOn P.meaning call holds session.entry.permit.value result.2 }
 {
     P::laws();
-    let table = P::table();
-    let place = table.place(point);
-    let operation = table.operation(call, point, holds);
+    let (place, operation) = (P::place(point), P::operation(call, point, holds));
     let Session { permit, seen } = session;
     let (found, permit, seen) = operate::<T, P, Brand>(permit, place, operation, seen, call);
     (
-        table.next(call, point, holds, found),
+        P::next(call, point, holds, found),
         found,
         Session { permit, seen },
     )
@@ -613,10 +588,7 @@ fn operate<'a, T, P: Runs<T>, M: Play<Opening<T>, Party<P::Call, P::Point>, Entr
 )
     requires knows { MayKnow (P.holds permit.key) (P.ways permit.key) seen }
     requires keeps { Operates P.Word.words (P.holds permit.key) (P.ways permit.key) permit.view permit.value place operation (M.told permit.key permit.view) }
-    ensures moved { Moved (Watches (Named (P.holds permit.entry.key) (P.ways permit.entry.key) seen.name) seen result.2 (M.told permit.entry.key permit.entry.view) result.0) result.1.view }
-    ensures kept { Keeps (P.ways permit.entry.key) permit.entry.view result.1.view permit.entry.value result.1.value }
-    ensures found { Found (P.ways permit.entry.key) permit.entry.view result.1.view permit.entry.value result.1.value result.2 }
-    ensures key { result.1.key ≡ permit.entry.key }
+    ensures { MadeStep P.holds P.ways M.told permit.entry seen result.0 result.1 result.2 }
 {
     let _ = call;
     if place > 0 {

@@ -1,7 +1,5 @@
 //! What a cell keeps beside its first word: nothing, or a second word. Begin with [`Word`].
-ghost use Rattle.std.specs.Prelude.{◌≡◌};
-ghost use Rattle.spin_core.specs.Cell.{Moved, Keeps};
-ghost use Rattle.spin_core.specs.Traced.{Found, MayKnow, Named, Watches};
+ghost use Rattle.spin_core.specs.Traced.{MadeStep, MayKnow};
 ghost use Rattle.spin_session.specs.Meaning.{Beside, just_one, with_second};
 ghost use Rattle.spin_session.specs.Operating.{Operates};
 
@@ -24,10 +22,7 @@ pub trait Word: Sized {
     ) -> (u64, Permit<'a, T, V, P>, Watch<E>)
         requires knows { MayKnow (P.holds permit.key) (P.ways permit.key) seen }
         requires keeps { Operates words (P.holds permit.key) (P.ways permit.key) permit.view permit.value 1 operation (M.told permit.key permit.view) }
-        ensures moved { Moved (Watches (Named (P.holds permit.entry.key) (P.ways permit.entry.key) seen.name) seen result.2 (M.told permit.entry.key permit.entry.view) result.0) result.1.view }
-        ensures kept { Keeps (P.ways permit.entry.key) permit.entry.view result.1.view permit.entry.value result.1.value }
-        ensures found { Found (P.ways permit.entry.key) permit.entry.view result.1.view permit.entry.value result.1.value result.2 }
-        ensures key { result.1.key ≡ permit.entry.key };
+        ensures { MadeStep P.holds P.ways M.told permit.entry seen result.0 result.1 result.2 };
 }
 
 impl Word for () {
@@ -41,10 +36,7 @@ impl Word for () {
     ) -> (u64, Permit<'a, T, V, P>, Watch<E>)
         requires knows { MayKnow (P.holds permit.key) (P.ways permit.key) seen }
         requires keeps { Operates just_one (P.holds permit.key) (P.ways permit.key) permit.view permit.value 1 operation (M.told permit.key permit.view) }
-        ensures moved { Moved (Watches (Named (P.holds permit.entry.key) (P.ways permit.entry.key) seen.name) seen result.2 (M.told permit.entry.key permit.entry.view) result.0) result.1.view }
-        ensures kept { Keeps (P.ways permit.entry.key) permit.entry.view result.1.view permit.entry.value result.1.value }
-        ensures found { Found (P.ways permit.entry.key) permit.entry.view result.1.view permit.entry.value result.1.value result.2 }
-        ensures key { result.1.key ≡ permit.entry.key }
+        ensures { MadeStep P.holds P.ways M.told permit.entry seen result.0 result.1 result.2 }
     {
         unreachable!()
     }
@@ -61,10 +53,7 @@ impl Word for u64 {
     ) -> (u64, Permit<'a, T, V, P>, Watch<E>)
         requires knows { MayKnow (P.holds permit.key) (P.ways permit.key) seen }
         requires keeps { Operates with_second (P.holds permit.key) (P.ways permit.key) permit.view permit.value 1 operation (M.told permit.key permit.view) }
-        ensures moved { Moved (Watches (Named (P.holds permit.entry.key) (P.ways permit.entry.key) seen.name) seen result.2 (M.told permit.entry.key permit.entry.view) result.0) result.1.view }
-        ensures kept { Keeps (P.ways permit.entry.key) permit.entry.view result.1.view permit.entry.value result.1.value }
-        ensures found { Found (P.ways permit.entry.key) permit.entry.view result.1.view permit.entry.value result.1.value result.2 }
-        ensures key { result.1.key ≡ permit.entry.key }
+        ensures { MadeStep P.holds P.ways M.told permit.entry seen result.0 result.1 result.2 }
     {
         match operation {
             Operation::Load => permit.load_second::<M>(seen),

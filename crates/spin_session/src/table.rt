@@ -1,7 +1,8 @@
 //! The rule of a cell that runs a lock's table. Begin with [`Runs`].
 ghost use Rattle.std.specs.Prelude.{◌≡◌, ⊤, ℕ, None};
 ghost use Rattle.std.specs.Option.{IfSome};
-ghost use Rattle.spin_step.specs.Acts.{Table as ItsTable};
+ghost use Rattle.spin_step.specs.Acts.{Table as ItsTable, begin_of, filled, next_of, operation_by};
+ghost use Rattle.spin_step.specs.Operations.{wrapped};
 ghost use Rattle.spin_step.specs.declared.answer.Answer.{Answer as AnAnswer};
 ghost use Rattle.spin_session.specs.Meaning.{Meaning};
 ghost use Rattle.spin_session.specs.Operating.{Executes};
@@ -12,7 +13,7 @@ use spin_core::cell::{Play, Rule};
 use spin_core::relax::MAX_BACK_OFF;
 use spin_core::tie::{self, Opening};
 use spin_core::trace::Trace;
-use spin_step::{Hold, Operation, Seat, Steps};
+use spin_step::{Answer, Hold, Next, Operation, Seat};
 use std::alloc::AllocError;
 use std::marker::PhantomData;
 
@@ -59,18 +60,35 @@ pub trait Runs<T>: Rule<
 
     type Point: Copy;
 
-    type Table: Steps<T, Self::Call, Self::Point>;
+    /// The words of the model.
+    type Words;
 
     // The tables, by the number with which the words open and by the first value.
-    ghost tables: { ℕ → T → ItsTable Self.Table.Words T Self.Call Self.Point (AnAnswer T) };
+    ghost tables: { ℕ → T → ItsTable Self.Words T Self.Call Self.Point (AnAnswer T) };
 
     // What the word and the points of the table are in the plain lock.
     ghost meaning: { Meaning Self.Call Self.Point };
 
-    /// Returns the table for words that open with 0. The steps are the same for all numbers. It has no answer `Value`.
-    fn table() -> Self::Table
-        ensures is { Self.Table.table result ≡ tables 0 }
-        ensures given { Self.Table.given ≡ None };
+    /// Returns the point at which the call begins, by the lock's table (see `Steps`), whatever its words open with.
+    fn start(call: Self::Call, holds: Option<Hold>) -> Option<Self::Point>
+        ensures { (first : ℕ) (value : T) → result ≡ begin_of (tables first value) call holds };
+
+    /// Returns the place of the word on which the step at this point works.
+    fn place(point: Self::Point) -> usize
+        ensures { (first : ℕ) (value : T) → result ≡ (tables first value).word point };
+
+    /// Returns the operation of the call's next step.
+    fn operation(call: Self::Call, point: Self::Point, holds: Option<Hold>) -> Operation
+        ensures { (first : ℕ) (value : T) → result ≡ wrapped (operation_by ((tables first value).act call point holds)) };
+
+    /// Returns how the call goes on, if its step found this number. The table has no answer `Value`.
+    fn next(
+        call: Self::Call,
+        point: Self::Point,
+        holds: Option<Hold>,
+        found: u64,
+    ) -> Next<Self::Point, Answer<()>>
+        ensures { (first : ℕ) (value : T) → filled None result ≡ next_of (tables first value) call point holds found };
 
     /// Returns how many hints a waiting call gives before its next step, at the point `to`, or 0 if it makes this step at
     /// once. Its last step, at the point `from`, found this number. A call that backs off gives `due` hints: twice as many
@@ -86,9 +104,8 @@ pub trait Runs<T>: Rule<
         due: u32,
     ) -> u32 {
         let _ = found;
-        let table = Self::table();
-        let looked = is_load(table.operation(call, from, holds));
-        if looked && !is_load(table.operation(call, to, holds)) {
+        let looked = is_load(Self::operation(call, from, holds));
+        if looked && !is_load(Self::operation(call, to, holds)) {
             0
         } else {
             due.max(1).min(MAX_BACK_OFF)

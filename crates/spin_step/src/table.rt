@@ -26,7 +26,7 @@ pub enum Operation {
 ///
 /// # Contract
 /// The value is the lock's table in the logic (`table`), for each value of `T` with which the lock may open.
-pub trait Steps<T, C, L>: Copy {
+pub trait Steps<T, C, L> {
     /// The words of the model.
     type Words: Words;
 

@@ -10,7 +10,7 @@ use crate::ticket_calls::TicketWords;
 ///
 /// # Contract
 /// The numbers are those of the model (`memory`).
-pub trait Words: Copy {
+pub trait Words: Sized {
     ghost memory: { Memory Self };
 
     // How many words there are.
@@ -20,8 +20,8 @@ pub trait Words: Copy {
 
     /// Returns the number in the word at this place. To put it there again changes nothing. Numbers below the limit have
     /// 64 bits.
-    fn number(self, place: usize) -> u64
-        ensures number { place < places → (result ≡ word_number memory place self) × (memory.put place result self ≡ self) }
+    fn number(&self, place: usize) -> u64
+        ensures number { place < places → (result ≡ word_number memory place self.now) × (memory.put place result self.now ≡ self.now) }
         ensures small { (result < limit) × (limit ≤ 2 ^ 64) };
 
     /// Returns the words after this number is put at this place.
@@ -39,9 +39,9 @@ impl Words for bool {
 
     ghost limit = { 2 };
 
-    fn number(self, place: usize) -> u64 {
+    fn number(&self, place: usize) -> u64 {
         let _ = place;
-        self as u64
+        *self as u64
     }
 
     fn put(self, place: usize, number: u64) -> bool {
@@ -57,9 +57,9 @@ impl Words for usize {
 
     ghost limit = { 2 ^ 64 };
 
-    fn number(self, place: usize) -> u64 {
+    fn number(&self, place: usize) -> u64 {
         let _ = place;
-        self as u64
+        *self as u64
     }
 
     fn put(self, place: usize, number: u64) -> usize {
@@ -75,9 +75,9 @@ impl Words for u8 {
 
     ghost limit = { 256 };
 
-    fn number(self, place: usize) -> u64 {
+    fn number(&self, place: usize) -> u64 {
         let _ = place;
-        self as u64
+        *self as u64
     }
 
     fn put(self, place: usize, number: u64) -> u8 {
@@ -93,8 +93,9 @@ impl Words for TicketWords {
 
     ghost limit = { 2 ^ 64 };
 
-    fn number(self, place: usize) -> u64 {
-        if place == 0 { self.next } else { self.serving }
+    fn number(&self, place: usize) -> u64 {
+        let TicketWords { next, serving } = *self;
+        if place == 0 { next } else { serving }
     }
 
     fn put(self, place: usize, number: u64) -> TicketWords {

@@ -6,7 +6,7 @@ use crate::mutex::fair::{
 use spin_core::relax::Loop;
 use spin_fair::fair::{FairMutex, FairRule, STARVATION_SPINS};
 use spin_session::table::Runs;
-use spin_step::{Next, Steps};
+use spin_step::Next;
 use spin_step_more::{FairCall, FairPoint};
 use std::mem::forget;
 
@@ -62,8 +62,7 @@ fn a_forgotten_starver_keeps_newcomers_away(rt: HostRuntime) {
 
 // Returns where a `lock` goes on that finds this word at this point, by the table that the mutex runs.
 fn goes_on(at: FairPoint, word: u64) -> FairPoint {
-    let table = <FairRule as Runs<u64>>::table();
-    match Steps::<u64, FairCall, FairPoint>::next(&table, FairCall::Lock, at, None, word) {
+    match <FairRule as Runs<u64>>::next(FairCall::Lock, at, None, word) {
         Next::Continue(to) => to,
         Next::Answers(_, _) => unreachable!(),
     }

@@ -1,8 +1,7 @@
 //! The steps on a cell's words. Each appends to the cell's trace. Begin with [`Play`].
-ghost use Rattle.std.specs.Prelude.{◌≡◌, ◌+◌, ◌-◌, ◌%◌, ◌^◌, ◌==◌, ℕ, List, Option, bit_or};
+ghost use Rattle.std.specs.Prelude.{◌+◌, ◌-◌, ◌%◌, ◌^◌, ◌==◌, ℕ, List, Option, bit_or};
 ghost use prog.Atomic.{either};
-ghost use Rattle.spin_core.specs.Cell.{Moved, Keeps};
-ghost use Rattle.spin_core.specs.Traced.{Found, Named, MayKnow, Traces, TracesSecond, Watches};
+ghost use Rattle.spin_core.specs.Traced.{MadeStep, MayKnow, Traces, TracesSecond};
 
 use super::{Permit, Rule};
 use crate::trace::{Trace, Watch};
@@ -35,8 +34,7 @@ impl<K, V, E> Play<K, V, E> for Brand {
 /// # Contract
 /// For all words, traces and views of other parties, there have to be a next view and entries that satisfy
 /// the `Play` and keep the rule (`Traces`). The watch has to be of the cell's trace, or to know nothing
-/// (`MayKnow`). After the step the `Play` holds of the trace that the returned watch knows (`Moved`,
-/// `Watches`).
+/// (`MayKnow`). After the step the `Play` holds of the trace that the returned watch knows (`MadeStep`).
 ///
 /// The rule may know a fact of a value that nobody writes. Then the step has to keep this fact (`Carrying`).
 /// A party that stops writing has to show the fact of the value that it leaves. Each party that uses the value before
@@ -45,10 +43,7 @@ impl<'a, T, V, E, S, P: Rule<T, V, Second = Trace<E, S>>> Permit<'a, T, V, P> {
     /// Loads the first word.
     pub fn load<M: Play<P::Key, V, E>>(self, seen: Watch<E>) -> (u64, Permit<'a, T, V, P>, Watch<E>)
         requires { MayKnow (P.holds self.key) (P.ways self.key) seen × Traces (P.holds self.key) (P.ways self.key) self.view self.value (λ n. n) (M.told self.key self.view) }
-        ensures moved { Moved (Watches (Named (P.holds self.entry.key) (P.ways self.entry.key) seen.name) seen result.2 (M.told self.entry.key self.entry.view) result.0) result.1.view }
-        ensures kept { Keeps (P.ways self.entry.key) self.entry.view result.1.view self.entry.value result.1.value }
-        ensures found { Found (P.ways self.entry.key) self.entry.view result.1.view self.entry.value result.1.value result.2 }
-        ensures key { result.1.key ≡ self.entry.key }
+        ensures { MadeStep P.holds P.ways M.told self.entry seen result.0 result.1 result.2 }
     {
         let Permit { cell, marker: _ } = self;
         let found = unsafe { raw::load::<Brand>(&raw const (*cell).first, SeqCst) };
@@ -70,10 +65,7 @@ impl<'a, T, V, E, S, P: Rule<T, V, Second = Trace<E, S>>> Permit<'a, T, V, P> {
         seen: Watch<E>,
     ) -> (u64, Permit<'a, T, V, P>, Watch<E>)
         requires { MayKnow (P.holds self.key) (P.ways self.key) seen × Traces (P.holds self.key) (P.ways self.key) self.view self.value (λ n. either (n == old) new n) (M.told self.key self.view) }
-        ensures moved { Moved (Watches (Named (P.holds self.entry.key) (P.ways self.entry.key) seen.name) seen result.2 (M.told self.entry.key self.entry.view) result.0) result.1.view }
-        ensures kept { Keeps (P.ways self.entry.key) self.entry.view result.1.view self.entry.value result.1.value }
-        ensures found { Found (P.ways self.entry.key) self.entry.view result.1.view self.entry.value result.1.value result.2 }
-        ensures key { result.1.key ≡ self.entry.key }
+        ensures { MadeStep P.holds P.ways M.told self.entry seen result.0 result.1 result.2 }
     {
         let Permit { cell, marker: _ } = self;
         let found = unsafe { exchange::<Brand>(&raw const (*cell).first, old, new) };
@@ -94,10 +86,7 @@ impl<'a, T, V, E, S, P: Rule<T, V, Second = Trace<E, S>>> Permit<'a, T, V, P> {
         seen: Watch<E>,
     ) -> (Permit<'a, T, V, P>, Watch<E>)
         requires { MayKnow (P.holds self.key) (P.ways self.key) seen × Traces (P.holds self.key) (P.ways self.key) self.view self.value (λ _. new) (λ log es _. M.told self.key self.view log es 0) }
-        ensures moved { Moved (Watches (Named (P.holds self.entry.key) (P.ways self.entry.key) seen.name) seen result.1 (λ log es _. M.told self.entry.key self.entry.view log es 0) 0) result.0.view }
-        ensures kept { Keeps (P.ways self.entry.key) self.entry.view result.0.view self.entry.value result.0.value }
-        ensures found { Found (P.ways self.entry.key) self.entry.view result.0.view self.entry.value result.0.value result.1 }
-        ensures key { result.0.key ≡ self.entry.key }
+        ensures { MadeStep P.holds P.ways M.told self.entry seen 0 result.0 result.1 }
     {
         let Permit { cell, marker: _ } = self;
         unsafe { raw::store::<Brand>(&raw const (*cell).first, new, SeqCst) };
@@ -117,10 +106,7 @@ impl<'a, T, V, E, S, P: Rule<T, V, Second = Trace<E, S>>> Permit<'a, T, V, P> {
         seen: Watch<E>,
     ) -> (u64, Permit<'a, T, V, P>, Watch<E>)
         requires { MayKnow (P.holds self.key) (P.ways self.key) seen × Traces (P.holds self.key) (P.ways self.key) self.view self.value (λ n. (n + by) % 2 ^ 64) (M.told self.key self.view) }
-        ensures moved { Moved (Watches (Named (P.holds self.entry.key) (P.ways self.entry.key) seen.name) seen result.2 (M.told self.entry.key self.entry.view) result.0) result.1.view }
-        ensures kept { Keeps (P.ways self.entry.key) self.entry.view result.1.view self.entry.value result.1.value }
-        ensures found { Found (P.ways self.entry.key) self.entry.view result.1.view self.entry.value result.1.value result.2 }
-        ensures key { result.1.key ≡ self.entry.key }
+        ensures { MadeStep P.holds P.ways M.told self.entry seen result.0 result.1 result.2 }
     {
         let Permit { cell, marker: _ } = self;
         let found = unsafe { raw::fetch_add::<Brand>(&raw const (*cell).first, by, SeqCst) };
@@ -141,10 +127,7 @@ impl<'a, T, V, E, S, P: Rule<T, V, Second = Trace<E, S>>> Permit<'a, T, V, P> {
         seen: Watch<E>,
     ) -> (u64, Permit<'a, T, V, P>, Watch<E>)
         requires { MayKnow (P.holds self.key) (P.ways self.key) seen × Traces (P.holds self.key) (P.ways self.key) self.view self.value (λ n. (n + (2 ^ 64 - by)) % 2 ^ 64) (M.told self.key self.view) }
-        ensures moved { Moved (Watches (Named (P.holds self.entry.key) (P.ways self.entry.key) seen.name) seen result.2 (M.told self.entry.key self.entry.view) result.0) result.1.view }
-        ensures kept { Keeps (P.ways self.entry.key) self.entry.view result.1.view self.entry.value result.1.value }
-        ensures found { Found (P.ways self.entry.key) self.entry.view result.1.view self.entry.value result.1.value result.2 }
-        ensures key { result.1.key ≡ self.entry.key }
+        ensures { MadeStep P.holds P.ways M.told self.entry seen result.0 result.1 result.2 }
     {
         let Permit { cell, marker: _ } = self;
         let found = unsafe { raw::fetch_sub::<Brand>(&raw const (*cell).first, by, SeqCst) };
@@ -165,10 +148,7 @@ impl<'a, T, V, E, S, P: Rule<T, V, Second = Trace<E, S>>> Permit<'a, T, V, P> {
         seen: Watch<E>,
     ) -> (u64, Permit<'a, T, V, P>, Watch<E>)
         requires { MayKnow (P.holds self.key) (P.ways self.key) seen × Traces (P.holds self.key) (P.ways self.key) self.view self.value (λ n. bit_or n mask) (M.told self.key self.view) }
-        ensures moved { Moved (Watches (Named (P.holds self.entry.key) (P.ways self.entry.key) seen.name) seen result.2 (M.told self.entry.key self.entry.view) result.0) result.1.view }
-        ensures kept { Keeps (P.ways self.entry.key) self.entry.view result.1.view self.entry.value result.1.value }
-        ensures found { Found (P.ways self.entry.key) self.entry.view result.1.view self.entry.value result.1.value result.2 }
-        ensures key { result.1.key ≡ self.entry.key }
+        ensures { MadeStep P.holds P.ways M.told self.entry seen result.0 result.1 result.2 }
     {
         let Permit { cell, marker: _ } = self;
         let found = unsafe { raw::fetch_or::<Brand>(&raw const (*cell).first, mask, SeqCst) };
@@ -194,10 +174,7 @@ impl<'a, T, V, E, P: Rule<T, V, Second = Trace<E, u64>>> Permit<'a, T, V, P> {
         seen: Watch<E>,
     ) -> (u64, Permit<'a, T, V, P>, Watch<E>)
         requires { MayKnow (P.holds self.key) (P.ways self.key) seen × TracesSecond (P.holds self.key) (P.ways self.key) self.view self.value (λ n. n) (M.told self.key self.view) }
-        ensures moved { Moved (Watches (Named (P.holds self.entry.key) (P.ways self.entry.key) seen.name) seen result.2 (M.told self.entry.key self.entry.view) result.0) result.1.view }
-        ensures kept { Keeps (P.ways self.entry.key) self.entry.view result.1.view self.entry.value result.1.value }
-        ensures found { Found (P.ways self.entry.key) self.entry.view result.1.view self.entry.value result.1.value result.2 }
-        ensures key { result.1.key ≡ self.entry.key }
+        ensures { MadeStep P.holds P.ways M.told self.entry seen result.0 result.1 result.2 }
     {
         let Permit { cell, marker: _ } = self;
         let found = unsafe { raw::load::<Brand>(&raw const (*cell).second.word, SeqCst) };
@@ -218,10 +195,7 @@ impl<'a, T, V, E, P: Rule<T, V, Second = Trace<E, u64>>> Permit<'a, T, V, P> {
         seen: Watch<E>,
     ) -> (Permit<'a, T, V, P>, Watch<E>)
         requires { MayKnow (P.holds self.key) (P.ways self.key) seen × TracesSecond (P.holds self.key) (P.ways self.key) self.view self.value (λ _. new) (λ log es _. M.told self.key self.view log es 0) }
-        ensures moved { Moved (Watches (Named (P.holds self.entry.key) (P.ways self.entry.key) seen.name) seen result.1 (λ log es _. M.told self.entry.key self.entry.view log es 0) 0) result.0.view }
-        ensures kept { Keeps (P.ways self.entry.key) self.entry.view result.0.view self.entry.value result.0.value }
-        ensures found { Found (P.ways self.entry.key) self.entry.view result.0.view self.entry.value result.0.value result.1 }
-        ensures key { result.0.key ≡ self.entry.key }
+        ensures { MadeStep P.holds P.ways M.told self.entry seen 0 result.0 result.1 }
     {
         let Permit { cell, marker: _ } = self;
         unsafe { raw::store::<Brand>(&raw const (*cell).second.word, new, SeqCst) };

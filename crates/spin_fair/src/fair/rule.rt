@@ -14,7 +14,7 @@ use spin_core::tie::Opening;
 use spin_core::trace::{Trace, Watch};
 use spin_session::calls::{finish, give};
 use spin_session::table::{self, Ahead, Runs};
-use spin_step::Hold;
+use spin_step::{Answer, Hold, Next, Operation, Steps};
 use spin_step_more::fair::{self, HOLDER, STARVER};
 use spin_step_more::{FairCall, FairPoint, FairTable};
 
@@ -49,6 +49,11 @@ impl<T> Rule<T, Party> for FairRule {
     ghost lent = { untold };
 }
 
+const TABLE: FairTable = FairTable {
+    cap: fair::MAX_STARVERS,
+    patience: STARVATION_SPINS + 1,
+};
+
 impl<T> Runs<T> for FairRule {
     type Call = FairCall;
 
@@ -56,17 +61,31 @@ impl<T> Runs<T> for FairRule {
 
     type Point = FairPoint;
 
-    type Table = FairTable;
+    type Words = usize;
 
     ghost tables = { fair_tables };
 
     ghost meaning = { fair_meaning };
 
-    fn table() -> FairTable {
-        FairTable {
-            cap: fair::MAX_STARVERS,
-            patience: STARVATION_SPINS + 1,
-        }
+    fn start(call: FairCall, holds: Option<Hold>) -> Option<FairPoint> {
+        Steps::<T, FairCall, FairPoint>::start(&TABLE, call, holds)
+    }
+
+    fn place(point: FairPoint) -> usize {
+        Steps::<T, FairCall, FairPoint>::place(&TABLE, point)
+    }
+
+    fn operation(call: FairCall, point: FairPoint, holds: Option<Hold>) -> Operation {
+        Steps::<T, FairCall, FairPoint>::operation(&TABLE, call, point, holds)
+    }
+
+    fn next(
+        call: FairCall,
+        point: FairPoint,
+        holds: Option<Hold>,
+        found: u64,
+    ) -> Next<FairPoint, Answer<()>> {
+        Steps::<T, FairCall, FairPoint>::next(&TABLE, call, point, holds, found)
     }
 
     // A thread that found the lock held pauses before it looks again. All pauses are equally long, so the number of

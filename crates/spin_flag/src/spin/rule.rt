@@ -11,7 +11,7 @@ use spin_core::tie::Opening;
 use spin_core::trace::{Trace, Watch};
 use spin_session::calls::{finish, give};
 use spin_session::table::{self, Runs};
-use spin_step::{FlagCall, FlagPoint, FlagTable, Hold};
+use spin_step::{Answer, FlagCall, FlagPoint, FlagTable, Hold, Next, Operation, Steps};
 
 /// A party: where it is in a call, or what it holds; with its number.
 pub type Party = table::Party<FlagCall, FlagPoint>;
@@ -51,14 +51,31 @@ impl<T> Runs<T> for FlagRule {
 
     type Point = FlagPoint;
 
-    type Table = FlagTable;
+    type Words = bool;
 
     ghost tables = { flag_tables };
 
     ghost meaning = { flag_meaning };
 
-    fn table() -> FlagTable {
-        FlagTable
+    fn start(call: FlagCall, holds: Option<Hold>) -> Option<FlagPoint> {
+        Steps::<T, FlagCall, FlagPoint>::start(&FlagTable, call, holds)
+    }
+
+    fn place(point: FlagPoint) -> usize {
+        Steps::<T, FlagCall, FlagPoint>::place(&FlagTable, point)
+    }
+
+    fn operation(call: FlagCall, point: FlagPoint, holds: Option<Hold>) -> Operation {
+        Steps::<T, FlagCall, FlagPoint>::operation(&FlagTable, call, point, holds)
+    }
+
+    fn next(
+        call: FlagCall,
+        point: FlagPoint,
+        holds: Option<Hold>,
+        found: u64,
+    ) -> Next<FlagPoint, Answer<()>> {
+        Steps::<T, FlagCall, FlagPoint>::next(&FlagTable, call, point, holds, found)
     }
 
     fn laws() {}

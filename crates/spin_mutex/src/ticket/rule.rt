@@ -14,9 +14,12 @@ use spin_core::guard::{self, Uses};
 use spin_core::relax::MAX_BACK_OFF;
 use spin_core::tie::Opening;
 use spin_core::trace::{Trace, Watch};
-use spin_session::calls::{finish, give, peek};
-use spin_session::table::{self, Runs};
-use spin_step::{Hold, TicketCall, TicketPoint, TicketTable};
+use spin_session::calls::{finish, give};
+use spin_session::second::Word;
+use spin_session::table::{self, Peek, Runs};
+use spin_step::{
+    Answer, Hold, Next, Operation, Steps, TicketCall, TicketPoint, TicketTable, TicketWords,
+};
 
 /// The rule of a [`TicketMutex`](super::TicketMutex): its words are the next ticket's number and the number served.
 ///
@@ -50,6 +53,9 @@ pub type Entry<T> = table::Entry<TicketCall, T>;
 /// The whole history of a lock of values of type `T`, at its end.
 pub type History<T> = Trace<Entry<T>, u64>;
 
+// The steps are the same, whatever the first ticket is.
+const TABLE: TicketTable = TicketTable { first: 0 };
+
 impl<T> Runs<T> for TicketRule {
     type Call = TicketCall;
 
@@ -57,14 +63,31 @@ impl<T> Runs<T> for TicketRule {
 
     type Point = TicketPoint;
 
-    type Table = TicketTable;
+    type Words = TicketWords;
 
     ghost tables = { ticket_tables };
 
     ghost meaning = { ticket_meaning };
 
-    fn table() -> TicketTable {
-        TicketTable { first: 0 }
+    fn start(call: TicketCall, holds: Option<Hold>) -> Option<TicketPoint> {
+        Steps::<T, TicketCall, TicketPoint>::start(&TABLE, call, holds)
+    }
+
+    fn place(point: TicketPoint) -> usize {
+        Steps::<T, TicketCall, TicketPoint>::place(&TABLE, point)
+    }
+
+    fn operation(call: TicketCall, point: TicketPoint, holds: Option<Hold>) -> Operation {
+        Steps::<T, TicketCall, TicketPoint>::operation(&TABLE, call, point, holds)
+    }
+
+    fn next(
+        call: TicketCall,
+        point: TicketPoint,
+        holds: Option<Hold>,
+        found: u64,
+    ) -> Next<TicketPoint, Answer<()>> {
+        Steps::<T, TicketCall, TicketPoint>::next(&TABLE, call, point, holds, found)
     }
 
     // The thread that is next gives one hint. While others wait before it, a thread looks seldom, so that it does not
@@ -104,8 +127,9 @@ impl<T> guard::Release<T, Party> for TicketRule {
     // were tied to the seat, `deref_mut` could not lend the guard's permit.
     fn release(writer: WritePermit<'_, T, Party, TicketRule>) -> Left {
         let (number, writer, _) = served(writer, Watch::nothing());
-        let (seen, release) = (Watch::nothing(), TicketCall::Release);
+        let release = TicketCall::Release;
         let held = Hold::Ticket(number);
+        let seen = Watch::nothing();
         finish(give::<T, TicketRule>(writer, seen, release, held, None))
     }
 
@@ -128,6 +152,12 @@ pub(super) fn served<'a, T>(
     ensures since { writer.entry.key.name ≡ seen.name → writer.entry.view.2 ≤ length seen.entries → (Since model Nothing (writer.entry.key, Some writer.entry.view, seen) (result.1.key, Some result.1.view, result.2)) × (result.1.view.2 ≡ length result.2.entries) }
 {
     <TicketRule as Runs<T>>::laws();
-    let (number, permit, seen) = peek::<T, TicketRule>(writer.into_permit(), seen);
+    let (number, permit, seen) = <u64 as Word>::operate::<
+        T,
+        Party,
+        Entry<T>,
+        TicketRule,
+        Peek<TicketRule>,
+    >(writer.into_permit(), Operation::Load, seen);
     (number, permit.into_writer(), seen)
 }

@@ -2,10 +2,10 @@
 //! gives the value or the right to make it.
 ghost use Rattle.std.specs.Prelude.{◌≡◌, ◌≤◌, ℕ, Some, None, true, false, length, IfErr, IfSome};
 ghost use Rattle.spin_core.specs.Logs.{OneIsPrefix};
-ghost use Rattle.spin_core.specs.Cell.{use_of, Moved, Keeps};
+ghost use Rattle.spin_core.specs.Cell.{use_of};
 ghost use Rattle.spin_core.specs.Own.{what};
 ghost use Rattle.spin_core.specs.Passes.{own_mark};
-ghost use Rattle.spin_core.specs.Traced.{Found as FoundIn, MayKnow, Named, Watches};
+ghost use Rattle.spin_core.specs.Traced.{MadeStep, MayKnow};
 ghost use Rattle.spin_session.specs.Meaning.{just_one};
 ghost use Rattle.spin_session.specs.Operating.{Operates};
 ghost use Rattle.spin_session.specs.Turns.{has_begun};
@@ -65,7 +65,7 @@ impl<'a, T, S: Seed<T>> Found<'a, T, S> {
 }
 
 impl<'a, T, S: Seed<T>> Account<'a, T, S> {
-    ghost use Rattle.spin_once.specs.Accounts.{Place, here, Answered, Entered, Comes, Under, FindsSeed, GetsOrNone, ComesIn, Claims, MayRun};
+    ghost use Rattle.spin_once.specs.Accounts.{Place, here, Answered, Entered, Comes, MadeSteps, GetsOrNone, ComesIn, Claims, MayRun};
     ghost use Rattle.spin_once.specs.Passes.{After, AreOfOne};
 
     /// Ends the account of a party that is in no call.
@@ -101,11 +101,8 @@ impl<'a, T, S: Seed<T>> Account<'a, T, S> {
     fn step(self, call: OnceCall<()>, point: OncePoint) -> (Next<OncePoint, Answer<()>>, Self)
         requires at { IsAt call point (what self.party.view) }
         requires quiet { is_run point ≡ false }
-        ensures comes { (p : Place T S) → Under call p (here self.entry) → Comes call result.0 p (here result.1) }
-        ensures key { result.1.party.key ≡ self.entry.party.key }
-        ensures view { what result.1.party.view ≡ Some (view_of call result.0) }
+        ensures made { MadeSteps call result.0 self.entry result.1 }
         ensures goes { (n : ℕ) × (result.0 ≡ next_at call point n) }
-        ensures seed { FindsSeed result.1 }
     {
         let Self { party, seen } = self;
         let operation = OnceTable.operation(call, point, None);
@@ -127,11 +124,8 @@ impl<'a, T, S: Seed<T>> Account<'a, T, S> {
     ) -> (Next<OncePoint, Answer<()>>, Self)
         requires at { what self.party.view ≡ Some (in_call call point) }
         requires quiet { is_run point ≡ false }
-        ensures comes { (p : Place T S) → Entered call p (here self.entry) → Comes call result.0 p (here result.1) }
-        ensures key { result.1.party.key ≡ self.entry.party.key }
-        ensures view { what result.1.party.view ≡ Some (view_of call result.0) }
+        ensures made { MadeSteps call result.0 self.entry result.1 }
         ensures stops { IsStepOf call result.0 × (stops result.0 ≡ true) }
-        ensures seed { FindsSeed result.1 }
     {
         let mut at = point;
         let mut given = 0;
@@ -296,10 +290,7 @@ pub(super) fn operate<'a, T, S: Seed<T>, M: Play<Key<T, S>, Party, Entry<T>>>(
 ) -> (u64, Caller<'a, T, S>, Watch<Entry<T>>)
     requires knows { MayKnow (IsOnce party.key.opening) (once_ways S.makes party.key) seen }
     requires keeps { Operates just_one (IsOnce party.key.opening) (once_ways S.makes party.key) party.view party.value 0 operation (M.told party.key party.view) }
-    ensures moved { Moved (Watches (Named (IsOnce party.entry.key.opening) (once_ways S.makes party.entry.key) seen.name) seen result.2 (M.told party.entry.key party.entry.view) result.0) result.1.view }
-    ensures kept { Keeps (once_ways S.makes party.entry.key) party.entry.view result.1.view party.entry.value result.1.value }
-    ensures found { FoundIn (once_ways S.makes party.entry.key) party.entry.view result.1.view party.entry.value result.1.value result.2 }
-    ensures key { result.1.key ≡ party.entry.key }
+    ensures { MadeStep (λ key. IsOnce key.opening) (once_ways S.makes) M.told party.entry seen result.0 result.1 result.2 }
 {
     let _ = (call, point);
     match operation {

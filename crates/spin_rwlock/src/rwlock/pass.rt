@@ -392,7 +392,8 @@ pub(super) fn lend<'a, T, K: Kind, R: RelaxStrategy, W: Wait>(
     requires { Stands None session }
     ensures { Lends (call_of K.hold true) Granted (spot_of session.entry) result }
 {
-    let (call, after) = (call_of(K::hold(), true), K::hold());
+    let call = call_of(K::hold(), true);
+    let after = K::hold();
     SharedGuard::lent(come::<T, R, W>(session, call, after, rt))
 }
 

@@ -108,8 +108,13 @@ impl<'a, T, K: Kind, R> SharedGuard<'a, T, K, R> {
         ensures made { Calls rw_tables Release Done (shared_spot self.entry) (spot_of result) }
         ensures still { IfSome (shared_value self.entry) (IsLast result.permit.key result.seen.entries) }
     {
-        let (call, held) = (RwCall::Release, Some(K::hold()));
-        make(self.into_session(), call, held, Answer::Done, None)
+        make(
+            self.into_session(),
+            RwCall::Release,
+            Some(K::hold()),
+            Answer::Done,
+            None,
+        )
     }
 }
 

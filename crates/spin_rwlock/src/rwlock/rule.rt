@@ -12,7 +12,7 @@ use spin_core::tie::Opening;
 use spin_core::trace::Trace;
 use spin_session::calls::SessionOf;
 use spin_session::table::{self, Ahead, Runs};
-use spin_step::Hold;
+use spin_step::{Answer, Hold, Next, Operation, Steps};
 use spin_step_more::rw;
 use spin_step_more::rw_calls::{RwCall, RwPoint, RwTable};
 
@@ -54,6 +54,10 @@ impl<T> Rule<T, Party> for RwRule<T> {
     ghost lent = { untold };
 }
 
+const TABLE: RwTable = RwTable {
+    cap: rw::MAX_READERS,
+};
+
 impl<T> Runs<T> for RwRule<T> {
     type Call = RwCall;
 
@@ -61,16 +65,31 @@ impl<T> Runs<T> for RwRule<T> {
 
     type Point = RwPoint;
 
-    type Table = RwTable;
+    type Words = usize;
 
     ghost tables = { rw_tables };
 
     ghost meaning = { rw_meaning };
 
-    fn table() -> RwTable {
-        RwTable {
-            cap: rw::MAX_READERS,
-        }
+    fn start(call: RwCall, holds: Option<Hold>) -> Option<RwPoint> {
+        Steps::<T, RwCall, RwPoint>::start(&TABLE, call, holds)
+    }
+
+    fn place(point: RwPoint) -> usize {
+        Steps::<T, RwCall, RwPoint>::place(&TABLE, point)
+    }
+
+    fn operation(call: RwCall, point: RwPoint, holds: Option<Hold>) -> Operation {
+        Steps::<T, RwCall, RwPoint>::operation(&TABLE, call, point, holds)
+    }
+
+    fn next(
+        call: RwCall,
+        point: RwPoint,
+        holds: Option<Hold>,
+        found: u64,
+    ) -> Next<RwPoint, Answer<()>> {
+        Steps::<T, RwCall, RwPoint>::next(&TABLE, call, point, holds, found)
     }
 
     // A reader that the word found keeps out gives one hint before it looks again. A reader that loses a second

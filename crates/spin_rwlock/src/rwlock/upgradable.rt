@@ -51,8 +51,12 @@ impl<'a, T, R> SharedGuard<'a, T, Upgrader, R> {
         ensures granted { IfOk result (Grants TryUpgrade (shared_spot self.entry)) }
         ensures refused { IfErr result (Lends TryUpgrade Refused (shared_spot self.entry)) }
     {
-        let (held, after) = (Some(Hold::Upgradable), Some(Hold::Write));
-        match attempt(self.into_session(), RwCall::TryUpgrade, held, after) {
+        match attempt(
+            self.into_session(),
+            RwCall::TryUpgrade,
+            Some(Hold::Upgradable),
+            Some(Hold::Write),
+        ) {
             Ok(session) => Ok(RwLockWriteGuard::written(session)),
             Err(session) => Err(SharedGuard::lent(session)),
         }
@@ -91,14 +95,17 @@ impl<'a, T, R> SharedGuard<'a, T, Upgrader, R> {
     /// assert!(rt; limit.try_upgradeable_read(&rt).is_some());
     /// assert_eq!(rt; *reader, 3);
     /// ```
-    #[tactic(auto, using(crate::proofs::RwCalls::lower_at_once))]
     pub fn downgrade(self) -> RwLockReadGuard<'a, T, R>
         ensures value { shared_value result ≡ shared_value self.entry }
         ensures made { Lends Downgrade Done (shared_spot self.entry) result }
     {
-        let (held, after) = (Some(Hold::Upgradable), Some(Hold::Read));
-        let (call, done) = (RwCall::Downgrade, Answer::Done);
-        SharedGuard::lent(make(self.into_session(), call, held, done, after))
+        SharedGuard::lent(make(
+            self.into_session(),
+            RwCall::Downgrade,
+            Some(Hold::Upgradable),
+            Answer::Done,
+            Some(Hold::Read),
+        ))
     }
 }
 
@@ -130,9 +137,15 @@ impl<'a, T, R: RelaxStrategy> SharedGuard<'a, T, Upgrader, R> {
         ensures value { Some (write_value result) ≡ shared_value self.entry }
         ensures made { Grants Upgrade (shared_spot self.entry) result }
     {
-        let (call, held, after) = (RwCall::Upgrade, Some(Hold::Upgradable), Some(Hold::Write));
-        let (session, by) = (self.into_session(), Strategy::<R>::named());
-        let session = wait_for(session, call, held, Answer::Granted, after, by, rt);
-        RwLockWriteGuard::written(session)
+        let session = self.into_session();
+        RwLockWriteGuard::written(wait_for(
+            session,
+            RwCall::Upgrade,
+            Some(Hold::Upgradable),
+            Answer::Granted,
+            Some(Hold::Write),
+            Strategy::<R>::named(),
+            rt,
+        ))
     }
 }

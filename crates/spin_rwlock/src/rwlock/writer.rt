@@ -132,7 +132,8 @@ impl<'a, T, R> RwLockWriteGuard<'a, T, R> {
         ensures value { shared_value result ≡ Some (write_value self.entry) }
         ensures made { Lowers (downgrade_to K.hold) self.entry result }
     {
-        let (call, after) = (downgrade_to(K::hold()), Some(K::hold()));
+        let call = downgrade_to(K::hold());
+        let after = Some(K::hold());
         SharedGuard::lent(self.leave(call, after))
     }
 
@@ -143,9 +144,13 @@ impl<'a, T, R> RwLockWriteGuard<'a, T, R> {
         ensures made { KnowsItsSteps self.entry → Unlocks call self.entry (spot_of result) }
         ensures same { use_at rw_meaning (resting after) ≢ off → result.permit.value ≡ Some (write_value self.entry) }
     {
-        let (writer, seen) = self.into_parts();
-        let seen = watch_of(&writer, &seen);
-        give::<T, RwRule<T>>(writer, seen, call, Hold::Write, after)
+        let Self {
+            writer,
+            seen,
+            strategy: _,
+        } = self;
+        let known = watch_of(&writer, &seen);
+        give::<T, RwRule<T>>(writer, known, call, Hold::Write, after)
     }
 
     /// Consumes the guard and returns a mutable reference to the value.

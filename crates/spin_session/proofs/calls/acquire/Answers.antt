@@ -5,13 +5,13 @@ use Rattle.spin_session.proofs.calls.acquire.Goals as goal
 pub guarded-requires-clause-writes : goal.guarded-requires-clause-writes
 guarded-requires-clause-writes g c =
     let a = c.args in let f = c.begin-next in let t = g.P.Runs.tables in let s = g.P.Runs.meaning in let from = spot_of a.session in let now = spot_of f.result.3 in
-    (acquired t s a.call a.holds from now f.ensures.knows _ _ (ended t s a.call a.holds from now f.result.0 f.ensures.comes _ _ c.in-Answers.is) c.requires.acquires).0
+    (acquired t s a.call a.holds from now f.ensures.made.knows _ _ (ended t s a.call a.holds from now f.result.0 f.ensures.comes _ _ c.in-Answers.is) c.requires.acquires).0
 
 pub returns-in-Answers : goal.returns-in-Answers
 returns-in-Answers g c =
     let a = c.args in let f = c.begin-next in let t = g.P.Runs.tables in let s = g.P.Runs.meaning in let from = spot_of a.session in let now = spot_of f.result.3 in
     c.guarded.ensures.grants a.call from
-    (acquired t s a.call a.holds from now f.ensures.knows _ _ (ended t s a.call a.holds from now f.result.0 f.ensures.comes _ _ c.in-Answers.is) c.requires.acquires).1
+    (acquired t s a.call a.holds from now f.ensures.made.knows _ _ (ended t s a.call a.holds from now f.result.0 f.ensures.comes _ _ c.in-Answers.is) c.requires.acquires).1
 
 pub guarded-requires-in-Continue-clause-writes : goal.guarded-requires-in-Continue-clause-writes
 guarded-requires-in-Continue-clause-writes g c =

@@ -6,7 +6,7 @@ use Rattle.std.specs.Option.{IfSome}
 use Rattle.spin_core.specs.Passes.{own_mark}
 use Rattle.spin_core.specs.Spots.{Releases}
 use Rattle.spin_core.specs.Traced.{Named}
-use Rattle.spin_step.specs.Acts.{begin_of, operation_by}
+use Rattle.spin_step.specs.Acts.{operation_by}
 use Rattle.spin_step.specs.Operations.{wrapped}
 use Rattle.spin_step.specs.declared.answer.Answer.TheVariants.{Done}
 use Rattle.spin_step.specs.declared.place.Seat.TheVariants.{Holding}
@@ -24,13 +24,9 @@ pub operate-permit-requires-clause-keeps : goal.operate-permit-requires-clause-k
 operate-permit-requires-clause-keeps g c =
     let a = c.args in let it = c.into_permit-permit in let p = it.result in let t = g.P.Runs.tables in let b = g.P.Runs.meaning in let call = a.call in let o = c.operation-operation in
     let begins : ((table_at t p.key).asks call (Some a.holds)).begins (Some a.holds) ≡ true = rw it.ensures.key c.requires.begins in
-    let t₀ = t 0 in let alike = c.laws.ensures.alike p.key.value p.key.start in
-    let begun : c.start.result ≡ begin_of (t₀ p.key.value) call (Some a.holds) = rw c.table-table.ensures.is at (c.start.ensures p.key.value) in
-    let done : o.result ≡ wrapped (operation_by ((t₀ p.key.value).act call c.in-Some.point (Some a.holds))) = rw c.table-table.ensures.is at (o.ensures.operation p.key.value) in
-    let there : c.place-place.result ≡ (t₀ p.key.value).word c.in-Some.point = rw c.table-table.ensures.is at (c.place-place.ensures p.key.value) in
-    let start : c.in-Some.point ≡ (table_at t p.key).start call (Some a.holds) = starts_at (table_at t p.key) call (Some a.holds) c.in-Some.point begins (sym c.in-Some.is ∙ begun ∙ alike.begins call (Some a.holds)) in
-    let same : o.result ≡ wrapped (operation_by ((table_at t p.key).act call ((table_at t p.key).start call (Some a.holds)) (Some a.holds))) = rw start at (done ∙ ap wrapped (alike.operations call c.in-Some.point (Some a.holds))) in
-    let place : (table_at t p.key).word ((table_at t p.key).start call (Some a.holds)) ≡ c.place-place.result = sym (rw start at (there ∙ alike.places c.in-Some.point)) in
+    let start : c.in-Some.point ≡ (table_at t p.key).start call (Some a.holds) = starts_at (table_at t p.key) call (Some a.holds) c.in-Some.point begins (sym c.in-Some.is ∙ c.start.ensures p.key.start p.key.value) in
+    let same : o.result ≡ wrapped (operation_by ((table_at t p.key).act call ((table_at t p.key).start call (Some a.holds)) (Some a.holds))) = rw start at (o.ensures p.key.start p.key.value) in
+    let place : (table_at t p.key).word ((table_at t p.key).start call (Some a.holds)) ≡ c.place-place.result = sym (rw start at (c.place-place.ensures p.key.start p.key.value)) in
     let held = c.requires.alone (sym (c.laws.ensures.uses a.writer.key (Some a.writer.view)) ∙ it.ensures.use_of_view) in
     let is : what p.view ≡ Some (Holding a.holds) = ap what it.ensures.same.0 ∙ ap Some held in
     let may : ((table_at t p.key).asks call (Some a.holds)).begins (Some a.holds) ≡ true = rw it.ensures.key c.requires.begins in
@@ -67,5 +63,4 @@ pub unreachable-requires : goal.unreachable-requires
 unreachable-requires g c =
     let a = c.args in let p = c.into_permit-permit.result in let t = g.P.Runs.tables in
     let begins : ((table_at t p.key).asks a.call (Some a.holds)).begins (Some a.holds) ≡ true = rw c.into_permit-permit.ensures.key c.requires.begins in
-    let begun : c.start.result ≡ begin_of (t 0 p.key.value) a.call (Some a.holds) = rw c.table-table.ensures.is at (c.start.ensures p.key.value) in
-    begins_so (table_at t p.key) a.call (Some a.holds) begins (sym c.in-None.is ∙ begun ∙ (c.laws.ensures.alike p.key.value p.key.start).begins a.call (Some a.holds))
+    begins_so (table_at t p.key) a.call (Some a.holds) begins (sym c.in-None.is ∙ c.start.ensures p.key.start p.key.value)

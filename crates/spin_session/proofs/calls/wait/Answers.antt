@@ -20,8 +20,8 @@ loop-preserved g c =
     let a = c.args in let f = c.further-next in let x = c.step-next in let i = c.loop.invariant in let s = g.P.Runs.meaning in (
       tt,
       tt,
-      f.ensures.knows,
-      f.ensures.seat ∙ ap (λ x. Some (seat_after a.call a.holds x)) c.in-Continue.is,
+      f.ensures.made.knows,
+      f.ensures.made.seat ∙ ap (λ x. Some (seat_after a.call a.holds x)) c.in-Continue.is,
       λ p on. let came = f.ensures.comes p (c.further-made.ensures.comes p (x.ensures.comes p (i.4 p on))) in
           under g.P.Runs.tables s a.call a.holds p (spot_of f.result.3) f.result.0 came c.in-Continue.to c.in-Continue.is,
       f.ensures.key ∙ c.further-made.ensures.key ∙ x.ensures.key ∙ i.5,

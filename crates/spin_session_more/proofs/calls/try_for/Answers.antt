@@ -23,10 +23,10 @@ loop-preserved g c =
     let on = under t s a.call a.holds from (spot_of c.loop.party) c.loop.next i.4 c.in-Continue.point c.in-Continue.is in (
       tt,
       tt,
-      f.ensures.knows,
-      f.ensures.seat,
+      f.ensures.made.knows,
+      f.ensures.made.seat,
       (f.ensures.comes from) on,
       f.ensures.key ∙ i.5,
-      f.ensures.last,
+      f.ensures.made.last,
       sees_then s a.call c.in-Continue.point a.holds a.session.permit.value c.loop.party f.result.2 (i.3 ∙ ap (λ x. Some (seat_after a.call a.holds x)) c.in-Continue.is) i.2.2 i.7 f.ensures.sees,
     )

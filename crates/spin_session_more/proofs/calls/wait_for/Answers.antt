@@ -6,8 +6,8 @@ pub returns-in-Answers : goal.returns-in-Answers
 returns-in-Answers g c =
     let a = c.args in let f = c.begin-next in let t = g.P.Runs.tables in let s = g.P.Runs.meaning in let from = spot_of a.session in
     let end = ended t s a.call a.holds from (spot_of f.result.3) f.result.0 f.ensures.comes _ _ c.in-Answers.is in
-    let all = settled t s a.call a.holds from (spot_of f.result.3) f.ensures.knows _ _ end a.answer a.after c.requires.answers in
-    record { stands = all.0; calls = all.1; last = f.ensures.last; sees = f.ensures.sees }
+    let all = settled t s a.call a.holds from (spot_of f.result.3) f.ensures.made.knows _ _ end a.answer a.after c.requires.answers in
+    record { stands = all.0; calls = all.1; last = f.ensures.made.last; sees = f.ensures.sees }
 
 pub returns-in-Continue : goal.returns-in-Continue
 returns-in-Continue g c =

@@ -18,7 +18,7 @@ exchange_spec 𝓤 𝓛 𝓜 𝓡 wired T V E S P K Mv L _ _ _ _ _ _ g d g' d' _
     walks 𝓛 (ended T V E S P K Mv g d g' d') (clauses T V E S P K Mv g d g' d' 𝓛 𝓜.mem 𝓡.returns) 𝓜 𝓡 (λ κs x f. refl, (λ κs x f. refl, (λ κs x f. refl, (λ κs x f. refl, tt)))) _ fn (code.unfolded 𝓤 H 𝓜 𝓡 wired (T, (V, (E, (S, (P, (K, (Mv, tt))))))) d d')
     (λ κs. (as_hand (named_lft 8 0 tt κs) R W Y Kr Sr g, (as_u64, (as_u64, (as_watch Er, tt))))) (λ κs qs bounds a gh are Post out.
     let ℓ = named_lft 8 0 tt κs in let h = a.0 in let p = h.cell in let b = block_of p in let o = count_of p in
-    begins 𝓛 𝓜 𝓡 ℓ T W Y Kr Er Ur L g h _ _ _ a.1.1.1.0 (g'.told h.key h.view) (λ n. n) !
+    begins 𝓛 𝓜 𝓡 ℓ T W Y Kr Er Ur L g h _ _ _ a.1.1.1.0 g'.told (λ n. n) !
     (past (past watch_knows)) 6 _ _ asks_first (λ inb go. alloc_all ! (λ l. let Ev = env fn.locals l in pass_all ! refl
     (typed p inb, ((tt, record { fits = are.1.0.1 }), ((tt, record { fits = are.1.1.0.1 }), ((tt, (tt, tt)), tt)))) $
     go.on ! tt (λ left rest closes.

@@ -18,7 +18,7 @@ load_second_spec 𝓤 𝓛 𝓜 𝓡 wired T V E P K Mv L _ _ _ _ _ g d g' d' _ 
     walks 𝓛 (ended T V E P K Mv g d g' d') (clauses T V E P K Mv g d g' d' 𝓛 𝓜.mem 𝓡.returns) 𝓜 𝓡 (λ κs x f. refl, (λ κs x f. refl, tt)) _ fn (code.unfolded 𝓤 H 𝓜 𝓡 wired (T, (V, (E, (P, (K, (Mv, tt)))))) d d')
     (λ κs. (as_hand (named_lft 7 0 tt κs) R W Y Kr Sr g, (as_watch Er, tt))) (λ κs qs bounds a gh are Post out.
     let ℓ = named_lft 7 0 tt κs in let h = a.0 in let p = h.cell in let b = block_of p in let o = count_of p in
-    begins 𝓛 𝓜 𝓡 ℓ T W Y Kr Er u64 L g h _ _ _ a.1.0 (g'.told h.key h.view) (λ n. n) ! watch_knows 5 _ _
+    begins 𝓛 𝓜 𝓡 ℓ T W Y Kr Er u64 L g h _ _ _ a.1.0 g'.told (λ n. n) ! watch_knows 5 _ _
     asks_second (λ inb go. alloc_all ! (λ l. let Ev = env fn.locals l in pass_all ! refl
     (typed p inb, ((tt, (tt, tt)), tt)) $ go.on ! tt (λ left rest closes.
     sets ! (is ! (of_opd ! (get_in ! (fld ! refl (stop !)) (sub ! 0 refl (whole !)))) (ap ptr_val (at_block p inb))) refl (tt, tt) $ first ! $ blocks ! $ sets ! (addr ! (through ! refl (fld ! refl (fld ! refl (stop !))))) refl (tt, tt) $

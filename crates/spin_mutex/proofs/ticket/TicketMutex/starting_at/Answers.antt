@@ -6,11 +6,11 @@ use denote.Param.{param}
 use Rattle.spin_step.specs.contracts.ticket_calls.TicketCall as call
 use Rattle.spin_core.proofs.Sends.{entry_over, sends_word}
 use Rattle.spin_core.proofs.Values.{opens_last}
-use Rattle.spin_mutex.proofs.TicketRefines.{starts, never_reads}
+use Rattle.spin_mutex.proofs.TicketRefines.{starts}
 use Rattle.spin_mutex.proofs.ticket.TicketMutex.starting_at.Goals as goal
 
 pub new-cell-requires-clause-known : goal.new-cell-requires-clause-known
-new-cell-requires-clause-known g c = (λ no. absurd no, (λ v e. absurd (never_reads v.0 e)), sends_word (entry_over call.the_row (param 0 g.row.T)))
+new-cell-requires-clause-known g c = (λ no. absurd no, (λ v e. absurd (grind (arith, e))), sends_word (entry_over call.the_row (param 0 g.row.T)))
 
 pub new-cell-requires-clause-rule : goal.new-cell-requires-clause-rule
 new-cell-requires-clause-rule g c = let t = c.new-trace in let o = c.starting_at-opening in

@@ -1,4 +1,4 @@
-use Rattle.std.proofs.Common.{Some, sym, ap, ◌∙◌, subst, le_of_eq}
+use Rattle.std.proofs.Common.{Some, inr, sym, ap, ◌∙◌, subst, le_of_eq}
 use Rattle.spin_core.specs.Guard.{guard_key, guard_value, guard_view}
 use Rattle.spin_core.specs.Spots.{Releases}
 use Rattle.spin_step.specs.declared.answer.Answer.TheVariants.{Done}
@@ -13,6 +13,11 @@ use Rattle.spin_mutex.proofs.ticket.TicketMutex.unlock.Goals as goal
 pub give-requires-clause-alone : goal.give-requires-clause-alone
 give-requires-clause-alone g c uses =
     let k = c.served-number in peeked_seat k.result.1.view.0 k.result.0 uses (subst (λ v. Peeks with_second ticket_meaning v k.result.0) (sym k.ensures.seat) k.ensures.finds)
+
+pub give-requires-clause-knows : goal.give-requires-clause-knows
+give-requires-clause-knows g c = let into = c.into_parts-writer in let k = c.served-number in
+    let named = ap (λ p. p.key.name) into.ensures.0 ∙ c.requires.0 ∙ ap (λ s. s.name) (sym into.ensures.1) in
+    inr (λ n t vs is. is.0.0 ∙ ap (λ x. x.name) k.ensures.key ∙ named ∙ sym (k.ensures.since named (rw (into.ensures.0, into.ensures.1) c.requires.1)).0.1)
 
 pub returns : goal.returns
 returns g c =

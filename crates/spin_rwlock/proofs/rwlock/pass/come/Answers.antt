@@ -9,8 +9,8 @@ pub returns-in-Answers : goal.returns-in-Answers
 returns-in-Answers g c =
     let a = c.args in let f = c.begin-next in let from = spot_of a.session in let now = spot_of f.result.3 in
     let end = ended rw_tables rw_meaning a.call None from now f.result.0 f.ensures.comes _ _ c.in-Answers.is in
-    let all = settled rw_tables rw_meaning a.call None from now f.ensures.knows _ _ end Granted (Some a.after) c.requires.answers in
-    record { stands = all.0; calls = all.1; last = f.ensures.last; sees = f.ensures.sees }
+    let all = settled rw_tables rw_meaning a.call None from now f.ensures.made.knows _ _ end Granted (Some a.after) c.requires.answers in
+    record { stands = all.0; calls = all.1; last = f.ensures.made.last; sees = f.ensures.sees }
 
 pub returns-in-Continue : goal.returns-in-Continue
 returns-in-Continue g c =

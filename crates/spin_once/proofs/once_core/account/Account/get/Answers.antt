@@ -6,4 +6,4 @@ pub answer-requires-clause-told : goal.answer-requires-clause-told
 answer-requires-clause-told g c = let (n, is) = c.step-next.ensures.goes in grind (arith, is)
 
 pub returns : goal.returns
-returns g c = let p = here c.args.self in c.answer.ensures p (c.step-next.ensures.comes p (inr (refl, c.requires)))
+returns g c = let p = here c.args.self in c.answer.ensures p (c.step-next.ensures.made.comes p (inr (refl, c.requires)))

@@ -1,9 +1,7 @@
 use mathlib.Core.Logic.{inr}
-use Rattle.spin_core.specs.Spots.{spot}
 use Rattle.spin_core.specs.Own.{what}
 use Rattle.spin_core.specs.Passes.{IsOneStep}
 use Rattle.spin_session.specs.Turns.{has_begun, outcome_of}
-use Rattle.spin_once.specs.Accounts.{here}
 use Rattle.spin_once.specs.Once.{next_at, turn, view_of}
 use Rattle.spin_once.proofs.Accounts as accounts
 use Rattle.spin_once.proofs.Kept.{turns}
@@ -20,19 +18,11 @@ operate-found-requires-clause-keeps g c =
 
 pub invariant_of-result : goal.invariant_of-result
 invariant_of-result g c =
-    let a = c.args in let me = a.self in let f = c.operate-found in
-    let on = has_begun (what me.party.view) in
-    accounts.keeps g.S.Seed.makes (here me) (spot f.result.1 f.result.2) f.result.0 me.knows me.named f.ensures.key (turn on a.call a.point) (λ n. view_of a.call (next_at a.call a.point n)) (λ n. IsOneStep on a.call (outcome_of (next_at a.call a.point n)))
-    (λ own outs n v said. said) f.ensures.moved me.party.value f.result.1.value f.ensures.kept f.ensures.found (λ same. me.finds)
+    let a = c.args in let me = a.self in
+    accounts.keeps g.S.Seed.makes (λ view. turn (has_begun (what view)) a.call a.point) me.knows me.named c.operate-found.ensures
+    (λ n. view_of a.call (next_at a.call a.point n)) (λ n. IsOneStep (has_begun (what me.party.view)) a.call (outcome_of (next_at a.call a.point n))) (λ own outs n v said. said) (λ same. me.finds)
 
 pub returns : goal.returns
 returns g c =
-    let a = c.args in let me = a.self in let f = c.operate-found in let now = spot f.result.1 f.result.2 in let makes = g.S.Seed.makes in
-    let is = next_is a.call a.point f.result.0 c.next.result (c.next.ensures tt) in
-    record {
-      comes = accounts.comes makes (here me) now f.result.0 me.knows me.named f.ensures.key a.call a.point c.requires.at f.ensures.moved c.next.result is c.requires.quiet;
-      key = f.ensures.key;
-      view = accounts.next_view makes (here me) now f.result.0 me.knows me.named f.ensures.key a.call a.point c.requires.at f.ensures.moved c.next.result is;
-      goes = (f.result.0, is);
-      seed = accounts.seed makes (here me) now f.result.0 me.knows me.named f.ensures.key a.call a.point c.requires.at f.ensures.moved me.party.value f.result.1.value f.ensures.kept c.requires.quiet;
-    }
+    let a = c.args in let f = c.operate-found in let is = next_is a.call a.point f.result.0 c.next.result (c.next.ensures tt) in
+    record { made = accounts.made_steps g.S.Seed.makes a.self _ a.call a.point f.result.0 c.next.result c.requires.at c.requires.quiet is f.ensures; goes = (f.result.0, is) }

@@ -17,13 +17,12 @@ store-party-requires g c =
 
 pub returns : goal.returns
 returns g c =
-    let me = c.args.self.account in let s = c.store-party in let now = spot s.result.0 s.result.1 in
-    let so = took g.S.Seed.makes (here me) now 0 me.knows me.named s.ensures.key fails_by (λ n. Idle) (λ n. IsFailure) (λ own outs n v said. said) s.ensures.moved in
-    record { since = λ p on. fails p (here me) now on so.0; out = ap has_begun so.1 }
+    let me = c.args.self.account in let s = c.store-party in
+    let so = took g.S.Seed.makes (λ view. fails_by) me.knows me.named s.ensures (λ n. Idle) (λ n. IsFailure) (λ own outs n v said. said) in
+    record { since = λ p on. fails p (here me) (spot s.result.0 s.result.1) on so.0; out = ap has_begun so.1 }
 
 pub invariant_of-result : goal.invariant_of-result
 invariant_of-result g c =
-    let me = c.args.self.account in let makes = g.S.Seed.makes in let s = c.store-party in let now = spot s.result.0 s.result.1 in
-    let so = took makes (here me) now 0 me.knows me.named s.ensures.key fails_by (λ n. Idle) (λ n. IsFailure) (λ own outs n v said. said) s.ensures.moved in
-    keeps makes (here me) now 0 me.knows me.named s.ensures.key fails_by (λ n. Idle) (λ n. IsFailure) (λ own outs n v said. said) s.ensures.moved me.party.value s.result.0.value s.ensures.kept s.ensures.found
-    (λ on. absurd (stops_writing me.party.view s.result.0.view (TryCallOnceOk tt) c.requires.may (inl so.1) on))
+    let me = c.args.self.account in let s = c.store-party in let makes = g.S.Seed.makes in
+    keeps makes (λ view. fails_by) me.knows me.named s.ensures (λ n. Idle) (λ n. IsFailure) (λ own outs n v said. said)
+    (λ on. absurd (stops_writing me.party.view s.result.0.view (TryCallOnceOk tt) c.requires.may (inl (took makes (λ view. fails_by) me.knows me.named s.ensures (λ n. Idle) (λ n. IsFailure) (λ own outs n v said. said)).1) on))
