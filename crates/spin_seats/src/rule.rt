@@ -9,6 +9,7 @@ use spin_core::cell::Rule;
 use spin_core::tie::Opening;
 use spin_core::trace::Trace;
 use spin_session::table::{self, Runs};
+use spin_session_more::leaps::Leaps;
 use spin_step::{Answer, Hold, Next, Operation, Steps};
 
 /// A party: its seat in the model, its number, and how long the trace was after the party's last step.
@@ -78,3 +79,6 @@ impl<const N: usize> Runs<()> for SeatsRule<N> {
 
     fn laws() {}
 }
+
+// No call begins by several of its steps at once.
+impl<const N: usize> Leaps<()> for SeatsRule<N> {}

@@ -79,8 +79,7 @@ pub fn ask<'a, T, P: Runs<T>>(
     ensures calls { Calls P.tables call result.0 (spot_of session.entry) (spot_of result.1) }
     ensures found { Tells P.tables P.meaning call holds result.0 session.entry.permit.key }
 {
-    let point = point_of(&session, call, holds);
-    let (next, _, session) = step(session, call, point, holds);
+    let (next, _, _, session) = first(session, call, holds);
     match next {
         Next::Answers(answer, _) => (answer, session),
         Next::Continue(_) => unreachable!(),
@@ -244,8 +243,8 @@ pub fn point_of<'a, T, P: Runs<T>>(
     }
 }
 
-/// Goes on with a call that waits from where [`begin`] left it. It makes the call's steps in rounds, with pauses between
-/// them, until the call is answered.
+/// Goes on with a call that waits from where [`begin`] left it. It makes the call's steps, and pauses between them as
+/// [`Runs::hints`] says, until the call is answered.
 ///
 /// The call's last step was at `point`, and found this number: so a caller whose call is answered at once does not
 /// compute how it would go on.
@@ -270,25 +269,22 @@ pub fn wait<'a, T, P: Runs<T>, R: RelaxStrategy, W: Wait>(
     ensures last { SeesLast result }
     ensures sees { (v : Option T) → SeesOn P.meaning call holds v session.entry → SeesOn P.meaning call holds v result }
 {
-    let mut due = 1;
-    let mut given = 0;
+    let mut pace = Pace {
+        due: 1,
+        given: 0,
+        has_paused: false,
+    };
     let mut from = point;
     let mut number = found;
     let mut at = point_after::<T, P>(&session, call, point, holds, found);
     let mut party = session;
     for _ in rt.forever() {
-        let hints = P::hints(call, from, at, holds, number, due);
-        if hints > 0 {
-            given = R::bounded_pause(rt, hints, given);
-            due = hints.saturating_mul(2);
-        }
+        pace = pause::<T, P, R, W>(rt, pace, call, from, at, holds, number);
         let (next, found, session) = step(party, call, at, holds);
-        let made = further((next, at, found, session), call, holds, Some(0));
-        let (next, point, found, session) = further(made, call, holds, Some(1));
         match next {
             Next::Answers(_, _) => return session,
             Next::Continue(to) => {
-                from = point;
+                from = at;
                 number = found;
                 at = to;
                 party = session;
@@ -296,6 +292,47 @@ pub fn wait<'a, T, P: Runs<T>, R: RelaxStrategy, W: Wait>(
         }
     }
     unreachable!()
+}
+
+// How a waiting call passes its time: the hints of its next pause, those that it has given, and whether it has paused
+// before its last step.
+#[derive(Drop)]
+struct Pace {
+    due: u32,
+    given: u32,
+    has_paused: bool,
+}
+
+// Pauses, unless the call makes its next step at once (see [`Runs::hints`]).
+#[inline(always)]
+fn pause<T, P: Runs<T>, R: RelaxStrategy, W: Wait>(
+    rt: &W,
+    pace: Pace,
+    call: P::Call,
+    from: P::Point,
+    to: P::Point,
+    holds: Option<Hold>,
+    found: u64,
+) -> Pace {
+    let Pace {
+        due,
+        given,
+        has_paused,
+    } = pace;
+    let least = if has_paused { 0 } else { due };
+    if P::hints(call, from, to, holds, found, least) == 0 {
+        return Pace {
+            due,
+            given,
+            has_paused: false,
+        };
+    }
+    let hints = P::hints(call, from, to, holds, found, due);
+    Pace {
+        due: hints.saturating_mul(2),
+        given: R::bounded_pause(rt, hints, given),
+        has_paused: true,
+    }
 }
 
 // Returns the point at which the call goes on, after a step at `point` that found this number.
@@ -348,10 +385,10 @@ pub fn begin<'a, T, P: Runs<T>>(
     )
 }
 
-// Makes one more step of the call, unless the call is answered or pauses. `due` is 0 after the first step of a round; a
-// call without pauses gives `None`.
+/// Makes one more step of the call, unless the call is answered or pauses. `due` is 0 after the first step since a
+/// pause; a call without pauses gives `None`.
 #[inline(always)]
-fn further<'a, T, P: Runs<T>>(
+pub fn further<'a, T, P: Runs<T>>(
     made: (
         Next<P::Point, Answer<()>>,
         P::Point,
@@ -375,18 +412,13 @@ fn further<'a, T, P: Runs<T>>(
     ensures follows { due ≡ None → Follows made.entry.0 result.1 result.0 }
     ensures sees { (v : Option T) → SeesOn P.meaning call holds v made.entry.3 → SeesOn P.meaning call holds v result.3 }
 {
-    let (next, from, found, session) = made;
-    match next {
-        Next::Answers(answer, after) => (Next::Answers(answer, after), from, found, session),
-        Next::Continue(to) => {
-            if pauses::<T, P>(call, from, to, holds, found, due) {
-                (Next::Continue(to), from, found, session)
-            } else {
-                let (next, found, session) = step(session, call, to, holds);
-                (next, to, found, session)
-            }
-        }
-    }
+    let to = match made.0 {
+        Next::Continue(to) if !pauses::<T, P>(call, made.1, to, holds, made.2, due) => to,
+        _ => return made,
+    };
+    let (_, _, _, session) = made;
+    let (next, found, session) = step(session, call, to, holds);
+    (next, to, found, session)
 }
 
 // Returns whether the call pauses between these points.
@@ -440,8 +472,7 @@ pub fn is_granted(answer: Answer<()>) -> bool
     matches!(answer, Answer::Granted)
 }
 
-/// Makes the first operation of the call. It is one step, or several; if it is none, a step follows. Returns the point of
-/// the last step, and the number that it found. That point is `reached` from the first one.
+/// Begins a call by its first step. Returns its point, and the number that it found.
 #[inline(always)]
 pub fn first<'a, T, P: Runs<T>>(
     session: SessionOf<'a, T, P>,
@@ -458,68 +489,12 @@ pub fn first<'a, T, P: Runs<T>>(
     ensures made { IsMade P.tables P.meaning call holds result }
     ensures key { result.3.permit.key ≡ session.entry.permit.key }
     ensures comes { Comes P.tables P.meaning call holds result.0 (spot_of session.entry) (spot_of result.3) }
-    ensures reached { IsLedTo P.tables P.meaning call holds result.1 result.2 session.entry.permit.key }
+    ensures start { result.1 ≡ (table_at P.tables session.entry.permit.key).start call holds }
     ensures sees { SeesOn P.meaning call holds session.entry.permit.value result.3 }
 {
     let point = point_of(&session, call, holds);
-    let Some(ahead) = P::ahead(call, holds) else {
-        let (next, found, session) = step(session, call, point, holds);
-        return (next, point, found, session);
-    };
-    P::laws();
-    let (made, session) = begin_by(session, call, holds, point, ahead);
-    let Some(last) = made else {
-        let (next, found, session) = step(session, call, point, holds);
-        return (next, point, found, session);
-    };
-    (
-        P::next(call, last.0, holds, last.1),
-        last.0,
-        last.1,
-        session,
-    )
-}
-
-// Begins the call by this exchange. Returns the last step that it makes, if it makes one: its point, and the number found.
-#[inline(always)]
-fn begin_by<'a, T, P: Runs<T>>(
-    session: SessionOf<'a, T, P>,
-    call: P::Call,
-    holds: Option<Hold>,
-    start: P::Point,
-    ahead: Ahead<P::Point>,
-) -> (Option<(P::Point, u64)>, SessionOf<'a, T, P>)
-    requires stands { Stands holds session }
-    requires may { MayBegin P.tables P.meaning call holds session.permit.key }
-    requires start { start ≡ (table_at P.tables session.permit.key).start call holds }
-    requires fuses { Fuses (table_at P.tables session.permit.key) P.meaning call holds ahead }
-    ensures knows { Knows P.meaning (spot_of result.1) }
-    ensures key { result.1.permit.key ≡ session.entry.permit.key }
-    ensures led { (n n' : ℕ) × IsLed (table_at P.tables session.entry.permit.key) P.meaning call holds result.0 n n' }
-    ensures lands { Lands (table_at P.tables session.entry.permit.key) P.meaning call holds result.0 (seat_now (what result.1.permit.view)) }
-    ensures seat { what result.1.permit.view ≡ Some (seat_after call holds (next_after (table_at P.tables session.entry.permit.key) call holds result.0)) }
-    ensures since { Since (model_at P.tables) (course_of call (next_after (table_at P.tables session.entry.permit.key) call holds result.0)) (spot_of session.entry) (spot_of result.1) }
-    ensures last { SeesLast result.1 }
-    ensures sees { SeesOn P.meaning call holds session.entry.permit.value result.1 }
-{
-    P::laws();
-    let _ = holds;
-    let Session { permit, seen } = session;
-    let (found, permit, seen) = leap::<T, P, Brand>(permit, seen, start, ahead, call, call);
-    (last_step(start, ahead, found), Session { permit, seen })
-}
-
-// Returns the last step that the exchange makes where it finds this number, if the call begins at `start`.
-fn last_step<L: Copy>(start: L, ahead: Ahead<L>, found: u64) -> Option<(L, u64)>
-    ensures { result ≡ last_step start ahead found }
-{
-    if found == ahead.old {
-        Some((ahead.point, ahead.number))
-    } else if ahead.looks {
-        Some((start, found))
-    } else {
-        None
-    }
+    let (next, found, session) = step(session, call, point, holds);
+    (next, point, found, session)
 }
 
 /// Makes an exchange that is the first steps of one of these calls. The proof of a caller picks what it tells.

@@ -1,12 +1,11 @@
 //! The rule of a cell that runs a lock's table. Begin with [`Runs`].
 ghost use Rattle.std.specs.Prelude.{◌≡◌, ⊤, ℕ, None};
-ghost use Rattle.std.specs.Option.{IfSome};
 ghost use Rattle.spin_step.specs.Acts.{Table as ItsTable, begin_of, filled, next_of, operation_by};
 ghost use Rattle.spin_step.specs.Operations.{wrapped};
 ghost use Rattle.spin_step.specs.declared.answer.Answer.{Answer as AnAnswer};
 ghost use Rattle.spin_session.specs.Meaning.{Meaning};
 ghost use Rattle.spin_session.specs.Operating.{Executes};
-ghost use Rattle.spin_session.specs.Turns.{Fuses, PeekTold};
+ghost use Rattle.spin_session.specs.Turns.{PeekTold};
 
 use crate::second::Word;
 use spin_core::cell::{Play, Rule};
@@ -92,7 +91,7 @@ pub trait Runs<T>: Rule<
 
     /// Returns how many hints a waiting call gives before its next step, at the point `to`, or 0 if it makes this step at
     /// once. Its last step, at the point `from`, found this number. A call that backs off gives `due` hints: twice as many
-    /// as in its last pause, or 1 if it has not paused. After the first step of a round `due` is 0.
+    /// as in its last pause, or 1 if it has not paused. After the first step since a pause, or of the call, `due` is 0.
     ///
     /// By default a call does not pause after a load if its next step is none. Otherwise it backs off.
     fn hints(
@@ -110,17 +109,6 @@ pub trait Runs<T>: Rule<
         } else {
             due.max(1).min(MAX_BACK_OFF)
         }
-    }
-
-    /// Returns the exchange by which the call begins, if it does not begin by its first step. By default it does.
-    ///
-    /// # Contract
-    /// Whatever number the exchange finds, it makes the first steps of the call (`Fuses`).
-    fn ahead(call: Self::Call, holds: Option<Hold>) -> Option<Ahead<Self::Point>>
-        ensures { (start : ℕ) (value : T) → IfSome result (Fuses (tables start value) meaning call holds) }
-    {
-        let _ = (call, holds);
-        None
     }
 
     /// States that the cell runs the table.

@@ -10,23 +10,21 @@ ghost use Rattle.spin_step.specs.declared.answer.Answer.TheVariants.{Granted, Re
 ghost use Rattle.spin_session.specs.Meaning.{table_at, use_at};
 ghost use Rattle.spin_session.specs.Turns.{SeesLast, SeesOn, FusesBy, either_call, either_step, Stands, MayBegin, IsAnsweredBy, IsAnswered, IsAnsweredAtOnce, IsTry, IsLook, Calls, spot_of};
 
+use crate::leaps::{Leaps, begin_ahead, first_ahead};
 use spin_core::relax::{RelaxStrategy, Strategy};
-use spin_session::calls::{
-    SessionOf, begin, first, in_three, is_granted, leap, point_of, step, wait,
-};
+use spin_session::calls::{SessionOf, further, is_granted, leap, point_of, step, wait};
 use spin_session::session::Session;
 use spin_session::table::{Ahead, Runs};
 use spin_step::{Answer, Hold, Next};
 use std::marker::Brand;
 use std::sync::Wait;
 
-/// Makes a call that waits, and is always answered so. It makes its steps in rounds, and pauses between them. A round is
-/// the steps up to the first after which the call pauses (see [`Runs::hints`]), but at most three.
+/// Makes a call that waits, and is always answered so. It pauses between its steps as [`Runs::hints`] says.
 ///
 /// # Contract
 /// The party has made exactly this call, with this answer, and holds `after`. Whether and when the call returns is not
 /// promised.
-pub fn wait_for<'a, T, P: Runs<T>, R: RelaxStrategy, W: Wait>(
+pub fn wait_for<'a, T, P: Leaps<T>, R: RelaxStrategy, W: Wait>(
     session: SessionOf<'a, T, P>,
     call: P::Call,
     holds: Option<Hold>,
@@ -44,7 +42,7 @@ pub fn wait_for<'a, T, P: Runs<T>, R: RelaxStrategy, W: Wait>(
     ensures sees { SeesOn P.meaning call holds session.entry.permit.value result }
 {
     let _ = (answer, after, strategy);
-    let (next, point, found, session) = begin(session, call, holds);
+    let (next, point, found, session) = begin_ahead(session, call, holds);
     match next {
         Next::Answers(_, _) => session,
         Next::Continue(_) => wait::<T, P, R, W>(session, call, point, holds, found, rt),
@@ -56,7 +54,7 @@ pub fn wait_for<'a, T, P: Runs<T>, R: RelaxStrategy, W: Wait>(
 /// # Contract
 /// The party has made exactly this call. If the call was granted it holds `after`, else it holds what it held before.
 /// Whether and when the call returns is not promised.
-pub fn try_for<'a, T, P: Runs<T>, W: Wait>(
+pub fn try_for<'a, T, P: Leaps<T>, W: Wait>(
     session: SessionOf<'a, T, P>,
     call: P::Call,
     holds: Option<Hold>,
@@ -72,7 +70,7 @@ pub fn try_for<'a, T, P: Runs<T>, W: Wait>(
     ensures still { IfErr result (SeesOn P.meaning call holds session.entry.permit.value) }
 {
     let _ = after;
-    let (made, _, _, session) = first(session, call, holds);
+    let (made, _, _, session) = first_ahead(session, call, holds);
     let mut next = made;
     let mut party = session;
     for _ in rt.forever() {
@@ -98,7 +96,7 @@ pub fn try_for<'a, T, P: Runs<T>, W: Wait>(
 /// # Contract
 /// The party has made exactly this call. If the call was granted it holds `after`, else it holds what it held before.
 #[inline(always)]
-pub fn attempt<'a, T, P: Runs<T>>(
+pub fn attempt<'a, T, P: Leaps<T>>(
     session: SessionOf<'a, T, P>,
     call: P::Call,
     holds: Option<Hold>,
@@ -114,11 +112,17 @@ pub fn attempt<'a, T, P: Runs<T>>(
     ensures still { IfErr result (SeesOn P.meaning call holds session.entry.permit.value) }
 {
     let _ = after;
-    let (answer, _, session, _) = in_three(session, call, holds);
-    if is_granted(answer) {
-        Ok(session)
-    } else {
-        Err(session)
+    let made = further(first_ahead(session, call, holds), call, holds, None);
+    let (next, _, _, session) = further(made, call, holds, None);
+    match next {
+        Next::Answers(answer, _) => {
+            if is_granted(answer) {
+                Ok(session)
+            } else {
+                Err(session)
+            }
+        }
+        Next::Continue(_) => unreachable!(),
     }
 }
 

@@ -2,3 +2,4 @@
 #![tactic(auto)]
 
 pub mod calls;
+pub mod leaps;

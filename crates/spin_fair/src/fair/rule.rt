@@ -14,6 +14,7 @@ use spin_core::tie::Opening;
 use spin_core::trace::{Trace, Watch};
 use spin_session::calls::{finish, give};
 use spin_session::table::{self, Ahead, Runs};
+use spin_session_more::leaps::Leaps;
 use spin_step::{Answer, Hold, Next, Operation, Steps};
 use spin_step_more::fair::{self, HOLDER, STARVER};
 use spin_step_more::{FairCall, FairPoint, FairTable};
@@ -105,6 +106,10 @@ impl<T> Runs<T> for FairRule {
         }
     }
 
+    fn laws() {}
+}
+
+impl<T> Leaps<T> for FairRule {
     // The only starver of a free lock acquires it and stops starving by one exchange. The first exchange of `starve`
     // expects a free lock, which saves a load.
     fn ahead(call: FairCall, holds: Option<Hold>) -> Option<Ahead<FairPoint>> {
@@ -123,8 +128,6 @@ impl<T> Runs<T> for FairRule {
             _ => None,
         }
     }
-
-    fn laws() {}
 }
 
 // Returns the exchange of the only starver. `looks` says whether it is a step of the call if another starves.

@@ -10,9 +10,9 @@ ghost use Rattle.spin_fair.specs.FairPasses.{Calls, FairSpot, Grants};
 use super::FairMutexGuard;
 use super::pass::Pass;
 use super::rule::FairRule;
-use spin_core::relax::{RelaxStrategy, Spin};
-use spin_session::calls::{SessionOf, acquire, try_to_acquire};
-use spin_session_more::calls::make;
+use spin_core::relax::{RelaxStrategy, Spin, Strategy};
+use spin_session::calls::{SessionOf, guarded};
+use spin_session_more::calls::{attempt, make, wait_for};
 use spin_step::{Answer, Hold};
 use spin_step_more::FairCall;
 use std::marker::{Model, PhantomData};
@@ -66,8 +66,9 @@ impl<'a, T, R> Starvation<'a, T, R> {
         ensures refused { IfErr result (Calls StarverTryLockFair Refused self.entry) }
     {
         let Self { session, strategy } = self;
-        match try_to_acquire(session, FairCall::StarverTryLockFair, Some(Hold::Starver)) {
-            Ok(guard) => Ok(guard),
+        let (starves, writes) = (Some(Hold::Starver), Some(Hold::Write));
+        match attempt(session, FairCall::StarverTryLockFair, starves, writes) {
+            Ok(session) => Ok(guarded(session)),
             Err(session) => Err(Starvation { session, strategy }),
         }
     }
@@ -97,8 +98,9 @@ impl<'a, T, R> Starvation<'a, T, R> {
         ensures refused { IfErr result (Calls StarverTryLock Refused self.entry) }
     {
         let Self { session, strategy } = self;
-        match try_to_acquire(session, FairCall::StarverTryLock, Some(Hold::Starver)) {
-            Ok(guard) => Ok(guard),
+        let (starves, writes) = (Some(Hold::Starver), Some(Hold::Write));
+        match attempt(session, FairCall::StarverTryLock, starves, writes) {
+            Ok(session) => Ok(guarded(session)),
             Err(session) => Err(Starvation { session, strategy }),
         }
     }
@@ -148,7 +150,17 @@ impl<'a, T, R: RelaxStrategy> Starvation<'a, T, R> {
             session,
             strategy: _,
         } = self;
-        acquire(session, FairCall::StarverLock, Some(Hold::Starver), rt)
+        let (starves, writes) = (Some(Hold::Starver), Some(Hold::Write));
+        let call = FairCall::StarverLock;
+        guarded(wait_for(
+            session,
+            call,
+            starves,
+            Answer::Granted,
+            writes,
+            Strategy::<R>::named(),
+            rt,
+        ))
     }
 }
 

@@ -19,9 +19,10 @@ use super::upgradable::RwLockUpgradableGuard;
 use super::writer::RwLockWriteGuard;
 use spin_core::relax::RelaxStrategy;
 use spin_core::trace::Watch;
-use spin_session::calls::{self, after, ask, begin, enter, finish};
+use spin_session::calls::{self, after, ask, enter, finish};
 use spin_session::session::Session;
 use spin_session_more::calls::{attempt, try_for};
+use spin_session_more::leaps::begin_ahead;
 use spin_step::{Answer, Hold, Next};
 use spin_step_more::rw_calls::{RwCall, RwPoint};
 use std::marker::{Model, PhantomData};
@@ -426,7 +427,7 @@ fn come<'a, T, R: RelaxStrategy, W: Wait>(
     ensures sees { SeesOn rw_meaning call None session.entry.permit.value result }
 {
     let _ = after;
-    let (next, point, found, session) = begin(session, call, None);
+    let (next, point, found, session) = begin_ahead(session, call, None);
     match next {
         Next::Answers(_, _) => session,
         Next::Continue(_) => wait::<T, R, W>(session, call, point, found, rt),

@@ -12,6 +12,7 @@ use spin_core::tie::Opening;
 use spin_core::trace::Trace;
 use spin_session::calls::SessionOf;
 use spin_session::table::{self, Ahead, Runs};
+use spin_session_more::leaps::Leaps;
 use spin_step::{Answer, Hold, Next, Operation, Steps};
 use spin_step_more::rw;
 use spin_step_more::rw_calls::{RwCall, RwPoint, RwTable};
@@ -113,6 +114,10 @@ impl<T> Runs<T> for RwRule<T> {
         }
     }
 
+    fn laws() {}
+}
+
+impl<T> Leaps<T> for RwRule<T> {
     // A call that acquires shared access expects a free lock, and makes its exchange at once. This saves a load, since
     // a failed exchange returns the word too.
     fn ahead(call: RwCall, holds: Option<Hold>) -> Option<Ahead<RwPoint>> {
@@ -130,8 +135,6 @@ impl<T> Runs<T> for RwRule<T> {
             looks: true,
         })
     }
-
-    fn laws() {}
 }
 
 /// A kind of reader: [`Reader`] or [`Upgrader`].

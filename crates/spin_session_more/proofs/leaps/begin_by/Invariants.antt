@@ -1,6 +1,6 @@
 use Rattle.std.proofs.Common.{Some}
 use Rattle.spin_session.specs.Turns.{LeapTold, last_step}
-use Rattle.spin_session.proofs.calls.begin_by.Given as goal
+use Rattle.spin_session_more.proofs.leaps.begin_by.Given as goal
 
 -- the exchange makes steps of the call that is given
 abbrev pub ghosts-leap : goal.ghosts-leap

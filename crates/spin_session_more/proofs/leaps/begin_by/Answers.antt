@@ -7,7 +7,7 @@ use Rattle.spin_session.specs.Meaning.{table_at}
 use Rattle.spin_session.specs.Turns.{FusesBy, SeatSpot, last_step, spot_of}
 use Rattle.spin_session.proofs.Course.{quiet_at, uses_now}
 use Rattle.spin_session.proofs.Turned.{leapt, landed}
-use Rattle.spin_session.proofs.calls.begin_by.Goals as goal
+use Rattle.spin_session_more.proofs.leaps.begin_by.Goals as goal
 
 pub leap-found-requires-clause-knows : goal.leap-found-requires-clause-knows
 leap-found-requires-clause-knows g c = let it = c.args.session in inr (c.laws.ensures.named it.permit.key it.seen.name c.requires.stands.0)
