@@ -1,4 +1,4 @@
-//! What is measured: the calls of a lock, or the moves of a world.
+//! What is measured: the calls of a lock.
 use std::hint::spin_loop;
 use std::sync::Wait;
 use std::sync::atomic::{AtomicBool, AtomicU64, Ordering};
@@ -6,20 +6,17 @@ use std::sync::atomic::{AtomicBool, AtomicU64, Ordering};
 mod locks;
 mod onces;
 mod rounds;
-mod seated;
-mod world;
 
 pub use locks::{Adds, OneWriter, PassAdds, PassReaders, Readers, Starvers, Upgrades};
 pub use onces::{Alone, FirstCalls, Forces, Gets, LateCalls, complete};
 pub use rounds::Rounds;
-pub use seated::Seated;
-pub use world::{EVENTS, Plays};
 
 /// Calls that are repeated, perhaps by several threads at once. A call either adds 1 to what `added` returns, or
 /// reads a 1. At a barrier the leader of a group reads a 1 for each thread of the group.
 pub trait Case: Drop {
     /// Makes this many calls in the worker with this number, and returns the sum of what they read. This
-    /// function is measured, so it has only a loop with the calls and their sum.
+    /// function is measured, so it has only a loop with the calls and their sum. Each case has its own loop, since
+    /// compiled code tests a byte after each call that may wait: a function for one call would add such a test.
     fn repeat<W: Wait>(&self, rt: &W, worker: usize, calls: u64) -> u64;
 
     /// Returns `true` if the worker has to stop: `told` is set, unless the case decides otherwise.
@@ -29,35 +26,6 @@ pub trait Case: Drop {
 
     /// Returns the sum of what all calls added.
     fn added(self) -> u64;
-}
-
-/// One call.
-pub trait Call: Drop {
-    /// Makes the call in the worker with this number. Returns what the call read, or 0 if the call added. The method
-    /// should be inlined into the loop of [`Calls`].
-    fn call<W: Wait>(&self, rt: &W, worker: usize) -> u64;
-
-    /// Returns the sum of what all calls added.
-    fn added(self) -> u64;
-}
-
-/// A case that repeats one call.
-#[derive(Drop)]
-pub struct Calls<C>(pub C);
-
-impl<C: Call> Case for Calls<C> {
-    #[inline(never)]
-    fn repeat<W: Wait>(&self, rt: &W, worker: usize, calls: u64) -> u64 {
-        let mut seen = 0u64;
-        for _ in 0..calls {
-            seen = seen.wrapping_add(self.0.call(rt, worker));
-        }
-        seen
-    }
-
-    fn added(self) -> u64 {
-        self.0.added()
-    }
 }
 
 /// A lock with the fewest steps: an exchange that puts 1 in place of 0, and a store of 0.
@@ -91,14 +59,16 @@ impl Floor {
     }
 }
 
-impl Call for Floor {
-    #[inline(always)]
-    fn call<W: Wait>(&self, rt: &W, _worker: usize) -> u64 {
-        if !self.take() {
-            self.wait(rt);
+impl Case for Floor {
+    #[inline(never)]
+    fn repeat<W: Wait>(&self, rt: &W, _worker: usize, calls: u64) -> u64 {
+        for _ in 0..calls {
+            if !self.take() {
+                self.wait(rt);
+            }
+            self.word.store(0, Ordering::SeqCst);
         }
-        self.word.store(0, Ordering::SeqCst);
-        1
+        calls
     }
 
     fn added(self) -> u64 {

@@ -1,7 +1,7 @@
 //! What the program does and prints.
 use crate::case::{
-    Adds, Alone, Calls, Case, EVENTS, FirstCalls, Floor, Forces, Gets, LateCalls, OneWriter,
-    PassAdds, PassReaders, Plays, Readers, Rounds, Seated, Starvers, Upgrades, complete,
+    Adds, Alone, Case, FirstCalls, Floor, Forces, Gets, LateCalls, OneWriter, PassAdds,
+    PassReaders, Readers, Rounds, Starvers, Upgrades, complete,
 };
 use crate::team::Team;
 use spin_barrier::barrier::Barrier;
@@ -28,15 +28,13 @@ const ROUND_MILLIS: u64 = 100;
 const BLOCK: usize = 32_768;
 
 /// The cases of one thread only.
-const ALONE: [&str; 8] = [
+const ALONE: [&str; 6] = [
     "fair_starve",
     "rw_upgrade",
     "once_call",
     "once_first",
     "lazy_force",
     "barrier_alone",
-    "seated_mutex",
-    "world",
 ];
 
 /// The cases of one thread or several, except `barrier_rounds`.
@@ -139,14 +137,12 @@ fn on_alone<R: Threads + Wait + Clock + Print + AllocGlobal + Sync>(
     name: &str,
 ) -> io::Result<u64> {
     match name {
-        "fair_starve" => on_case(rt, task, threads, Calls(Starvers(FairMutex::new(0)))),
-        "rw_upgrade" => on_case(rt, task, threads, Calls(Upgrades(RwLock::new(1)))),
+        "fair_starve" => on_case(rt, task, threads, Starvers(FairMutex::new(0))),
+        "rw_upgrade" => on_case(rt, task, threads, Upgrades(RwLock::new(1))),
         "once_call" => on_case(rt, task, threads, LateCalls(complete(rt))),
-        "once_first" => on_case(rt, task, threads, Calls(FirstCalls)),
+        "once_first" => on_case(rt, task, threads, FirstCalls),
         "lazy_force" => on_case(rt, task, threads, Forces),
-        "barrier_alone" => on_case(rt, task, threads, Calls(Alone(Barrier::new(1)))),
-        "seated_mutex" => on_case(rt, task, threads, Seated::new(rt.alloc())?),
-        "world" => on_case(rt, task, threads, Plays::new(rt.alloc())?),
+        "barrier_alone" => on_case(rt, task, threads, Alone(Barrier::new(1))),
         _ => Err(usage()),
     }
 }
@@ -159,7 +155,7 @@ fn on_name<R: Threads + Wait + Clock + Print + AllocGlobal + Sync>(
     name: &str,
 ) -> io::Result<u64> {
     match name {
-        "floor" => on_case(rt, task, threads, Calls(Floor::new())),
+        "floor" => on_case(rt, task, threads, Floor::new()),
         "spin_mutex" => on_case(rt, task, threads, Adds(<SpinMutex<u64>>::new(0))),
         "spin_mutex_pass" => on_case(rt, task, threads, PassAdds(SpinMutex::new(0))),
         "mutex" => on_case(rt, task, threads, Adds(<Mutex<u64>>::new(0))),
@@ -169,12 +165,12 @@ fn on_name<R: Threads + Wait + Clock + Print + AllocGlobal + Sync>(
         }
         "ticket_mutex" => on_case(rt, task, threads, Adds(<TicketMutex<u64>>::new(0))),
         "fair_mutex" => on_case(rt, task, threads, Adds(<FairMutex<u64>>::new(0))),
-        "rw_read" => on_case(rt, task, threads, Calls(Readers(RwLock::new(1)))),
+        "rw_read" => on_case(rt, task, threads, Readers(RwLock::new(1))),
         "rw_read_pass" => on_case(rt, task, threads, PassReaders(RwLock::new(1))),
         "rw_write" => on_case(rt, task, threads, Adds(<RwLock<u64>>::new(0))),
-        "rw_one_writer" => on_case(rt, task, threads, Calls(OneWriter(RwLock::new(1)))),
-        "once_get" => on_case(rt, task, threads, Calls(Gets(complete(rt)))),
-        "std_mutex" => on_case(rt, task, threads, Calls(sync::Mutex::new(0u64))),
+        "rw_one_writer" => on_case(rt, task, threads, OneWriter(RwLock::new(1))),
+        "once_get" => on_case(rt, task, threads, Gets(complete(rt))),
+        "std_mutex" => on_case(rt, task, threads, sync::Mutex::new(0u64)),
         "barrier_rounds" => on_case(rt, task, threads, Rounds::new(threads)),
         _ => on_alone(rt, task, threads, name),
     }
@@ -191,18 +187,11 @@ fn report<R: Threads + Wait + Clock + Print + AllocGlobal + Sync>(
     println!(rt; "{name}.{threads} {sum}")
 }
 
-/// Returns how many calls of this case a thread makes before it checks again whether to stop. In the case `world`
-/// they are the events of one whole schedule. In any other case a thread alone makes so many that the checks cost
-/// nothing. Several threads make few each, since each call takes longer. So a round ends soon after its time, even
-/// if a thread that others wait for is not running.
-fn chunk(name: &str, threads: u8) -> u64 {
-    if name == "world" {
-        EVENTS
-    } else if threads == 1 {
-        1000
-    } else {
-        25
-    }
+/// Returns how many calls a thread makes before it checks again whether to stop. A thread alone makes so many that the
+/// checks cost nothing. Several threads make few each, since each call takes longer. So a round ends soon after its time,
+/// even if a thread that others wait for is not running.
+fn chunk(threads: u8) -> u64 {
+    if threads == 1 { 1000 } else { 25 }
 }
 
 /// Measures the case with this name in this many threads.
@@ -212,12 +201,7 @@ pub fn measure<R: Threads + Wait + Clock + Print + AllocGlobal + Sync>(
     threads: &str,
 ) -> io::Result<()> {
     match threads.parse::<u8>() {
-        Ok(threads) => report(
-            rt,
-            Task::Measure(chunk(name, threads)),
-            threads as usize,
-            name,
-        ),
+        Ok(threads) => report(rt, Task::Measure(chunk(threads)), threads as usize, name),
         Err(_) => Err(usage()),
     }
 }

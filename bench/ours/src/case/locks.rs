@@ -1,5 +1,5 @@
 //! The calls of the locks.
-use super::{Call, Case};
+use super::Case;
 use spin_core::lock::Lock;
 use spin_fair::fair::FairMutex;
 use spin_flag::spin::SpinMutex;
@@ -52,10 +52,14 @@ impl Case for PassAdds {
 #[derive(Drop)]
 pub struct Readers(pub RwLock<u64>);
 
-impl Call for Readers {
-    #[inline(always)]
-    fn call<W: Wait>(&self, rt: &W, _worker: usize) -> u64 {
-        *self.0.read(rt)
+impl Case for Readers {
+    #[inline(never)]
+    fn repeat<W: Wait>(&self, rt: &W, _worker: usize, calls: u64) -> u64 {
+        let mut seen = 0u64;
+        for _ in 0..calls {
+            seen = seen.wrapping_add(*self.0.read(rt));
+        }
+        seen
     }
 
     fn added(self) -> u64 {
@@ -89,16 +93,19 @@ impl Case for PassReaders {
 #[derive(Drop)]
 pub struct OneWriter(pub RwLock<u64>);
 
-impl Call for OneWriter {
-    #[inline(always)]
-    fn call<W: Wait>(&self, rt: &W, worker: usize) -> u64 {
-        if worker == 0 {
-            let mut odd = self.0.write(rt);
-            *odd = odd.wrapping_add(2);
-            0
-        } else {
-            *self.0.read(rt) % 2
+impl Case for OneWriter {
+    #[inline(never)]
+    fn repeat<W: Wait>(&self, rt: &W, worker: usize, calls: u64) -> u64 {
+        let mut seen = 0u64;
+        for _ in 0..calls {
+            if worker == 0 {
+                let mut odd = self.0.write(rt);
+                *odd = odd.wrapping_add(2);
+            } else {
+                seen = seen.wrapping_add(*self.0.read(rt) % 2);
+            }
         }
+        seen
     }
 
     fn added(self) -> u64 {
@@ -110,10 +117,14 @@ impl Call for OneWriter {
 #[derive(Drop)]
 pub struct Upgrades(pub RwLock<u64>);
 
-impl Call for Upgrades {
-    #[inline(always)]
-    fn call<W: Wait>(&self, rt: &W, _worker: usize) -> u64 {
-        *self.0.upgradeable_read(rt).downgrade()
+impl Case for Upgrades {
+    #[inline(never)]
+    fn repeat<W: Wait>(&self, rt: &W, _worker: usize, calls: u64) -> u64 {
+        let mut seen = 0u64;
+        for _ in 0..calls {
+            seen = seen.wrapping_add(*self.0.upgradeable_read(rt).downgrade());
+        }
+        seen
     }
 
     fn added(self) -> u64 {
@@ -125,14 +136,16 @@ impl Call for Upgrades {
 #[derive(Drop)]
 pub struct Starvers(pub FairMutex<u64>);
 
-impl Call for Starvers {
-    #[inline(always)]
-    fn call<W: Wait>(&self, rt: &W, _worker: usize) -> u64 {
-        let Some(starver) = self.0.starve(rt) else {
-            return 0;
-        };
-        if let Ok(mut sum) = starver.try_lock() {
-            *sum = sum.wrapping_add(1);
+impl Case for Starvers {
+    #[inline(never)]
+    fn repeat<W: Wait>(&self, rt: &W, _worker: usize, calls: u64) -> u64 {
+        for _ in 0..calls {
+            let Some(starver) = self.0.starve(rt) else {
+                return 0;
+            };
+            if let Ok(mut sum) = starver.try_lock() {
+                *sum = sum.wrapping_add(1);
+            }
         }
         0
     }
@@ -142,11 +155,13 @@ impl Call for Starvers {
     }
 }
 
-impl Call for sync::Mutex<u64> {
-    #[inline(always)]
-    fn call<W: Wait>(&self, rt: &W, _worker: usize) -> u64 {
-        let mut sum = self.lock(rt);
-        *sum = sum.wrapping_add(1);
+impl Case for sync::Mutex<u64> {
+    #[inline(never)]
+    fn repeat<W: Wait>(&self, rt: &W, _worker: usize, calls: u64) -> u64 {
+        for _ in 0..calls {
+            let mut sum = self.lock(rt);
+            *sum = sum.wrapping_add(1);
+        }
         0
     }
 

@@ -1,5 +1,5 @@
 //! The calls of a `Once`, of a `LazyLock` and of a barrier.
-use super::{Call, Case};
+use super::Case;
 use spin_barrier::barrier::Barrier;
 use spin_once::lazylock::LazyLock;
 use spin_once::once::Once;
@@ -16,10 +16,14 @@ pub fn complete<W: Wait>(rt: &W) -> Once<u64> {
 #[derive(Drop)]
 pub struct Gets(pub Once<u64>);
 
-impl Call for Gets {
-    #[inline(always)]
-    fn call<W: Wait>(&self, _rt: &W, _worker: usize) -> u64 {
-        self.0.get().copied().unwrap_or(0)
+impl Case for Gets {
+    #[inline(never)]
+    fn repeat<W: Wait>(&self, _rt: &W, _worker: usize, calls: u64) -> u64 {
+        let mut seen = 0u64;
+        for _ in 0..calls {
+            seen = seen.wrapping_add(self.0.get().copied().unwrap_or(0));
+        }
+        seen
     }
 
     fn added(self) -> u64 {
@@ -27,9 +31,7 @@ impl Call for Gets {
     }
 }
 
-/// A `Once` that holds 1. Each call passes a closure, which never runs. The loop is here, not in [`Calls`]:
-/// compiled code tests a byte after each call that may wait, and the `call` of a [`Call`] would add one such
-/// test.
+/// A `Once` that holds 1. Each call passes a closure, which never runs.
 #[derive(Drop)]
 pub struct LateCalls(pub Once<u64>);
 
@@ -52,13 +54,17 @@ impl Case for LateCalls {
 #[derive(Drop)]
 pub struct FirstCalls;
 
-impl Call for FirstCalls {
+impl Case for FirstCalls {
     // Only one worker makes these calls. The value depends on the worker's number, so that the compiler does
     // not know the value.
-    #[inline(always)]
-    fn call<W: Wait>(&self, rt: &W, worker: usize) -> u64 {
-        let once: Once<u64> = Once::new();
-        *once.call_once(rt, || (worker as u64).wrapping_add(1))
+    #[inline(never)]
+    fn repeat<W: Wait>(&self, rt: &W, worker: usize, calls: u64) -> u64 {
+        let mut seen = 0u64;
+        for _ in 0..calls {
+            let once: Once<u64> = Once::new();
+            seen = seen.wrapping_add(*once.call_once(rt, || (worker as u64).wrapping_add(1)));
+        }
+        seen
     }
 
     fn added(self) -> u64 {
@@ -93,10 +99,14 @@ impl Case for Forces {
 #[derive(Drop)]
 pub struct Alone(pub Barrier);
 
-impl Call for Alone {
-    #[inline(always)]
-    fn call<W: Wait>(&self, rt: &W, _worker: usize) -> u64 {
-        self.0.wait(rt).is_leader() as u64
+impl Case for Alone {
+    #[inline(never)]
+    fn repeat<W: Wait>(&self, rt: &W, _worker: usize, calls: u64) -> u64 {
+        let mut seen = 0u64;
+        for _ in 0..calls {
+            seen = seen.wrapping_add(self.0.wait(rt).is_leader() as u64);
+        }
+        seen
     }
 
     fn added(self) -> u64 {
