@@ -13,7 +13,7 @@ use Rattle.spin_step.specs.declared.place.Hold.TheVariants as hold
 use Rattle.spin_step_more.specs.Readers.{reader_limit, readers_in, read}
 use Rattle.spin_session.specs.declared.table.Ahead.{Ahead}
 use Rattle.spin_step_more.specs.RwCalls.{rw_table}
-use Rattle.spin_step_more.specs.declared.rw_calls.RwCall.TheVariants.{TryRead, ReaderCount}
+use Rattle.spin_step_more.specs.declared.rw_calls.RwCall.TheVariants.{TryRead, Write, ReaderCount}
 use Rattle.spin_step_more.specs.declared.rw_calls.RwPoint.{RwPoint}
 use Rattle.spin_step_more.specs.declared.rw_calls.RwPoint.TheVariants.{First, Exchange}
 use Rattle.spin_core.specs.Cell.{off}
@@ -26,6 +26,9 @@ module _ {T : Type 0} (key : Opening T) where
   pub reads : (h : Hold) → Comes h → IsAnsweredBy rw_tables rw_meaning (call_of h true) None Granted (Some h) key
   reads hold.Read comes l n b k may is = grind (arith, is)
   reads h comes l n b k may is = grind (arith, comes, is)
+
+  pub writes : IsAnsweredBy rw_tables rw_meaning Write None Granted (Some hold.Write) key
+  writes l n b k may is = grind (arith, is)
 
   pub tries : (h : Hold) → Comes h → IsTry rw_tables rw_meaning (call_of h false) None (Some h) key
   tries hold.Read comes l n b k may is = grind (arith, is)

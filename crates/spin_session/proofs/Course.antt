@@ -118,6 +118,15 @@ module _ {W V C L : Type 0} (t : ℕ → V → Table W V C L (Answer V)) (s : Me
     pub acquired_at_once : TriesToAcquire t s c h p.0 → is_granted a ≡ true → Writes s q × HasCalled (model_at t) c Granted p q
     acquired_at_once tries so = writes_now _ ((told (Tries h (λ k. use_at s (resting k) ≡ writes)) tries).0 (granted_as a ∙ so))
 
+  -- A call that has only this answer has it, whether its first steps gave the answer, or the party waited for it.
+  module _ (p q : SeatSpot V C L) (next : Next L (Answer (Unit {0}))) (came : Comes t s c h next p q) (answer : Answer (Unit {0})) (after : Option Hold) (only : IsAnsweredBy t s c h answer after p.0) where
+    pub settled_at_once : Knows s q → (a : Answer (Unit {0})) (k : Option Hold) → next ≡ Answers a k → StandsAt after q × HasCalled (model_at t) c (with_value answer None) p q
+    settled_at_once knows a k is = settled p q knows a k (ended p q next came a k is) answer after only
+
+    pub settled_in_time : (r : SeatSpot V C L) (l : L) → next ≡ Continue l → Knows s r
+        → ((x : SeatSpot V C L) → Under t s c x q → (a : Answer (Unit {0})) × (k : Option Hold) × Ended t s c h a k x r) → StandsAt after r × HasCalled (model_at t) c (with_value answer None) p r
+    settled_in_time r l is knows waited = let (a, k, end) = waited p (under p q next came l is) in settled p r knows a k end answer after only
+
   -- the first step of a call that leaves what the party holds
   pub looked : (key : Opening V) → IsLook t c h key → (n : ℕ) (next : Next L (Answer (Unit {0}))) → GoesBy t s c ((table_at t key).start c h) h n next key → (a : Answer (Unit {0})) (k : Option Hold) → next ≡ Answers a k → (k ≡ h) × Tells t s c h a key
   looked key looks n next (which, fine) a k is =

@@ -76,20 +76,19 @@ pub fn first_ahead<'a, T, P: Leaps<T>>(
         return (next, point, found, session);
     };
     P::laws();
-    let (made, session) = begin_by(session, call, holds, point, ahead);
-    let Some(last) = made else {
-        let (next, found, session) = step(session, call, point, holds);
-        return (next, point, found, session);
-    };
-    (
-        P::next(call, last.0, holds, last.1),
-        last.0,
-        last.1,
-        session,
-    )
+    let (found, session) = begin_by(session, call, holds, point, ahead);
+    if found == ahead.old {
+        let (last, number) = (ahead.point, ahead.number);
+        return (P::next(call, last, holds, number), last, number, session);
+    }
+    if ahead.looks {
+        return (P::next(call, point, holds, found), point, found, session);
+    }
+    let (next, found, session) = step(session, call, point, holds);
+    (next, point, found, session)
 }
 
-// Begins the call by this exchange. Returns the last step that it makes, if it makes one: its point, and the number found.
+// Begins the call by this exchange. Returns the number found, which says which steps it made (`last_step`).
 #[inline(always)]
 fn begin_by<'a, T, P: Leaps<T>>(
     session: SessionOf<'a, T, P>,
@@ -97,17 +96,17 @@ fn begin_by<'a, T, P: Leaps<T>>(
     holds: Option<Hold>,
     start: P::Point,
     ahead: Ahead<P::Point>,
-) -> (Option<(P::Point, u64)>, SessionOf<'a, T, P>)
+) -> (u64, SessionOf<'a, T, P>)
     requires stands { Stands holds session }
     requires may { MayBegin P.tables P.meaning call holds session.permit.key }
     requires start { start ≡ (table_at P.tables session.permit.key).start call holds }
     requires fuses { Fuses (table_at P.tables session.permit.key) P.meaning call holds ahead }
     ensures knows { Knows P.meaning (spot_of result.1) }
     ensures key { result.1.permit.key ≡ session.entry.permit.key }
-    ensures led { (n n' : ℕ) × IsLed (table_at P.tables session.entry.permit.key) P.meaning call holds result.0 n n' }
-    ensures lands { Lands (table_at P.tables session.entry.permit.key) P.meaning call holds result.0 (seat_now (what result.1.permit.view)) }
-    ensures seat { what result.1.permit.view ≡ Some (seat_after call holds (next_after (table_at P.tables session.entry.permit.key) call holds result.0)) }
-    ensures since { Since (model_at P.tables) (course_of call (next_after (table_at P.tables session.entry.permit.key) call holds result.0)) (spot_of session.entry) (spot_of result.1) }
+    ensures led { (n n' : ℕ) × IsLed (table_at P.tables session.entry.permit.key) P.meaning call holds (last_step start ahead result.0) n n' }
+    ensures lands { Lands (table_at P.tables session.entry.permit.key) P.meaning call holds (last_step start ahead result.0) (seat_now (what result.1.permit.view)) }
+    ensures seat { what result.1.permit.view ≡ Some (seat_after call holds (next_after (table_at P.tables session.entry.permit.key) call holds (last_step start ahead result.0))) }
+    ensures since { Since (model_at P.tables) (course_of call (next_after (table_at P.tables session.entry.permit.key) call holds (last_step start ahead result.0))) (spot_of session.entry) (spot_of result.1) }
     ensures last { SeesLast result.1 }
     ensures sees { SeesOn P.meaning call holds session.entry.permit.value result.1 }
 {
@@ -115,18 +114,5 @@ fn begin_by<'a, T, P: Leaps<T>>(
     let _ = holds;
     let Session { permit, seen } = session;
     let (found, permit, seen) = leap::<T, P, Brand>(permit, seen, start, ahead, call, call);
-    (last_step(start, ahead, found), Session { permit, seen })
-}
-
-// Returns the last step that the exchange makes where it finds this number, if the call begins at `start`.
-fn last_step<L: Copy>(start: L, ahead: Ahead<L>, found: u64) -> Option<(L, u64)>
-    ensures { result ≡ last_step start ahead found }
-{
-    if found == ahead.old {
-        Some((ahead.point, ahead.number))
-    } else if ahead.looks {
-        Some((start, found))
-    } else {
-        None
-    }
+    (found, Session { permit, seen })
 }

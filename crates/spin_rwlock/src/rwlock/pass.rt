@@ -384,7 +384,8 @@ impl<'a, T, R> Pass<'a, T, R> {
     }
 }
 
-// Waits until the lock admits a reader of this kind.
+// Waits until the lock admits a reader of this kind. It begins the call itself, since each call of a function that may wait
+// tests a byte.
 #[inline(always)]
 pub(super) fn lend<'a, T, K: Kind, R: RelaxStrategy, W: Wait>(
     session: RwSession<'a, T>,
@@ -394,11 +395,14 @@ pub(super) fn lend<'a, T, K: Kind, R: RelaxStrategy, W: Wait>(
     ensures { Lends (call_of K.hold true) Granted (spot_of session.entry) result }
 {
     let call = call_of(K::hold(), true);
-    let after = K::hold();
-    SharedGuard::lent(come::<T, R, W>(session, call, after, rt))
+    let (next, point, found, session) = begin_ahead(session, call, None);
+    match next {
+        Next::Answers(_, _) => SharedGuard::lent(session),
+        Next::Continue(_) => SharedGuard::lent(wait::<T, R, W>(session, call, point, found, rt)),
+    }
 }
 
-// Waits until the lock admits a writer.
+// Waits until the lock admits a writer, as `lend` does.
 #[inline(always)]
 pub(super) fn grant<'a, T, R: RelaxStrategy, W: Wait>(
     session: RwSession<'a, T>,
@@ -407,30 +411,13 @@ pub(super) fn grant<'a, T, R: RelaxStrategy, W: Wait>(
     requires { Stands None session }
     ensures { Grants Write (spot_of session.entry) result }
 {
-    RwLockWriteGuard::written(come::<T, R, W>(session, RwCall::Write, Hold::Write, rt))
-}
-
-// Waits until the lock admits a holder of this kind.
-#[inline(always)]
-fn come<'a, T, R: RelaxStrategy, W: Wait>(
-    session: RwSession<'a, T>,
-    call: RwCall,
-    after: Hold,
-    rt: &W,
-) -> RwSession<'a, T>
-    requires stands { Stands None session }
-    requires may { MayBegin rw_tables rw_meaning call None session.permit.key }
-    requires answers { IsAnsweredBy rw_tables rw_meaning call None Granted (Some after) session.permit.key }
-    ensures stands { Stands (Some after) result }
-    ensures calls { Calls call Granted (spot_of session.entry) (spot_of result) }
-    ensures last { SeesLast result }
-    ensures sees { SeesOn rw_meaning call None session.entry.permit.value result }
-{
-    let _ = after;
+    let call = RwCall::Write;
     let (next, point, found, session) = begin_ahead(session, call, None);
     match next {
-        Next::Answers(_, _) => session,
-        Next::Continue(_) => wait::<T, R, W>(session, call, point, found, rt),
+        Next::Answers(_, _) => RwLockWriteGuard::written(session),
+        Next::Continue(_) => {
+            RwLockWriteGuard::written(wait::<T, R, W>(session, call, point, found, rt))
+        }
     }
 }
 

@@ -1,4 +1,4 @@
-use Rattle.std.proofs.Common.{◌≡◌, ◌==◌, if◌then◌else◌, refl, ap, ◌∙◌, sym, subst, inr}
+use Rattle.std.proofs.Common.{◌==◌, if◌then◌else◌, refl, ap, ◌∙◌, sym, subst, inr}
 use Rattle.std.specs.Option.{IfSome}
 use Rattle.spin_core.specs.Own.{what}
 use Rattle.spin_core.specs.Traced.{Named}
@@ -24,7 +24,7 @@ returns g c =
     let a = c.args in let it = a.session in let p = it.permit in let t = g.P.Runs.tables in let s = g.P.Runs.meaning in let f = c.leap-found in let r = c.requires.stands in
     let now : SeatSpot g.row.T.Denot g.row.P-Call.Denot g.row.P-Point.Denot = (f.result.1.key, f.result.1.view, f.result.2) in
     let named = Named (g.P.Rule.holds p.key) (g.P.Rule.ways p.key) it.seen.name in let is_named = c.laws.ensures.named p.key it.seen.name r.0 in
-    let last = last_step a.start a.ahead in let is : c.last_step.result ≡ last f.result.0 = c.last_step.ensures in
+    let last = last_step a.start a.ahead in
     let fuses : FusesBy (table_at t p.key) s (λ n. a.call) a.holds last a.ahead.old a.ahead.new = rw c.requires.start c.requires.fuses in
     let all = leapt t s (λ n. a.call) a.holds last (spot_of it) now f.ensures.key r.1 r.2 named is_named f.result.0 f.ensures.moved in
     let land = landed t s (λ n. a.call) a.holds last (spot_of it) now f.ensures.key r.1 r.2 named is_named f.result.0 f.ensures.moved in
@@ -32,10 +32,10 @@ returns g c =
     record {
       knows = (ap (λ k. k.name) f.ensures.key ∙ r.0 ∙ sym all.0.1, land.0, land.1.0.1);
       key = f.ensures.key;
-      led = (f.result.0, (if f.result.0 == a.ahead.old then a.ahead.new else f.result.0), rw is (fuses.1 f.result.0));
-      lands = rw is (land.1);
-      seat = rw is (all.1);
-      since = rw is (all.0);
+      led = (f.result.0, (if f.result.0 == a.ahead.old then a.ahead.new else f.result.0), fuses.1 f.result.0);
+      lands = land.1;
+      seat = all.1;
+      since = all.0;
       last = subst (λ o. IfSome f.result.1.value (IsLast o f.result.2.entries)) (sym f.ensures.key)
           (c.laws.ensures.lasts p.key p.view f.result.1.view p.value f.result.1.value f.result.2 f.ensures.kept f.ensures.found (λ e. absurd (quiet e))).0;
       sees = λ uses. let z = c.laws.ensures.sees p.key p.view f.result.1.view p.value f.result.1.value f.ensures.kept (λ e. uses (sym (uses_now s (what f.result.1.view)) ∙ e)) in (z.0, λ on saw. z.1 saw);
