@@ -118,7 +118,7 @@ impl<T> Steps<T, TicketCall, TicketPoint> for TicketTable {
         let _ = call;
         let refused = Next::Answers(Answer::Refused, holds);
         match point {
-            TicketPoint::Take(next) if found == next && found < u64::MAX => {
+            TicketPoint::Take(next) if found == next && next < u64::MAX => {
                 Next::Continue(TicketPoint::Await(next))
             }
             TicketPoint::LoadNext | TicketPoint::Take(_) => Next::Continue(if found < u64::MAX {
