@@ -54,12 +54,15 @@ impl<const N: usize> Runs<()> for SeatsRule<N> {
         Steps::<(), SeatsCall, SeatsPoint>::start(&SeatsTable { seats: N }, call, holds)
     }
 
-    fn place(point: SeatsPoint) -> usize {
-        Steps::<(), SeatsCall, SeatsPoint>::place(&SeatsTable { seats: N }, point)
-    }
-
-    fn operation(call: SeatsCall, point: SeatsPoint, holds: Option<Hold>) -> Operation {
-        Steps::<(), SeatsCall, SeatsPoint>::operation(&SeatsTable { seats: N }, call, point, holds)
+    fn operation(call: SeatsCall, point: SeatsPoint, holds: Option<Hold>) -> (usize, Operation) {
+        let place = Steps::<(), SeatsCall, SeatsPoint>::place(&SeatsTable { seats: N }, point);
+        let operation = Steps::<(), SeatsCall, SeatsPoint>::operation(
+            &SeatsTable { seats: N },
+            call,
+            point,
+            holds,
+        );
+        (place, operation)
     }
 
     fn next(

@@ -120,7 +120,7 @@ pub fn give<'a, T, P: Runs<T>>(
         Some(point) => point,
         None => unreachable!(),
     };
-    let (place, operation) = (P::place(point), P::operation(call, point, hold));
+    let (place, operation) = P::operation(call, point, hold);
     let (_, permit, seen) = operate::<T, P, Brand>(permit, place, operation, seen, call);
     Session { permit, seen }
 }
@@ -537,7 +537,7 @@ pub fn step<'a, T, P: Runs<T>>(
     ensures sees { SeesOn P.meaning call holds session.entry.permit.value result.2 }
 {
     P::laws();
-    let (place, operation) = (P::place(point), P::operation(call, point, holds));
+    let (place, operation) = P::operation(call, point, holds);
     let Session { permit, seen } = session;
     let (found, permit, seen) = operate::<T, P, Brand>(permit, place, operation, seen, call);
     (

@@ -72,13 +72,10 @@ pub trait Runs<T>: Rule<
     fn start(call: Self::Call, holds: Option<Hold>) -> Option<Self::Point>
         ensures { (first : ℕ) (value : T) → result ≡ begin_of (tables first value) call holds };
 
-    /// Returns the place of the word on which the step at this point works.
-    fn place(point: Self::Point) -> usize
-        ensures { (first : ℕ) (value : T) → result ≡ (tables first value).word point };
-
-    /// Returns the operation of the call's next step.
-    fn operation(call: Self::Call, point: Self::Point, holds: Option<Hold>) -> Operation
-        ensures { (first : ℕ) (value : T) → result ≡ wrapped (operation_by ((tables first value).act call point holds)) };
+    /// Returns the call's next step: the place of the word on which it works, and the operation.
+    fn operation(call: Self::Call, point: Self::Point, holds: Option<Hold>) -> (usize, Operation)
+        ensures place { (first : ℕ) (value : T) → result.0 ≡ (tables first value).word point }
+        ensures operation { (first : ℕ) (value : T) → result.1 ≡ wrapped (operation_by ((tables first value).act call point holds)) };
 
     /// Returns how the call goes on, if its step found this number. The table has no answer `Value`.
     fn next(
@@ -103,8 +100,8 @@ pub trait Runs<T>: Rule<
         due: u32,
     ) -> u32 {
         let _ = found;
-        let looked = is_load(Self::operation(call, from, holds));
-        if looked && !is_load(Self::operation(call, to, holds)) {
+        let looked = is_load(Self::operation(call, from, holds).1);
+        if looked && !is_load(Self::operation(call, to, holds).1) {
             0
         } else {
             due.max(1).min(MAX_BACK_OFF)

@@ -72,12 +72,10 @@ impl<T> Runs<T> for FairRule {
         Steps::<T, FairCall, FairPoint>::start(&TABLE, call, holds)
     }
 
-    fn place(point: FairPoint) -> usize {
-        Steps::<T, FairCall, FairPoint>::place(&TABLE, point)
-    }
-
-    fn operation(call: FairCall, point: FairPoint, holds: Option<Hold>) -> Operation {
-        Steps::<T, FairCall, FairPoint>::operation(&TABLE, call, point, holds)
+    fn operation(call: FairCall, point: FairPoint, holds: Option<Hold>) -> (usize, Operation) {
+        let place = Steps::<T, FairCall, FairPoint>::place(&TABLE, point);
+        let operation = Steps::<T, FairCall, FairPoint>::operation(&TABLE, call, point, holds);
+        (place, operation)
     }
 
     fn next(

@@ -61,12 +61,10 @@ impl<T> Runs<T> for FlagRule {
         Steps::<T, FlagCall, FlagPoint>::start(&FlagTable, call, holds)
     }
 
-    fn place(point: FlagPoint) -> usize {
-        Steps::<T, FlagCall, FlagPoint>::place(&FlagTable, point)
-    }
-
-    fn operation(call: FlagCall, point: FlagPoint, holds: Option<Hold>) -> Operation {
-        Steps::<T, FlagCall, FlagPoint>::operation(&FlagTable, call, point, holds)
+    fn operation(call: FlagCall, point: FlagPoint, holds: Option<Hold>) -> (usize, Operation) {
+        let place = Steps::<T, FlagCall, FlagPoint>::place(&FlagTable, point);
+        let operation = Steps::<T, FlagCall, FlagPoint>::operation(&FlagTable, call, point, holds);
+        (place, operation)
     }
 
     fn next(

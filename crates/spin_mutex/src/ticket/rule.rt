@@ -73,12 +73,10 @@ impl<T> Runs<T> for TicketRule {
         Steps::<T, TicketCall, TicketPoint>::start(&TABLE, call, holds)
     }
 
-    fn place(point: TicketPoint) -> usize {
-        Steps::<T, TicketCall, TicketPoint>::place(&TABLE, point)
-    }
-
-    fn operation(call: TicketCall, point: TicketPoint, holds: Option<Hold>) -> Operation {
-        Steps::<T, TicketCall, TicketPoint>::operation(&TABLE, call, point, holds)
+    fn operation(call: TicketCall, point: TicketPoint, holds: Option<Hold>) -> (usize, Operation) {
+        let place = Steps::<T, TicketCall, TicketPoint>::place(&TABLE, point);
+        let operation = Steps::<T, TicketCall, TicketPoint>::operation(&TABLE, call, point, holds);
+        (place, operation)
     }
 
     fn next(

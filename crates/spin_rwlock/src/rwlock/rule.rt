@@ -76,12 +76,10 @@ impl<T> Runs<T> for RwRule<T> {
         Steps::<T, RwCall, RwPoint>::start(&TABLE, call, holds)
     }
 
-    fn place(point: RwPoint) -> usize {
-        Steps::<T, RwCall, RwPoint>::place(&TABLE, point)
-    }
-
-    fn operation(call: RwCall, point: RwPoint, holds: Option<Hold>) -> Operation {
-        Steps::<T, RwCall, RwPoint>::operation(&TABLE, call, point, holds)
+    fn operation(call: RwCall, point: RwPoint, holds: Option<Hold>) -> (usize, Operation) {
+        let place = Steps::<T, RwCall, RwPoint>::place(&TABLE, point);
+        let operation = Steps::<T, RwCall, RwPoint>::operation(&TABLE, call, point, holds);
+        (place, operation)
     }
 
     fn next(

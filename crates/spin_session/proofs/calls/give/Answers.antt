@@ -22,16 +22,16 @@ operate-permit-requires-clause-knows g c = rw c.into_permit-permit.ensures.key c
 
 pub operate-permit-requires-clause-keeps : goal.operate-permit-requires-clause-keeps
 operate-permit-requires-clause-keeps g c =
-    let a = c.args in let it = c.into_permit-permit in let p = it.result in let t = g.P.Runs.tables in let b = g.P.Runs.meaning in let call = a.call in let o = c.operation-operation in
+    let a = c.args in let it = c.into_permit-permit in let p = it.result in let t = g.P.Runs.tables in let b = g.P.Runs.meaning in let call = a.call in let o = c.operation-place in
     let begins : ((table_at t p.key).asks call (Some a.holds)).begins (Some a.holds) ≡ true = rw it.ensures.key c.requires.begins in
     let start : c.in-Some.point ≡ (table_at t p.key).start call (Some a.holds) = starts_at (table_at t p.key) call (Some a.holds) c.in-Some.point begins (sym c.in-Some.is ∙ c.start.ensures p.key.start p.key.value) in
-    let same : o.result ≡ wrapped (operation_by ((table_at t p.key).act call ((table_at t p.key).start call (Some a.holds)) (Some a.holds))) = rw start at (o.ensures p.key.start p.key.value) in
-    let place : (table_at t p.key).word ((table_at t p.key).start call (Some a.holds)) ≡ c.place-place.result = sym (rw start at (c.place-place.ensures p.key.start p.key.value)) in
+    let same : o.result.1 ≡ wrapped (operation_by ((table_at t p.key).act call ((table_at t p.key).start call (Some a.holds)) (Some a.holds))) = rw start at (o.ensures.operation p.key.start p.key.value) in
+    let place : (table_at t p.key).word ((table_at t p.key).start call (Some a.holds)) ≡ o.result.0 = sym (rw start at (o.ensures.place p.key.start p.key.value)) in
     let held = c.requires.alone (sym (c.laws.ensures.uses a.writer.key (Some a.writer.view)) ∙ it.ensures.use_of_view) in
     let is : what p.view ≡ Some (Holding a.holds) = ap what it.ensures.same.0 ∙ ap Some held in
     let may : ((table_at t p.key).asks call (Some a.holds)).begins (Some a.holds) ≡ true = rw it.ensures.key c.requires.begins in
-    let all = c.laws.ensures.gives p.key p.view a.writer.value call a.holds o.result same is may c.requires.held.0 c.requires.held.1 in
-    subst (λ (x : Option g.row.T.Denot × ℕ). Operates g.P.Word.Word.words (g.P.Rule.holds p.key) (g.P.Rule.ways p.key) p.view x.0 x.1 o.result (TurnTold t b true (Some call) p.key p.view)) (λ i. (sym it.ensures.same.1 i, place i)) all
+    let all = c.laws.ensures.gives p.key p.view a.writer.value call a.holds o.result.1 same is may c.requires.held.0 c.requires.held.1 in
+    subst (λ (x : Option g.row.T.Denot × ℕ). Operates g.P.Word.Word.words (g.P.Rule.holds p.key) (g.P.Rule.ways p.key) p.view x.0 x.1 o.result.1 (TurnTold t b true (Some call) p.key p.view)) (λ i. (sym it.ensures.same.1 i, place i)) all
 
 pub returns : goal.returns
 returns g c =

@@ -15,11 +15,11 @@ use Rattle.spin_session.proofs.calls.step.Goals as goal
 
 pub operate-found-requires-clause-keeps : goal.operate-found-requires-clause-keeps
 operate-found-requires-clause-keeps g c =
-    let a = c.args in let p = a.session.permit in let t = g.P.Runs.tables in let o = c.operation-operation in
-    let same : o.result ≡ wrapped (operation_by ((table_at t p.key).act a.call a.point a.holds)) = o.ensures p.key.start p.key.value in
-    let place : (table_at t p.key).word a.point ≡ c.place-place.result = sym (c.place-place.ensures p.key.start p.key.value) in
-    subst (λ i. Operates g.P.Word.Word.words (g.P.Rule.holds p.key) (g.P.Rule.ways p.key) p.view p.value i o.result (TurnTold t g.P.Runs.meaning false (Some a.call) p.key p.view)) place
-    (c.laws.ensures.turns p.key p.view p.value a.call a.point a.holds o.result same c.requires.at c.requires.knows.2 (quiet_at (table_at t p.key) g.P.Runs.meaning a.call a.point a.holds (what p.view) c.requires.at c.requires.quiet))
+    let a = c.args in let p = a.session.permit in let t = g.P.Runs.tables in let o = c.operation-place in
+    let same : o.result.1 ≡ wrapped (operation_by ((table_at t p.key).act a.call a.point a.holds)) = o.ensures.operation p.key.start p.key.value in
+    let place : (table_at t p.key).word a.point ≡ o.result.0 = sym (o.ensures.place p.key.start p.key.value) in
+    subst (λ i. Operates g.P.Word.Word.words (g.P.Rule.holds p.key) (g.P.Rule.ways p.key) p.view p.value i o.result.1 (TurnTold t g.P.Runs.meaning false (Some a.call) p.key p.view)) place
+    (c.laws.ensures.turns p.key p.view p.value a.call a.point a.holds o.result.1 same c.requires.at c.requires.knows.2 (quiet_at (table_at t p.key) g.P.Runs.meaning a.call a.point a.holds (what p.view) c.requires.at c.requires.quiet))
 
 pub returns : goal.returns
 returns g c =
