@@ -52,6 +52,15 @@ pub type GuardOf<'a, T, P, R> = Guard<
     R,
 >;
 
+/// What a party has made of a call: how the call goes on, the point of its last step, the number that this step found, and
+/// the party.
+pub type MadeOf<'a, T, P> = (
+    Next<<P as Runs<T>>::Point, Answer<()>>,
+    <P as Runs<T>>::Point,
+    u64,
+    SessionOf<'a, T, P>,
+);
+
 /// Returns the session of a new party of a lock.
 pub fn enter<T, P: Runs<T>>(cell: &Cell<T, Party<P::Call, P::Point>, P>) -> SessionOf<'_, T, P>
     ensures { spot_of result ≡ new_in cell.now }
@@ -364,12 +373,7 @@ pub fn begin<'a, T, P: Runs<T>>(
     session: SessionOf<'a, T, P>,
     call: P::Call,
     holds: Option<Hold>,
-) -> (
-    Next<P::Point, Answer<()>>,
-    P::Point,
-    u64,
-    SessionOf<'a, T, P>,
-)
+) -> MadeOf<'a, T, P>
     requires stands { Stands holds session }
     requires may { MayBegin P.tables P.meaning call holds session.permit.key }
     ensures made { IsMade P.tables P.meaning call holds result }
@@ -389,21 +393,11 @@ pub fn begin<'a, T, P: Runs<T>>(
 /// pause; a call without pauses gives `None`.
 #[inline(always)]
 pub fn further<'a, T, P: Runs<T>>(
-    made: (
-        Next<P::Point, Answer<()>>,
-        P::Point,
-        u64,
-        SessionOf<'a, T, P>,
-    ),
+    made: MadeOf<'a, T, P>,
     call: P::Call,
     holds: Option<Hold>,
     due: Option<u32>,
-) -> (
-    Next<P::Point, Answer<()>>,
-    P::Point,
-    u64,
-    SessionOf<'a, T, P>,
-)
+) -> MadeOf<'a, T, P>
     requires made { IsMade P.tables P.meaning call holds made }
     requires quiet { StaysQuiet P.meaning call holds }
     ensures made { IsMade P.tables P.meaning call holds result }
@@ -478,12 +472,7 @@ pub fn first<'a, T, P: Runs<T>>(
     session: SessionOf<'a, T, P>,
     call: P::Call,
     holds: Option<Hold>,
-) -> (
-    Next<P::Point, Answer<()>>,
-    P::Point,
-    u64,
-    SessionOf<'a, T, P>,
-)
+) -> MadeOf<'a, T, P>
     requires stands { Stands holds session }
     requires may { MayBegin P.tables P.meaning call holds session.permit.key }
     ensures made { IsMade P.tables P.meaning call holds result }

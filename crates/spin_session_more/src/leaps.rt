@@ -6,10 +6,10 @@ ghost use Rattle.spin_core.specs.Spots.{Since};
 ghost use Rattle.spin_session.specs.Meaning.{seat_now, seat_after, table_at, model_at};
 ghost use Rattle.spin_session.specs.Turns.{IsMade, SeesLast, SeesOn, IsLedTo, Fuses, IsLed, Lands, last_step, next_after, course_of, Knows, Stands, MayBegin, Comes, spot_of};
 
-use spin_session::calls::{SessionOf, further, leap, point_of, step};
+use spin_session::calls::{MadeOf, SessionOf, further, leap, point_of, step};
 use spin_session::session::Session;
 use spin_session::table::{Ahead, Runs};
-use spin_step::{Answer, Hold, Next};
+use spin_step::Hold;
 use std::marker::Brand;
 
 /// The rule of a cell that runs a table, some of whose calls begin by an exchange that is several of their steps.
@@ -32,12 +32,7 @@ pub fn begin_ahead<'a, T, P: Leaps<T>>(
     session: SessionOf<'a, T, P>,
     call: P::Call,
     holds: Option<Hold>,
-) -> (
-    Next<P::Point, Answer<()>>,
-    P::Point,
-    u64,
-    SessionOf<'a, T, P>,
-)
+) -> MadeOf<'a, T, P>
     requires stands { Stands holds session }
     requires may { MayBegin P.tables P.meaning call holds session.permit.key }
     ensures made { IsMade P.tables P.meaning call holds result }
@@ -56,12 +51,7 @@ pub fn first_ahead<'a, T, P: Leaps<T>>(
     session: SessionOf<'a, T, P>,
     call: P::Call,
     holds: Option<Hold>,
-) -> (
-    Next<P::Point, Answer<()>>,
-    P::Point,
-    u64,
-    SessionOf<'a, T, P>,
-)
+) -> MadeOf<'a, T, P>
     requires stands { Stands holds session }
     requires may { MayBegin P.tables P.meaning call holds session.permit.key }
     ensures made { IsMade P.tables P.meaning call holds result }
