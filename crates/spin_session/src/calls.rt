@@ -1,25 +1,23 @@
 //! The calls of a session: each is made by the steps of the lock's table. Begin with [`acquire`].
-ghost use Rattle.std.specs.Prelude.{◌≡◌, ◌≢◌, ◌≤◌, ℕ, true, false, None, Some, Option, IfOk, IfErr, length};
+ghost use Rattle.std.specs.Prelude.{◌≡◌, ◌≢◌, ◌≤◌, true, false, None, Some, Option, IfOk, IfErr, length};
 ghost use Rattle.std.specs.Option.{IfSome};
 ghost use Rattle.spin_core.specs.Values.{IsLast};
 ghost use Rattle.spin_core.specs.Cell.{off, writes, use_of};
 ghost use Rattle.spin_core.specs.Own.{what};
-ghost use Rattle.spin_core.specs.Passes.{IsOut, Nothing, own_mark};
-ghost use Rattle.spin_core.specs.Spots.{Releases, Since};
+ghost use Rattle.spin_core.specs.Passes.{IsOut, own_mark};
+ghost use Rattle.spin_core.specs.Spots.{Releases};
 ghost use Rattle.spin_core.specs.Traced.{MadeStep, MayKnow};
-ghost use Rattle.spin_step.specs.Acts.{next_of};
 ghost use Rattle.spin_step.specs.Schedules.{may_write, resting};
-ghost use Rattle.spin_step.specs.declared.place.Seat.{Seat};
 ghost use Rattle.spin_step.specs.declared.stepped.Next.TheVariants.{Answers};
 ghost use Rattle.spin_step.specs.declared.place.Seat.TheVariants.{Idle, Calling, Holding};
 ghost use Rattle.spin_step.specs.declared.answer.Answer.{Answer as AnAnswer};
 ghost use Rattle.spin_step.specs.declared.answer.Answer.TheVariants.{Granted, Refused, Done};
 ghost use Rattle.spin_step.specs.declared.place.Hold.{Hold as AHold};
 ghost use Rattle.spin_step.specs.declared.table.Operation.TheVariants.{Exchange};
-ghost use Rattle.spin_session.specs.Meaning.{seat_now, seat_after, table_at, use_at, model_at};
+ghost use Rattle.spin_session.specs.Meaning.{seat_now, table_at, use_at, model_at};
 ghost use Rattle.spin_session.specs.Operating.{Operates};
 ghost use Rattle.spin_session.specs.Passes.{After, Grants, Writes, lock_of};
-ghost use Rattle.spin_session.specs.Turns.{Follows, IsMade, SeesLast, SeesOn, EndsWith, IsLedTo, Fuses, IsLed, Lands, last_step, next_after, course_of, IsAt, Knows, StaysQuiet, Stands, MayBegin, Ended, Comes, GoesBy, GoesOn, Under, IsAnswered, Acquires, TriesToAcquire, IsLook, Tells, Calls, SeatSpot, new_in, spot_of, is_granted};
+ghost use Rattle.spin_session.specs.Turns.{Follows, IsMade, SeesLast, SeesOn, EndsWith, IsAt, Knows, StaysQuiet, Stands, MayBegin, Ended, Comes, GoesOn, Under, IsAnswered, Acquires, TriesToAcquire, IsLook, Tells, Calls, SeatSpot, new_in, spot_of, is_granted};
 
 use crate::second::Word;
 use crate::session::Session;

@@ -8,7 +8,7 @@ ghost use Rattle.spin_step.specs.declared.answer.Answer.TheVariants.{Granted, Re
 ghost use Rattle.spin_step.specs.declared.place.Hold.{Hold as AHold};
 ghost use Rattle.spin_step_more.specs.Readers.{reader_limit};
 ghost use Rattle.spin_step_more.specs.declared.rw_calls.RwCall.TheVariants.{TryRead, Read, TryUpgradeableRead, UpgradeableRead, TryWrite, Write, ReaderCount, WriterCount, Release};
-ghost use Rattle.spin_session.specs.Turns.{Ended, GoesOn, IsAnsweredBy, Knows, MayBegin, SeesLast, SeesOn, Stands, StaysQuiet, Under, spot_of};
+ghost use Rattle.spin_session.specs.Turns.{Ended, GoesOn, Knows, SeesLast, SeesOn, Stands, StaysQuiet, Under, spot_of};
 ghost use Rattle.spin_rwlock.specs.Rw.{call_of, rw_meaning, rw_tables};
 ghost use Rattle.spin_rwlock.specs.RwPasses.{◌⨾◌, After, Calls, Grants, KnowsItsSteps, Lends, Recalls, RwSpot, ShowsLast, Unlocks, WroteSome, history, lock_of, new_in, opening, opening_of, shared_spot};
 
