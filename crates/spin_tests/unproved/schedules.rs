@@ -45,18 +45,18 @@ fn tells(rt: &impl Abort, alloc: Global, step: usize, shows: &str, text: &[u8], 
 }
 
 /// Plays a worked schedule as [`tells`] does, with its last line feed and without.
-fn tells_ended(rt: &impl Abort, alloc: Global, step: usize, it: Worked<'_>) {
+fn tells_ended(rt: &impl Abort, alloc: Global, step: usize, it: &Worked<'_>) {
     let text = it.schedule.as_bytes();
     let (without_end, _) = text.split_at(text.len().saturating_sub(1));
     for text in [text, without_end] {
-        tells(rt, alloc, step, it.shows, text, it.transcript);
+        tells(rt, alloc, step, it.shows, text, &it.transcript);
     }
 }
 
 #[test]
 fn worked_texts_whole_and_in_small_steps(rt: HostRuntime) {
     for page in &pages(&rt) {
-        for it in worked_on(&rt, rt.alloc(), page) {
+        for it in &worked_on(&rt, rt.alloc(), page) {
             for step in [usize::MAX, 1, 2, 3, 4, 5, 6, 7, 8] {
                 tells_ended(&rt, rt.alloc(), step, it);
             }

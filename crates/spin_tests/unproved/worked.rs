@@ -1,5 +1,5 @@
 //! The worked schedules, which the tests read where they run: of each object in `data`, and of the page of schedules.
-//! Each stands below a heading, and below it its transcript.
+//! Each stands below a heading. The line of a move has beside it what is printed for the move.
 
 use std::alloc::Global;
 use std::fs;
@@ -7,13 +7,13 @@ use std::process::Abort;
 use std::rt::Files;
 
 /// A worked schedule.
-#[derive(Clone, Copy)]
+#[derive(Drop)]
 pub struct Worked<'a> {
     /// What it shows.
     pub shows: &'a str,
-    pub schedule: &'a str,
+    pub schedule: String,
     /// The text that is written for it.
-    pub transcript: &'a str,
+    pub transcript: String,
 }
 
 /// Returns the pages with worked schedules.
@@ -33,16 +33,36 @@ pub fn worked_on<'a>(rt: &impl Abort, alloc: Global, page: &'a str) -> Vec<Worke
     let mut found = Vec::new(alloc);
     for section in page.split("\n### ").skip(1) {
         let shows = section.lines().next().expect(rt, "a heading");
-        let mut blocks = section.split("```\n").skip(1).step_by(2);
-        let schedule = blocks.next().expect(rt, shows);
-        let transcript = blocks.next().expect(rt, shows);
-        let it = Worked {
-            shows,
-            schedule,
-            transcript,
-        };
-        found.push(it).expect(rt, "memory");
+        let block = section.split("```\n").nth(1).expect(rt, shows);
+        found
+            .push(worked_in(rt, alloc, shows, block))
+            .expect(rt, "memory");
     }
     assert!(rt; !found.is_empty(), "no schedules");
     found
+}
+
+/// Reads the header, then a move and what is printed for it on each line, with two spaces between them, and the last line
+/// of the transcript. A line may end with a remark.
+fn worked_in<'a>(rt: &impl Abort, alloc: Global, shows: &'a str, block: &str) -> Worked<'a> {
+    let mut schedule = String::new(alloc);
+    let mut transcript = String::new(alloc);
+    for (number, line) in block.lines().enumerate() {
+        let written = match line.split_once("  ") {
+            None if number == 0 => writeln!(schedule, "{line}"),
+            None => writeln!(transcript, "{line}"),
+            Some((entry, printed)) => {
+                let party = entry.split(' ').next().expect(rt, shows);
+                let event = printed.split("  #").next().expect(rt, shows).trim();
+                let written = writeln!(schedule, "{entry}");
+                writeln!(transcript, "{number} {party} {event}").and(written)
+            }
+        };
+        written.expect(rt, "memory");
+    }
+    Worked {
+        shows,
+        schedule,
+        transcript,
+    }
 }

@@ -195,7 +195,7 @@ pub fn try_text(rt: &impl Abort, alloc: Global, trial: Trial, shows: &str, text:
 pub fn try_all<R: Abort + AllocGlobal + Files + Clone + Drop>(rt: &R, trial: Trial) {
     for page in &pages(rt) {
         for it in worked_on(rt, rt.alloc(), page) {
-            try_text(rt, rt.alloc(), trial, it.shows, it.schedule);
+            try_text(rt, rt.alloc(), trial, it.shows, &it.schedule);
         }
     }
 }
