@@ -175,19 +175,19 @@ impl RelaxStrategy for Yield {
     }
 }
 
-// The strategy `SpinThenYield` spins in a pause of at most so many hints, less one for each four that the call has given.
-// So a call spins for about as long as a switch to another thread takes. In a queue it spins only near the front.
-const SPIN_LIMIT: u32 = 24;
+// The strategy `SpinThenYield` spins in a pause of at most so many hints, less one for each eight that the call has given.
+// In a queue it so spins only near the front: a thread behind four others pauses for more, and yields at once.
+const SPIN_LIMIT: u32 = 31;
 
 // If no other thread wants the processor, a yield takes about as long as so many hints.
-const HINTS_A_YIELD: u32 = 16;
+const HINTS_A_YIELD: u32 = 64;
 
 /// The strategy that spins like [`Spin`] while a call has not waited for long, and then yields like [`Yield`].
 ///
 /// Use it where more threads may wait than there are processors. There a queue with [`Spin`] nearly stands still, since
 /// the thread that is next may have no processor. Where each thread has a processor, `SpinThenYield` is about as fast as
-/// `Spin`. A call gives fewer than a hundred hints in all. In place of a pause of many hints it yields several times, so
-/// that it looks no more often than with `Spin`.
+/// `Spin`. A call gives at most 250 hints in all. In place of a pause of many hints it yields several times, so that it
+/// looks no more often than with `Spin`.
 ///
 /// # Examples
 /// ```
@@ -207,7 +207,7 @@ impl RelaxStrategy for SpinThenYield {
     }
 
     fn pause_after<W: Wait>(rt: &W, hints: u32, given: u32) {
-        if hints.saturating_add(given / 4) <= SPIN_LIMIT {
+        if hints.saturating_add(given / 8) <= SPIN_LIMIT {
             return Spin::pause(rt, hints);
         }
         for _ in 0..(hints / HINTS_A_YIELD).max(1) {
