@@ -23,9 +23,9 @@ use Rattle.spin_core.specs.Cell.{word_limit, reading, writing as writes_of, Meet
 use Rattle.spin_core.specs.Views.{Part, starves, HasPart, IsLockOf, entries_of_part}
 use Rattle.spin_core.specs.declared.tie.Opening.{Opening}
 use Rattle.spin_core.specs.declared.trace.Trace.{Trace}
-use Rattle.spin_core.proofs.Leaving.{fair_word-up}
-use Rattle.spin_core.proofs.Owners.{Writes as MayWrite, one_holds, one_user}
-use Rattle.spin_core.proofs.Views.{release-own}
+use Rattle.spin_core.proofs.tie.Leaving.{fair_word-up}
+use Rattle.spin_core.proofs.tie.Owners.{Writes as MayWrite, one_holds, one_user}
+use Rattle.spin_core.proofs.tie.Views.{release-own}
 use Rattle.spin_session.specs.Meaning.{Sound, ComesFrom, Refines, part_of, use_at, ways_of}
 use Rattle.spin_session.specs.Turns.{Ended, Knows}
 use Rattle.spin_step.specs.declared.answer.Answer.TheVariants.{Granted, Locked, Starved}

@@ -16,9 +16,9 @@ use Rattle.spin_core.specs.Cell.{reads, MeetsRule}
 use Rattle.spin_core.specs.Views.{Part, HasPart, IsLockOf}
 use Rattle.spin_core.specs.declared.tie.Opening.{Opening}
 use Rattle.spin_core.specs.declared.trace.Trace.{Trace}
-use Rattle.spin_core.proofs.Leaving.{flag_word-up}
-use Rattle.spin_core.proofs.Owners.{OfHolders, one_holder}
-use Rattle.spin_core.proofs.Views.{release-own}
+use Rattle.spin_core.proofs.tie.Leaving.{flag_word-up}
+use Rattle.spin_core.proofs.tie.Owners.{OfHolders, one_holder}
+use Rattle.spin_core.proofs.tie.Views.{release-own}
 use Rattle.spin_session.specs.Meaning.{part_of, use_at, Sound, ComesFrom, Refines, ways_of}
 use Rattle.spin_session.proofs.Refining as session
 use Rattle.spin_flag.specs.Flag.{flag_meaning, Done, IsFlag, View}

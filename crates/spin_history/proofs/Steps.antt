@@ -13,8 +13,8 @@ use types.Owned.{basic}
 use types.Growing.{latest_new}
 use types.Kit.{‵, ◌⊛◌, given, later, ◌$◌, ◌∵◌, !, move, keep, split, learn, check, updating, now, done, use0}
 use types.Tokens.{bor_new, bor_fracture, shr_bor-open}
-use Rattle.spin_core.proofs.TraceSteps as trace
-pub use Rattle.spin_core.proofs.TraceSteps.{log_keyless, part_keyless, known_keyless, part_halves, log_lends, shows, observes, known_twice, joins}
+use Rattle.spin_core.proofs.trace.Steps as trace
+pub use Rattle.spin_core.proofs.trace.Steps.{log_keyless, part_keyless, known_keyless, part_halves, log_lends, shows, observes, known_twice, joins}
 use Rattle.spin_core.proofs.Signs.{signs}
 use Rattle.spin_core.proofs.Lemmas.{lemma, script, cite}
 use Rattle.spin_core.specs.Logs.{logs, log_owns, log_part, known_owns}

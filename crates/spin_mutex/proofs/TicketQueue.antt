@@ -3,9 +3,9 @@ use Rattle.std.proofs.Common.{◌≡◌, ℕ, List, refl, sym, ap, ◌∙◌, ar
 use Rattle.std.specs.Prelude.{sum_by, count_by}
 use Rattle.spin_step.specs.Plain.{serving_word}
 use Rattle.spin_core.specs.Views.{entries_of_part}
-use Rattle.spin_core.proofs.Owners.{exactly}
+use Rattle.spin_core.proofs.tie.Owners.{exactly}
 use Rattle.spin_step.proofs.Tickets.{one_if, has_number, count-lower, count-upper, count-between, entered_is_served}
-use Rattle.spin_core.proofs.Views.{part-there, part-beyond}
+use Rattle.spin_core.proofs.tie.Views.{part-there, part-beyond}
 use Rattle.spin_step.specs.declared.place.Hold.TheVariants as hold
 use Rattle.spin_step.specs.declared.place.Seat.TheVariants.{Holding}
 use Rattle.spin_mutex.specs.Queue.{View, part, Word}

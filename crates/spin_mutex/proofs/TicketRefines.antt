@@ -18,8 +18,8 @@ use Rattle.spin_step.specs.declared.ticket_calls.TicketWords.{TicketWords}
 use Rattle.spin_step.specs.declared.ticket_calls.TicketPoint.{TicketPoint}
 use Rattle.spin_step.specs.declared.ticket_calls.TicketPoint.TheVariants.{Take, Await, TryTake, Serve}
 use Rattle.spin_core.specs.Views.{Part, queues, HasPart, IsLockOf}
-use Rattle.spin_core.proofs.Leaving.{serving_word-up}
-use Rattle.spin_core.proofs.Owners.{one_ticket}
+use Rattle.spin_core.proofs.tie.Leaving.{serving_word-up}
+use Rattle.spin_core.proofs.tie.Owners.{one_ticket}
 use Rattle.spin_session.specs.Meaning.{Peeks, use_at, ways_of, with_second, FindsAt, SoundOn, part_of, seat_after, ComesFrom, RefinesOn}
 use Rattle.spin_core.specs.Cell.{writes, MeetsRule}
 use Rattle.spin_core.specs.declared.tie.Opening.{Opening}

@@ -10,11 +10,11 @@ use Rattle.spin_core.specs.Traced.{MadeStep, Named}
 use Rattle.spin_core.specs.declared.cell.Permit.{Permit}
 use Rattle.spin_core.specs.declared.trace.Trace.{Trace}
 use Rattle.spin_core.specs.declared.trace.Watch.{Watch}
-use Rattle.spin_core.proofs.Passes as passes
-use Rattle.spin_core.proofs.Passes.{Learnt, one_number}
+use Rattle.spin_core.proofs.tie.Passes as passes
+use Rattle.spin_core.proofs.tie.Passes.{Learnt, one_number}
 use Rattle.std.proofs.lemmas.List.{append_assoc}
-use Rattle.spin_core.proofs.Spots.{both, in_one, comes_in, stays_in, is_answered}
-use Rattle.spin_core.proofs.Ties as tie
+use Rattle.spin_core.proofs.tie.Spots.{both, in_one, comes_in, stays_in, is_answered}
+use Rattle.spin_core.proofs.tie.Ties as tie
 use Rattle.spin_session.specs.Turns.{outcome_of, has_begun}
 use Rattle.spin_step.specs.declared.answer.Answer.TheVariants.{Failed, Value}
 use Rattle.spin_step.specs.declared.once_calls.OnceCall.TheVariants.{TryCallOnceOk, Wait}

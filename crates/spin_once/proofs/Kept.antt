@@ -11,8 +11,8 @@ use Rattle.spin_core.specs.Stable.{maybe_stable, StableAt}
 use Rattle.spin_core.specs.Traced.{Traces}
 use Rattle.spin_core.specs.declared.tie.Opening.{Opening}
 use Rattle.spin_core.specs.declared.trace.Trace.{Trace}
-use Rattle.spin_core.proofs.CellWays.{knowing_rest}
-use Rattle.spin_core.proofs.Ties as tie
+use Rattle.spin_core.proofs.cell.Ways.{knowing_rest}
+use Rattle.spin_core.proofs.tie.Ties as tie
 use Rattle.spin_core.specs.Run.{by_first}
 use Rattle.spin_session.specs.Meaning.{just_one}
 use Rattle.spin_session.specs.Operating.{Operates}

@@ -2,7 +2,7 @@
 use Rattle.std.proofs.Common.{◌≡◌, ℕ, ◌+◌, ◌≤◌, List, ◌++◌, ◌∷◌, Option, Some, refl, ap, arith}
 use Rattle.std.specs.Prelude.{sum_by}
 use Rattle.spin_core.specs.Cell.{Use, off, reads, writes, reading, writing, use_of, Way, Ways, no_fact, MeetsRule, Limits, Owes, HasView, after, AllowsAt, Rests}
-use Rattle.spin_core.proofs.CellCounts.{moves, without}
+use Rattle.spin_core.proofs.cell.Counts.{moves, without}
 use Rattle.spin_step.specs.declared.place.Seat.TheVariants.{Idle}
 use Rattle.spin_once.specs.OnceValues.{Content}
 use Rattle.spin_once.specs.Once.{View, use_of_view, readers, running, IsPhase, Word, IsMadeFrom, once_ways}

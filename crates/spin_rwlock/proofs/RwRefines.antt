@@ -17,12 +17,12 @@ use Rattle.spin_step_more.specs.declared.rw_calls.RwPoint.TheVariants.{First, Ex
 use Rattle.spin_step_more.proofs.Readers.{one_of_each, word_of}
 use Rattle.spin_step_more.proofs.ReaderSteps.{rw_read-grants, rw_upgradable-grants, rw_write-grants, rw_upgrade-grants, rw_upgrade_asked-grants}
 use Rattle.spin_core.specs.Views.{Part, idle, holds, HasPart, entries_of_part}
-use Rattle.spin_core.proofs.Leaving.{sum-up}
+use Rattle.spin_core.proofs.tie.Leaving.{sum-up}
 use Rattle.spin_core.specs.Cell.{MeetsRule}
 use Rattle.spin_core.specs.declared.tie.Opening.{Opening}
 use Rattle.spin_core.specs.declared.trace.Trace.{Trace}
-use Rattle.spin_core.proofs.Owners.{OfReaders, readers_or_writer}
-use Rattle.spin_core.proofs.Views.{release-own, turn-own}
+use Rattle.spin_core.proofs.tie.Owners.{OfReaders, readers_or_writer}
+use Rattle.spin_core.proofs.tie.Views.{release-own, turn-own}
 use Rattle.spin_step.specs.Acts.{retry, one_number, is_section}
 use Rattle.spin_step.specs.declared.table.Operation.TheVariants as op
 use Rattle.spin_step.specs.Steps.{Decides}

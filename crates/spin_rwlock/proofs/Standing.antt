@@ -7,7 +7,7 @@ use Rattle.spin_step.proofs.Holders.{is_holder-from_entries}
 use Rattle.spin_step_more.proofs.Readers.{tells-holder}
 use Rattle.spin_step.proofs.Sums.{upgrader, one_of, by_kinds, all_kinds, sum-less, sum-turned, length-with_kind}
 use Rattle.spin_core.specs.Views.{Part, entries_of_part}
-use Rattle.spin_core.proofs.Owners.{exactly}
+use Rattle.spin_core.proofs.tie.Owners.{exactly}
 use Rattle.spin_rwlock.specs.Rw.{part, Word, View}
 use Rattle.spin_rwlock.specs.Standing.{is_of_kind, has_kind, held, readers, upgradables, askers, writers, holders, ReadersOrWriter, HoldsAt}
 use Rattle.spin_rwlock.proofs.RwRefines.{few, bounded}

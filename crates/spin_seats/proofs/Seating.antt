@@ -11,8 +11,8 @@ use Rattle.spin_step.proofs.Holders.{is_holder-from_entries, length-held, length
 use Rattle.spin_core.specs.Cell.{reading as reads_of, readers_of}
 use Rattle.spin_core.specs.Views.{Part, holds, entries_of_part, part_at, HasPart, IsLockOf}
 use Rattle.spin_core.specs.declared.tie.Opening.{Opening}
-use Rattle.spin_core.proofs.Leaving.{flag_word-up}
-use Rattle.spin_core.proofs.Views.{release-own}
+use Rattle.spin_core.proofs.tie.Leaving.{flag_word-up}
+use Rattle.spin_core.proofs.tie.Views.{release-own}
 use Rattle.spin_session.specs.Meaning.{Sound, ComesFrom, Refines, use_at}
 use Rattle.spin_session.specs.Turns.{IsAnswered, IsAnsweredBy, IsTry}
 use Rattle.spin_session.proofs.Readers.{OnlyReads, all_read, as_many_hold, readers_fit}

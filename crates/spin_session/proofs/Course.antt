@@ -4,7 +4,7 @@ use Rattle.std.proofs.Common.{◌≡◌, ℕ, zero, suc, true, false, Option, So
 use Rattle.spin_core.specs.Cell.{writes, use_of}
 use Rattle.spin_core.specs.Own.{Numbered, what}
 use Rattle.spin_core.specs.Spots.{IsIn, HasCalled, Since, Stepped}
-use Rattle.spin_core.proofs.Spots.{in_one, comes_in, stays_in, is_answered}
+use Rattle.spin_core.proofs.tie.Spots.{in_one, comes_in, stays_in, is_answered}
 use Rattle.spin_step.specs.Acts.{Table, next_of, filled, with_value, begin_of}
 use Rattle.spin_step.specs.Schedules.{Entry, resting}
 use Rattle.spin_step.specs.declared.answer.Answer.{Answer}

@@ -1,7 +1,7 @@
 -- A cell whose table refines the plain lock gives what sessions use.
 use Rattle.std.proofs.Common.{◌≡◌, ◌≢◌, ℕ, sym, ◌∙◌}
 use Rattle.spin_core.specs.Cell.{writes, use_of}
-use Rattle.spin_core.proofs.Ties as tie
+use Rattle.spin_core.proofs.tie.Ties as tie
 use Rattle.spin_step.specs.Acts.{Table}
 use Rattle.spin_step.specs.declared.answer.Answer.{Answer}
 use Rattle.spin_session.specs.Meaning.{Meaning, Beside, just_one, table_at, use_at, use_of_party, Refines, RefinesOn, RunsOn, RunsTable, ways_of}

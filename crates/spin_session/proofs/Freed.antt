@@ -6,9 +6,9 @@ use Rattle.spin_core.specs.Passes.{IsCall, WritesSome, own_mark}
 use Rattle.spin_core.specs.Spots.{Releases}
 use Rattle.spin_core.specs.Traced.{Watches}
 use Rattle.spin_core.specs.Values.{IsLast}
-use Rattle.spin_core.proofs.Passes as passes
-use Rattle.spin_core.proofs.Spots as spots
-use Rattle.spin_core.proofs.Values.{write_leaves, wrote}
+use Rattle.spin_core.proofs.tie.Passes as passes
+use Rattle.spin_core.proofs.tie.Spots as spots
+use Rattle.spin_core.proofs.tie.Values.{write_leaves, wrote}
 use Rattle.spin_step.specs.Acts.{Table}
 use Rattle.spin_step.specs.Schedules.{resting}
 use Rattle.spin_step.specs.declared.answer.Answer.{Answer}

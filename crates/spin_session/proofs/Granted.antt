@@ -7,7 +7,7 @@ use Rattle.spin_core.specs.Own.{Numbered, what}
 use Rattle.spin_core.specs.Passes.{Course, Nothing, WritesSome, IsCall}
 use Rattle.spin_core.specs.Spots.{Since, Releases}
 use Rattle.spin_core.specs.Values.{IsLast}
-use Rattle.spin_core.proofs.Passes as passes
+use Rattle.spin_core.proofs.tie.Passes as passes
 use Rattle.spin_core.specs.declared.guard.Guard.{Guard}
 use Rattle.spin_core.specs.declared.tie.Opening.{Opening}
 use Rattle.spin_step.specs.Acts.{Table}

@@ -24,8 +24,8 @@ use Rattle.spin_core.specs.Passes.{Course, Ending, Waits, Ends}
 use Rattle.spin_core.specs.Values.{left}
 use Rattle.spin_core.specs.Views.{Part, idle, entries_of_part, HasPart}
 use Rattle.spin_core.specs.declared.tie.Opening.{Opening}
-use Rattle.spin_core.proofs.Plays.{ways}
-use Rattle.spin_core.proofs.Views.{part_before, number as number_of, own_part, lock_after}
+use Rattle.spin_core.proofs.tie.Plays.{ways}
+use Rattle.spin_core.proofs.tie.Views.{part_before, number as number_of, own_part, lock_after}
 use Rattle.spin_session.specs.Meaning.{Meaning, Beside, worked, number_in, put_in, on_place, lends_if, part_of, seat_now, rests_at, seat_after, use_at, words_in, AreWords, FindsAt, ComesFrom, RefinesOn}
 use Rattle.spin_session.specs.Turns.{outcome_of, Says, Quiet, Told, GoesTo, IsLed, FusesBy, Lands, Reaches, leap, next_after, course_of, held_now}
 use Rattle.spin_session.specs.Operating.{Operates}

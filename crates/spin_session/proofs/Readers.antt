@@ -4,8 +4,8 @@ use Rattle.spin_step.specs.Plain.{Plain, reading, count_kind, same_kind}
 use Rattle.spin_step.specs.Orders.{IsInOrder}
 use Rattle.spin_core.specs.Cell.{Limits, lends, most_readers, reading as reads_of, writing as writes_of, readers_of, writers_of}
 use Rattle.spin_core.specs.Views.{Part, entries_of_part, IsLockOf, use_of_part, used_by}
-use Rattle.spin_core.proofs.CellCounts.{none}
-use Rattle.spin_core.proofs.Owners.{ones, exactly}
+use Rattle.spin_core.proofs.cell.Counts.{none}
+use Rattle.spin_core.proofs.tie.Owners.{ones, exactly}
 
 -- a party with this part reads if it holds, holds only to read, and never writes
 abbrev pub OnlyReads : Part → Type 0

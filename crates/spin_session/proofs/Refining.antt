@@ -25,12 +25,12 @@ use Rattle.spin_core.specs.Passes.{Ending, IsOut}
 use Rattle.spin_core.specs.declared.tie.Opening.{Opening}
 use Rattle.spin_core.specs.declared.trace.Trace.{Trace}
 use Rattle.spin_core.specs.Traced.{TracesTo}
-use Rattle.spin_core.proofs.Leaving.{no_word-up}
-use Rattle.spin_core.proofs.Plays as plays
-use Rattle.spin_core.proofs.Plays.{Lock, ways, idle_rests}
-use Rattle.spin_core.proofs.Ties.{traces, tells_less, rests, opens}
-use Rattle.spin_core.proofs.Values.{step_leaves, write_leaves, owed}
-use Rattle.spin_core.proofs.Views.{part_before, number, own_part, lock_after}
+use Rattle.spin_core.proofs.tie.Leaving.{no_word-up}
+use Rattle.spin_core.proofs.tie.Plays as plays
+use Rattle.spin_core.proofs.tie.Plays.{Lock, ways, idle_rests}
+use Rattle.spin_core.proofs.tie.Ties.{traces, tells_less, rests, opens}
+use Rattle.spin_core.proofs.tie.Values.{step_leaves, write_leaves, owed}
+use Rattle.spin_core.proofs.tie.Views.{part_before, number, own_part, lock_after}
 use Rattle.spin_step.proofs.InOrder.{in_order-kept, in_order-fresh, cap-kept}
 use Rattle.spin_step.specs.Parties.{apply_some}
 use Rattle.spin_core.specs.Values.{left, last_value, Leaves}

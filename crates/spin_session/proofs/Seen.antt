@@ -5,7 +5,7 @@ use Rattle.spin_core.specs.Cell.{Use, off, reads, writes, Shows}
 use Rattle.spin_core.specs.Traced.{Learnt}
 use Rattle.spin_core.specs.Values.{IsLast, last_value}
 use Rattle.spin_core.specs.declared.tie.Opening.{Opening}
-use Rattle.spin_core.proofs.Values.{shows_last, read_last, gave}
+use Rattle.spin_core.proofs.tie.Values.{shows_last, read_last, gave}
 use Rattle.spin_step.specs.Schedules.{Entry}
 
 -- a party that uses the value after a step then sees a value; if it saw one before the step, it still sees that one

@@ -5,8 +5,8 @@ use Rattle.spin_core.specs.Own.{Numbered, what}
 use Rattle.spin_core.specs.Passes.{IsOneStep, Nothing, own_mark}
 use Rattle.spin_core.specs.Traced.{Watches}
 use Rattle.spin_core.specs.declared.trace.Watch.{Watch}
-use Rattle.spin_core.proofs.Passes.{Learnt, learnt}
-use Rattle.spin_core.proofs.Spots.{took}
+use Rattle.spin_core.proofs.tie.Passes.{Learnt, learnt}
+use Rattle.spin_core.proofs.tie.Spots.{took}
 use Rattle.spin_core.specs.Spots.{Since}
 use Rattle.spin_step.specs.Acts.{Table, machine_of, next_of}
 use Rattle.spin_step.specs.Schedules.{Entry, resting}

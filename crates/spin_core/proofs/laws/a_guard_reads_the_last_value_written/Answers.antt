@@ -1,4 +1,4 @@
-use Rattle.spin_core.proofs.Values.{read_on}
+use Rattle.spin_core.proofs.tie.Values.{read_on}
 use Rattle.spin_core.proofs.laws.a_guard_reads_the_last_value_written.Goals as goal
 
 pub returns : goal.returns

@@ -1,5 +1,5 @@
 use Rattle.std.proofs.Common.{◌∙◌, sym}
-use Rattle.spin_core.proofs.Values.{read_on}
+use Rattle.spin_core.proofs.tie.Values.{read_on}
 use Rattle.spin_core.proofs.laws.two_guards_read_one_value.Goals as goal
 
 pub returns : goal.returns

@@ -35,12 +35,12 @@ use Rattle.spin_core.specs.Cell.{Way, alone, lends, fixes, Ways, writes, Limits,
 use Rattle.spin_core.specs.CellMemory.{offset, second_at, Known, Id, unused, roster, tag, idle, resting_value, value_state, core_at, standing, inner, kept, cell_shares}
 use Rattle.spin_core.specs.declared.cell.Rule.{Ghosts}
 use Rattle.spin_core.specs.contracts.cell.Cell as C
-use Rattle.spin_core.proofs.CellFields.{Written, written_out, written_in, At, Joins, fields_out, rejoined}
-use Rattle.spin_core.proofs.CellRoster.{enrols}
-use Rattle.spin_core.proofs.CellWays.{unknown, knowing_at, knowing_known, knowing_rest, knowing_none}
+use Rattle.spin_core.proofs.cell.Fields.{Written, written_out, written_in, At, Joins, fields_out, rejoined}
+use Rattle.spin_core.proofs.cell.Roster.{enrols}
+use Rattle.spin_core.proofs.cell.Ways.{unknown, knowing_at, knowing_known, knowing_rest, knowing_none}
 use Rattle.core.specs.Sync.RawAtomic.{word}
 use Rattle.atomic_table.specs.Seated.{fact}
-use Rattle.spin_core.proofs.CellRounds.{begun, held, readies, whole, renewed, lies, rests_lent, rests_fixed}
+use Rattle.spin_core.proofs.cell.Rounds.{begun, held, readies, whole, renewed, lies, rests_lent, rests_fixed}
 use Rattle.spin_core.proofs.cell.Cell.TheLaw.Statement.{statement}
 use Rattle.spin_core.proofs.Signs.{signs}
 use Rattle.spin_core.proofs.WalkSteps.{knows}

@@ -3,10 +3,10 @@ use Rattle.spin_core.proofs.WalkNames.{◌≡◌, [], ◌∷◌, refl, None, dco
 use Rattle.spin_core.proofs.WalkSteps.{two}
 use Rattle.spin_core.proofs.Walking.{walks, as_shr}
 use Rattle.spin_core.specs.Cell.{off}
-use Rattle.spin_core.proofs.CellWalks.{permit_in}
+use Rattle.spin_core.proofs.cell.Walks.{permit_in}
 use Rattle.spin_core.specs.contracts.cell.Cell as cell
 use Rattle.spin_core.specs.contracts.cell.Permit as hand
-use Rattle.spin_core.proofs.PermitFields.{hand_of, Words, made}
+use Rattle.spin_core.proofs.cell.PermitFields.{hand_of, Words, made}
 use Rattle.spin_core.specs.contracts.cell.Cell.enter.{ended, clauses}
 use Rattle.spin_core.proofs.cell.Cell.enter.Statement.{statement}
 use Rattle.spin_core.proofs.cell.Cell.enter.Code as code

@@ -7,12 +7,12 @@ use denote.Follow.{follows, lends_Part}
 use types.Mut.{open_ref}
 use denote.Ref.{MutRef}
 use denote.Struct.Members.{Member}
-use Rattle.spin_core.proofs.CellWays.{restarts}
+use Rattle.spin_core.proofs.cell.Ways.{restarts}
 use Rattle.spin_core.proofs.WalkSteps.{last_two}
 use Rattle.spin_core.proofs.Walking.{walks, as_mut}
 use Rattle.spin_core.specs.Cell.{Frees, Freeing, MayLend}
 use Rattle.spin_core.specs.CellMemory.{offset}
-use Rattle.spin_core.proofs.CellFields.{Row, row_out, row_in, standing_words, Joins, fields_out, rejoined, rekeyed}
+use Rattle.spin_core.proofs.cell.Fields.{Row, row_out, row_in, standing_words, Joins, fields_out, rejoined, rekeyed}
 use Rattle.spin_core.specs.contracts.cell.Cell as cell
 use Rattle.spin_core.specs.contracts.cell.Cell.get_mut.{ended, clauses}
 use Rattle.spin_core.proofs.cell.Cell.get_mut.Statement.{statement}

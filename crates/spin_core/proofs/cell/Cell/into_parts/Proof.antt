@@ -1,5 +1,5 @@
 -- `into_parts` moves the words and the value out of the cell, and what the rule says of them.
-use Rattle.spin_core.proofs.PermitFields.{both}
+use Rattle.spin_core.proofs.cell.PermitFields.{both}
 use Rattle.spin_core.proofs.WalkSteps.{says, three}
 use Rattle.spin_core.proofs.WalkNames.{◌≡◌, ◌^◌, List, [], ◌∷◌, ◌++◌, sym, refl, ◌∙◌, subst, w64, dcons, dnil, Val, vint, vstruct, vcons, vnil, of_list, inst_fn, SProp, ent, id⊢, Fml, fsep, feq, ftrue, flft, tables, WpFn, fact, param_laws, ‵, raw, ◌⊛◌, ◌$◌, ◌∵◌, !, qed, by, move, keep, drop, split, fsplit, fsplit3, fjoin, fpick, fpack, rewrite, feq_i, feq_l, flt_i, flt_l, suffices, stop, fld, of_opd, returns, enter, alloc_all, pass_all, free_all, look_at, get, get_in, sets, agg, sub, whole, nothing, peeks, Is, shows, u64, Valss, owns, param, bounded, walk_of, El, lawful, Good, one, proved_at, leaves}
 use Rattle.spin_core.specs.Cell.{Starts}

@@ -1,5 +1,5 @@
 -- `new` writes the words and the value into memory, one after another.
-use Rattle.spin_core.proofs.PermitFields.{both}
+use Rattle.spin_core.proofs.cell.PermitFields.{both}
 use Rattle.spin_core.proofs.WalkSteps.{knows}
 use Rattle.spin_core.proofs.WalkNames.{◌≡◌, ℕ, ◌^◌, ◌&&◌, T, true, List, [], ◌∷◌, ◌++◌, sym, refl, subst, w64, dcons, dnil, Val, vint, vptr, vstruct, vcons, vnil, has_ty, WT, inst_fn, SProp, ent, id⊢, Fml, fsep, fex, fact, tables, WpFn, ‵, raw, ◌⊛◌, ◌$◌, ◌∵◌, !, qed, by, move, keep, split, fsplit, fsplit3, fjoin, fpack, use0, rewrite, feq_i, flt_i, suffices, of_opd, no_more, and_then, returns, enter, alloc_all, pass_all, free_all, look_at, get, sets, agg, Valss, owns, types_at, nothing, heard, Typed, param, layout, bounded, param_laws, u64, within, alive, walk_of, El, lawful, one, proved_at, leaves, says}
 use denote.Shadow.{makes_shadow}

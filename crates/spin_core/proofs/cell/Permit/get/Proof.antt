@@ -6,7 +6,7 @@ use Rattle.spin_core.proofs.Walking.{walks, as_shr}
 use Rattle.spin_core.specs.Cell.{Use, reads, use_of}
 use Rattle.spin_core.specs.CellMemory.{offset, reader_shares, permit_shares}
 use Rattle.spin_core.specs.contracts.cell.Permit as hand
-use Rattle.spin_core.proofs.PermitFields.{hand_of, Words, told, opened, sees}
+use Rattle.spin_core.proofs.cell.PermitFields.{hand_of, Words, told, opened, sees}
 use Rattle.spin_core.specs.contracts.cell.Permit.get.{ended, clauses}
 use Rattle.spin_core.proofs.cell.Permit.get.Statement.{statement}
 use Rattle.spin_core.proofs.cell.Permit.get.Code as code

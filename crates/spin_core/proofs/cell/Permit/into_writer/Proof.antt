@@ -4,8 +4,8 @@ use Rattle.spin_core.proofs.WalkSteps.{last_fact, takes, two}
 use Rattle.spin_core.proofs.Walking.{walks}
 use Rattle.spin_core.specs.CellMemory.{permit_owns}
 use Rattle.spin_core.specs.contracts.cell.WritePermit as pen
-use Rattle.spin_core.proofs.PermitFields.{as_hand, as_pen, hand_of, typed, Words, made}
-use Rattle.spin_core.proofs.CellWalks.{to_writer}
+use Rattle.spin_core.proofs.cell.PermitFields.{as_hand, as_pen, hand_of, typed, Words, made}
+use Rattle.spin_core.proofs.cell.Walks.{to_writer}
 use Rattle.spin_core.specs.contracts.cell.Permit.into_writer.{ended, clauses}
 use Rattle.spin_core.proofs.cell.Permit.into_writer.Statement.{statement}
 use Rattle.spin_core.proofs.cell.Permit.into_writer.Code as code
@@ -22,7 +22,7 @@ into_writer_spec 𝓤 𝓛 𝓜 𝓡 wired T V P K S L _ _ _ LS g d _ =
     takes ! Owned refl p (last_fact 𝓤 (fact 𝓤 _) 5 (_, (_, (_, (_, (_, tt)))))) (λ asked inb.
     cite _ (to_writer 𝓛 Y R cw.code Sr (g.holds h.key) (g.ways h.key) β p h.view h.value asked) $
     pick ! (λ s. learn ! (λ so. alloc_all ! (λ l. pass_all ! refl (typed p inb, tt) $
-    let good = Rattle.spin_core.proofs.PermitFields.pointer p inb in sets ! (of_opd ! (get_in ! (fld ! refl (stop !)) (sub ! 0 refl (whole !)))) refl good $ sets ! (agg ! (no_more !)) refl (tt, tt) $
+    let good = Rattle.spin_core.proofs.cell.PermitFields.pointer p inb in sets ! (of_opd ! (get_in ! (fld ! refl (stop !)) (sub ! 0 refl (whole !)))) refl good $ sets ! (agg ! (no_more !)) refl (tt, tt) $
     sets ! (agg ! (two ! refl refl)) refl (typed p inb) $
     let h' : Pr.Denot = record { cell = p; marker = record {}; key = h.key; view = s.0; value = s.1 } in let v : Val = hand_of p in
     use0 𝓛 (‵ ((Words ℓ R W Y Kr Sr g).own_val (p, (tt, tt)) (v ∷ []))) (made ℓ R W Y Kr Sr g 𝓛 p) $ fjoin ! $

@@ -1,11 +1,11 @@
 -- `load` reads the first word.
 use Rattle.spin_core.proofs.WalkNames.{◌+◌, refl, ap, lit<, dcons, dnil, inst_fn, raw, at_ret, ◌$◌, !, by, use1, stop, fld, addr, lit, of_opd, no_more, and_then, first, blocks, exec, Calls-last, returns, alloc_all, pass_all, free_all, look_at, get, get_in, through, sets, lands_last, is, env, agg, sub, whole, tables, named_lft, block_ptr, ptr_val, block_of, count_of, at_block, param, bounded, tail, fm, found, finds, loads}
 use Rattle.spin_core.specs.contracts.trace.Trace as trace
-use Rattle.spin_core.proofs.TraceTokens.{as_watch}
-use Rattle.spin_core.proofs.PermitFields.{as_hand, typed}
+use Rattle.spin_core.proofs.trace.Tokens.{as_watch}
+use Rattle.spin_core.proofs.cell.PermitFields.{as_hand, typed}
 use Rattle.spin_core.proofs.WalkSteps.{two, three}
 use Rattle.spin_core.proofs.Walking.{walks}
-use Rattle.spin_core.proofs.CellWatchWalks.{watch_knows, begins, asks_first, next, knowing}
+use Rattle.spin_core.proofs.cell.WatchWalks.{watch_knows, begins, asks_first, next, knowing}
 use Rattle.spin_core.specs.contracts.cell.Permit.load.{ended, clauses}
 use Rattle.spin_core.proofs.cell.Permit.load.Statement.{statement}
 use Rattle.spin_core.proofs.cell.Permit.load.Code as code

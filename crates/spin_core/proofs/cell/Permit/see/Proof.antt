@@ -4,8 +4,8 @@ use Rattle.spin_core.proofs.WalkSteps.{last_fact, takes_at}
 use Rattle.spin_core.proofs.Walking.{walks}
 use Rattle.spin_core.specs.CellMemory.{offset, permit_owns}
 use Rattle.spin_core.specs.Cell.{Seen}
-use Rattle.spin_core.proofs.PermitFields.{as_hand, typed}
-use Rattle.spin_core.proofs.CellLends.{shown_on}
+use Rattle.spin_core.proofs.cell.PermitFields.{as_hand, typed}
+use Rattle.spin_core.proofs.cell.Lends.{shown_on}
 use Rattle.spin_core.specs.contracts.cell.Permit.see.{ended, clauses}
 use Rattle.spin_core.proofs.cell.Permit.see.Statement.{statement}
 use Rattle.spin_core.proofs.cell.Permit.see.Code as code

@@ -10,8 +10,8 @@ use Rattle.spin_core.proofs.Walking.{walks}
 use Rattle.spin_core.specs.CellMemory.{offset, permit_owns}
 use Rattle.spin_core.specs.Cell.{Seen}
 use Rattle.spin_core.specs.contracts.cell.Permit as hand
-use Rattle.spin_core.proofs.PermitFields.{as_hand, hand_of, Words, made, typed}
-use Rattle.spin_core.proofs.CellLends.{shown_to}
+use Rattle.spin_core.proofs.cell.PermitFields.{as_hand, hand_of, Words, made, typed}
+use Rattle.spin_core.proofs.cell.Lends.{shown_to}
 use Rattle.spin_core.specs.contracts.cell.Permit.show.{ended, clauses}
 use Rattle.spin_core.proofs.cell.Permit.show.Statement.{statement}
 use Rattle.spin_core.proofs.cell.Permit.show.Code as code

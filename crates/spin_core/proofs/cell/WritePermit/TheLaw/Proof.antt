@@ -14,7 +14,7 @@ use Rattle.core.specs.contracts.marker.PhantomData as marker
 use Rattle.spin_core.specs.declared.cell.Rule.{Ghosts}
 use Rattle.spin_core.specs.contracts.cell.WritePermit as C
 use Rattle.spin_core.proofs.cell.WritePermit.TheLaw.Statement.{statement}
-use Rattle.spin_core.proofs.CellLends.{writer_laws, Lends-writer}
+use Rattle.spin_core.proofs.cell.Lends.{writer_laws, Lends-writer}
 
 pub shares : (a : NamedLft) (T V P K S : RattleType) (g : Ghosts P.Denot T.Denot V.Denot K.Denot S.Denot) (L : Laws T) (W : Laws V) (J : Laws P) (I : Laws K) (N : Laws S) → statement a T V P K S g L W J I N
 shares a T V P K S g L W J I N = of_Lends (C.struct a T V P K S g) (C.the_codes T.Denot V.Denot P.Denot K.Denot S.Denot T.coded V.coded P.coded K.coded S.coded (marker.the_row (ShrRef a.mir a.lft T)).coded) (C.the_heap a.lft T V P K S g) (C.the_lent a.lft T V P K S g)

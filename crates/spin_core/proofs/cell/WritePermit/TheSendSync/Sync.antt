@@ -5,7 +5,7 @@ use denote.Struct.Struct.{Struct}
 use denote.Struct.Owning.{shape}
 use Rattle.spin_core.specs.declared.cell.Rule.{Ghosts}
 use Rattle.spin_core.specs.contracts.cell.WritePermit.{the_row, the_type}
-use Rattle.spin_core.proofs.CellSent.{writer_sees}
+use Rattle.spin_core.proofs.cell.Sent.{writer_sees}
 
 pub sync : (a : NamedLft) (T V P K S : RattleType) (g : Ghosts P.Denot T.Denot V.Denot K.Denot S.Denot) → IsSync T → IsSync (the_row a T V P K S g)
 sync a T V P K S g y = let fields : IsSync (Struct (shape (the_type a T V P K S g))) = search sendable depth 20 in

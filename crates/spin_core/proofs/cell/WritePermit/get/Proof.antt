@@ -4,7 +4,7 @@ use Rattle.core.specs.contracts.marker.PhantomData as marker
 use Rattle.spin_core.proofs.Walking.{walks, as_shr}
 use Rattle.spin_core.specs.CellMemory.{offset, writer_shares}
 use Rattle.spin_core.specs.contracts.cell.WritePermit as hand
-use Rattle.spin_core.proofs.PermitFields.{hand_of, Words, told, opened}
+use Rattle.spin_core.proofs.cell.PermitFields.{hand_of, Words, told, opened}
 use Rattle.spin_core.specs.contracts.cell.WritePermit.get.{ended, clauses}
 use Rattle.spin_core.proofs.cell.WritePermit.get.Statement.{statement}
 use Rattle.spin_core.proofs.cell.WritePermit.get.Code as code

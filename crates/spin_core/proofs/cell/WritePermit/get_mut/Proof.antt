@@ -11,8 +11,8 @@ use denote.Struct.OwningLaws.{part_out, part_in}
 use Rattle.spin_core.specs.CellMemory.{offset, tracked, writer_owns}
 use Rattle.spin_core.specs.Writer.{writer_of}
 use Rattle.spin_core.specs.contracts.cell.WritePermit.{the_type, the_row}
-use Rattle.spin_core.proofs.PermitFields.{hand_of, Words, told}
-use Rattle.spin_core.proofs.CellThrough.{Back, Cut, again, cuts, through as goes_through}
+use Rattle.spin_core.proofs.cell.PermitFields.{hand_of, Words, told}
+use Rattle.spin_core.proofs.cell.Through.{Back, Cut, again, cuts, through as goes_through}
 use Rattle.spin_core.specs.contracts.cell.WritePermit.get_mut.{ended, clauses}
 use Rattle.spin_core.proofs.cell.WritePermit.get_mut.Statement.{statement}
 use Rattle.spin_core.proofs.cell.WritePermit.get_mut.Code as code

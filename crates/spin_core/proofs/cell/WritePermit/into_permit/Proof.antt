@@ -5,8 +5,8 @@ use Rattle.spin_core.proofs.Walking.{walks}
 use Rattle.spin_core.specs.Cell.{writes}
 use Rattle.spin_core.specs.CellMemory.{writer_owns}
 use Rattle.spin_core.specs.contracts.cell.Permit as hand
-use Rattle.spin_core.proofs.PermitFields.{as_hand, as_pen, hand_of, Words, made, typed}
-use Rattle.spin_core.proofs.CellWalks.{from_writer}
+use Rattle.spin_core.proofs.cell.PermitFields.{as_hand, as_pen, hand_of, Words, made, typed}
+use Rattle.spin_core.proofs.cell.Walks.{from_writer}
 use Rattle.spin_core.specs.contracts.cell.WritePermit.into_permit.{ended, clauses}
 use Rattle.spin_core.proofs.cell.WritePermit.into_permit.Statement.{statement}
 use Rattle.spin_core.proofs.cell.WritePermit.into_permit.Code as code
@@ -23,7 +23,7 @@ into_permit_spec 𝓤 𝓛 𝓜 𝓡 wired T V P K S L _ _ _ LS g d _ =
     takes ! Owned refl p (unasked 𝓤 _) (λ _ inb.
     cite _ (from_writer 𝓛 Y R cw.code Sr (g.holds h.key) (g.ways h.key) β p h.view h.value) $ learn ! (λ so.
     alloc_all ! (λ l. pass_all ! refl (typed p inb, tt) $
-    let good = Rattle.spin_core.proofs.PermitFields.pointer p inb in sets ! (of_opd ! (get_in ! (fld ! refl (stop !)) (sub ! 0 refl (whole !)))) refl good $ sets ! (agg ! (no_more !)) refl (tt, tt) $
+    let good = Rattle.spin_core.proofs.cell.PermitFields.pointer p inb in sets ! (of_opd ! (get_in ! (fld ! refl (stop !)) (sub ! 0 refl (whole !)))) refl good $ sets ! (agg ! (no_more !)) refl (tt, tt) $
     sets ! (agg ! (two ! refl refl)) refl (typed p inb) $
     let h' : Hr.Denot = record { cell = p; marker = record {}; key = h.key; view = Some h.view; value = Some h.value } in let v : Val = hand_of p in
     use0 𝓛 (‵ ((Words ℓ R W Y Kr Sr g).own_val (p, (tt, tt)) (v ∷ []))) (made ℓ R W Y Kr Sr g 𝓛 p) $ fjoin ! $

@@ -4,8 +4,8 @@ use denote.Ref.{MutRef}
 use Rattle.spin_core.proofs.WalkSteps.{unasked, takes_at}
 use Rattle.spin_core.proofs.Walking.{walks}
 use Rattle.spin_core.specs.CellMemory.{offset, named as body, writer_owns}
-use Rattle.spin_core.proofs.PermitFields.{as_pen, typed}
-use Rattle.spin_core.proofs.CellThrough.{cuts, lasts}
+use Rattle.spin_core.proofs.cell.PermitFields.{as_pen, typed}
+use Rattle.spin_core.proofs.cell.Through.{cuts, lasts}
 use Rattle.spin_core.specs.contracts.cell.WritePermit.leak.{ended, clauses}
 use Rattle.spin_core.proofs.cell.WritePermit.leak.Statement.{statement}
 use Rattle.spin_core.proofs.cell.WritePermit.leak.Code as code

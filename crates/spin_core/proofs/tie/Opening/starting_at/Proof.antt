@@ -1,4 +1,4 @@
-use Rattle.spin_core.proofs.TraceWalk.{◌≡◌, [], ◌∷◌, refl, a_type, named, inst_fn, ‵, ◌$◌, !, by, keep, fjoin, use0, no_more, and_then, returns, alloc_all, pass_all, free_all, look_at, get, sets, agg, tables, RattleType, nothing, param, layouts, token, Token, token_made}
+use Rattle.spin_core.proofs.trace.Walk.{◌≡◌, [], ◌∷◌, refl, a_type, named, inst_fn, ‵, ◌$◌, !, by, keep, fjoin, use0, no_more, and_then, returns, alloc_all, pass_all, free_all, look_at, get, sets, agg, tables, RattleType, nothing, param, layouts, token, Token, token_made}
 use Rattle.std.proofs.Common.{true}
 use denote.Builtin.{u64}
 use Rattle.spin_core.specs.contracts.trace.Trace as trace

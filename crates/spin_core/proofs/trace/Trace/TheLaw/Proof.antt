@@ -8,7 +8,7 @@ use denote.Struct.Lending.{of_Lends}
 use Rattle.core.specs.contracts.marker.PhantomData as marker
 use Rattle.spin_core.specs.Logs.{log_part}
 use Rattle.spin_core.specs.contracts.trace.Trace as C
-use Rattle.spin_core.proofs.TraceSteps.{log_lends}
+use Rattle.spin_core.proofs.trace.Steps.{log_lends}
 use Rattle.spin_core.proofs.trace.Trace.TheLaw.Statement.{statement}
 
 pub shares : (T S : RattleType) (L : Laws T) (N : Laws S) → statement T S L N

@@ -4,7 +4,7 @@ use denote.Param.Send.{IsSend, Quiet}
 use denote.Struct.Struct.{exits_of}
 use denote.Struct.Owning.{fields, to}
 use Rattle.spin_core.specs.contracts.trace.Trace.{the_row, the_type}
-use Rattle.spin_core.proofs.Sends.{fields_send, sends}
+use Rattle.spin_core.proofs.tie.Sends.{fields_send, sends}
 
 quiet : {D X : Type 0} (f : D → X) (e : Exit X) → Quiet e → Quiet (hidden (under f e))
 quiet f unchanged q = λ x w. tt

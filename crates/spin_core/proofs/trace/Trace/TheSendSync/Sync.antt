@@ -3,7 +3,7 @@ use denote.Param.Send.{IsSync, sendable}
 use denote.Struct.Struct.{Struct}
 use denote.Struct.Owning.{shape}
 use Rattle.spin_core.specs.contracts.trace.Trace.{the_row, the_type}
-use Rattle.spin_core.proofs.TraceSteps.{part_keyless}
+use Rattle.spin_core.proofs.trace.Steps.{part_keyless}
 
 pub sync : (T S : RattleType) → IsSync S → IsSync (the_row T S)
 sync T S s = let fields : IsSync (Struct (shape (the_type T S))) = search sendable depth 20 in

@@ -1,7 +1,7 @@
-use Rattle.spin_core.proofs.TraceWalk.{◌≡◌, ℕ, sym, [], ◌∷◌, refl, IsPrefix, named, vunit, ‵, raw, ◌$◌, !, by, move, keep, drop, split, fsplit, fjoin, learn, use1, feq_i, unit_lit, of_opd, returns, alloc_all, pass_all, free_all, look_at, sets, obor_close, shr_bor-open, fact, rewrite, RattleType, unhide, param}
+use Rattle.spin_core.proofs.trace.Walk.{◌≡◌, ℕ, sym, [], ◌∷◌, refl, IsPrefix, named, vunit, ‵, raw, ◌$◌, !, by, move, keep, drop, split, fsplit, fjoin, learn, use1, feq_i, unit_lit, of_opd, returns, alloc_all, pass_all, free_all, look_at, sets, obor_close, shr_bor-open, fact, rewrite, RattleType, unhide, param}
 use denote.Steps.{heard}
 use Rattle.spin_core.specs.Logs.{known_owns}
-use Rattle.spin_core.proofs.TraceSteps as steps
+use Rattle.spin_core.proofs.trace.Steps as steps
 use Rattle.spin_core.specs.contracts.trace.Trace as Trace
 use Rattle.spin_core.specs.contracts.trace.Watch as Watch
 use Rattle.spin_core.specs.contracts.trace.Trace.covers.{ended, clauses}

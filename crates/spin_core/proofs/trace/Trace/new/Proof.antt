@@ -1,12 +1,12 @@
 -- `new` begins a log under a name of its own.
-use Rattle.spin_core.proofs.PermitFields.{both}
+use Rattle.spin_core.proofs.cell.PermitFields.{both}
 use Rattle.spin_core.proofs.WalkNames.{ℕ, ◌&&◌, T, true, List, [], ◌∷◌, ◌++◌, sym, refl, subst, a_type, Val, vstruct, vcons, vnil, has_ty, WT, inst_fn, SProp, ent, id⊢, emp, ‵, raw, ◌⊛◌, some, later, ◌$◌, ◌∵◌, !, qed, by, keep, move, split, fsplit, fjoin, fpack, pick, use0, await, rewrite, feq_i, suffices, of_opd, no_more, and_then, returns, enter, alloc_all, pass_all, free_all, look_at, get, sets, agg, fact_i, tables, WpFn, RattleType, Valss, owns, types_at, nothing, param, layout, param_laws, within, alive, walk_of, El, one, proved_at}
 use denote.Param.{layouts}
 use denote.Shadow.{makes_shadow}
 use Rattle.core.specs.contracts.marker.PhantomData as marker
 use Rattle.spin_core.specs.Logs.{log_owns}
-use Rattle.spin_core.proofs.TraceSteps as steps
-use Rattle.spin_core.proofs.TraceTokens.{fields_of, ends}
+use Rattle.spin_core.proofs.trace.Steps as steps
+use Rattle.spin_core.proofs.trace.Tokens.{fields_of, ends}
 use Rattle.spin_core.specs.contracts.trace.Trace.new.{ended, clauses}
 use Rattle.spin_core.specs.contracts.trace.Trace.new.Key.{name as #self}
 use Rattle.spin_core.proofs.trace.Trace.new.Statement.{statement}

@@ -1,5 +1,5 @@
-use Rattle.spin_core.proofs.TraceWalk.{◌≡◌, [], ◌∷◌, refl, named, ‵, ◌$◌, !, by, move, keep, drop, fsplit, fjoin, use0, no_more, and_then, returns, alloc_all, pass_all, free_all, look_at, get, sets, obor_close, shr_bor-open, agg, RattleType, unhide, param, token, Token, token_made}
-use Rattle.spin_core.proofs.TraceSteps as steps
+use Rattle.spin_core.proofs.trace.Walk.{◌≡◌, [], ◌∷◌, refl, named, ‵, ◌$◌, !, by, move, keep, drop, fsplit, fjoin, use0, no_more, and_then, returns, alloc_all, pass_all, free_all, look_at, get, sets, obor_close, shr_bor-open, agg, RattleType, unhide, param, token, Token, token_made}
+use Rattle.spin_core.proofs.trace.Steps as steps
 use Rattle.spin_core.specs.contracts.trace.Trace as Trace
 use Rattle.spin_core.specs.contracts.trace.Trace.watch.{ended, clauses}
 use Rattle.spin_core.proofs.trace.Trace.watch.Statement.{statement}

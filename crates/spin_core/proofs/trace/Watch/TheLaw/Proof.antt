@@ -8,10 +8,10 @@ use denote.Param.Shared.{copy_shared}
 use denote.Struct.Laws.{field_copy}
 use denote.Struct.Lending.{of_Lends}
 use Rattle.core.specs.contracts.marker.PhantomData as marker
-use Rattle.spin_core.proofs.TraceTokens.{lends_twice}
+use Rattle.spin_core.proofs.trace.Tokens.{lends_twice}
 use Rattle.spin_core.specs.Logs.{known_owns}
 use Rattle.spin_core.specs.contracts.trace.Watch as C
-use Rattle.spin_core.proofs.TraceSteps.{known_twice}
+use Rattle.spin_core.proofs.trace.Steps.{known_twice}
 use Rattle.spin_core.proofs.trace.Watch.TheLaw.Statement.{statement}
 
 pub shares : (T : RattleType) (W : Laws T) → statement T W

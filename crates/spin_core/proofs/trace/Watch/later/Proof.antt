@@ -1,7 +1,7 @@
-use Rattle.spin_core.proofs.TraceWalk.{◌≡◌, ℕ, sym, [], ◌∷◌, refl, named, ‵, raw, ◌$◌, !, by, move, keep, drop, fsplit, fjoin, learn, pick, use0, use1, no_more, and_then, returns, alloc_all, pass_all, free_all, look_at, get, sets, agg, fact, rewrite, RattleType, unhide, param, token, Token, token_made}
+use Rattle.spin_core.proofs.trace.Walk.{◌≡◌, ℕ, sym, [], ◌∷◌, refl, named, ‵, raw, ◌$◌, !, by, move, keep, drop, fsplit, fjoin, learn, pick, use0, use1, no_more, and_then, returns, alloc_all, pass_all, free_all, look_at, get, sets, agg, fact, rewrite, RattleType, unhide, param, token, Token, token_made}
 use denote.Steps.{heard}
 use Rattle.spin_core.specs.Logs.{known_owns, KnowsBoth}
-use Rattle.spin_core.proofs.TraceSteps as steps
+use Rattle.spin_core.proofs.trace.Steps as steps
 use Rattle.spin_core.specs.contracts.trace.Watch as Watch
 use Rattle.spin_core.specs.contracts.trace.Watch.later.{ended, clauses}
 use Rattle.spin_core.proofs.trace.Watch.later.Statement.{statement}

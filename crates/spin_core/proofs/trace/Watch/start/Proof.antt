@@ -1,4 +1,4 @@
-use Rattle.spin_core.proofs.TraceWalk.{List, ◌≡◌, [], ◌∷◌, refl, a_type, inst_fn, ‵, ◌$◌, !, by, keep, fjoin, use0, no_more, and_then, returns, alloc_all, pass_all, free_all, look_at, get, sets, agg, tables, RattleType, nothing, param, layouts, token, Token, token_made}
+use Rattle.spin_core.proofs.trace.Walk.{List, ◌≡◌, [], ◌∷◌, refl, a_type, inst_fn, ‵, ◌$◌, !, by, keep, fjoin, use0, no_more, and_then, returns, alloc_all, pass_all, free_all, look_at, get, sets, agg, tables, RattleType, nothing, param, layouts, token, Token, token_made}
 use Rattle.spin_core.proofs.WalkSteps.{says}
 use Rattle.spin_core.proofs.Walking.{walks}
 use Rattle.spin_core.specs.Logs.{known_owns}

@@ -1,5 +1,5 @@
-use Rattle.spin_core.proofs.TraceWalk.{◌≡◌, [], ◌∷◌, refl, named, ‵, ◌$◌, !, by, move, keep, drop, fsplit, fjoin, learn, pick, use0, no_more, and_then, returns, alloc_all, pass_all, free_all, look_at, get, sets, agg, RattleType, unhide, param, token, Token, token_made}
-use Rattle.spin_core.proofs.TraceSteps as steps
+use Rattle.spin_core.proofs.trace.Walk.{◌≡◌, [], ◌∷◌, refl, named, ‵, ◌$◌, !, by, move, keep, drop, fsplit, fjoin, learn, pick, use0, no_more, and_then, returns, alloc_all, pass_all, free_all, look_at, get, sets, agg, RattleType, unhide, param, token, Token, token_made}
+use Rattle.spin_core.proofs.trace.Steps as steps
 use Rattle.spin_core.specs.contracts.trace.Watch as Watch
 use Rattle.spin_core.specs.contracts.trace.Watch.under.{ended, clauses}
 use Rattle.spin_core.proofs.trace.Watch.under.Statement.{statement}

@@ -1,8 +1,8 @@
 use Rattle.std.proofs.Common.{[], refl, sym, arith}
 use denote.Param.{param}
 use Rattle.spin_step_more.specs.contracts.fair_calls.FairCall as call
-use Rattle.spin_core.proofs.Sends.{entry_over, sends_word_less}
-use Rattle.spin_core.proofs.Values.{opens_last}
+use Rattle.spin_core.proofs.tie.Sends.{entry_over, sends_word_less}
+use Rattle.spin_core.proofs.tie.Values.{opens_last}
 use Rattle.spin_fair.proofs.FairRefines.{starts}
 use Rattle.spin_fair.proofs.fair.FairMutex.new.Goals as goal
 

@@ -1,8 +1,8 @@
 use Rattle.std.proofs.Common.{[], refl, sym}
 use denote.Param.{param}
 use Rattle.spin_step.specs.contracts.flag_calls.FlagCall as call
-use Rattle.spin_core.proofs.Sends.{entry_over, sends_word_less}
-use Rattle.spin_core.proofs.Values.{opens_last}
+use Rattle.spin_core.proofs.tie.Sends.{entry_over, sends_word_less}
+use Rattle.spin_core.proofs.tie.Values.{opens_last}
 use Rattle.spin_flag.proofs.FlagRefines.{starts, never_reads}
 use Rattle.spin_flag.proofs.spin.SpinMutex.new.Goals as goal
 

@@ -1,4 +1,4 @@
-use Rattle.spin_core.proofs.TraceWalk.{ℕ, [], ◌∷◌, refl, ‵, some, later, ◌$◌, !, by, keep, fjoin, pick, use0, await, no_more, and_then, returns, alloc_all, pass_all, free_all, look_at, get, sets, agg, unit, nothing, token, Token, token_made}
+use Rattle.spin_core.proofs.trace.Walk.{ℕ, [], ◌∷◌, refl, ‵, some, later, ◌$◌, !, by, keep, fjoin, pick, use0, await, no_more, and_then, returns, alloc_all, pass_all, free_all, look_at, get, sets, agg, unit, nothing, token, Token, token_made}
 use Rattle.spin_core.proofs.Walking.{walks}
 use Rattle.spin_history.specs.History.{blank_owns}
 use Rattle.spin_history.proofs.Steps as steps

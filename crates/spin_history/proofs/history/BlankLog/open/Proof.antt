@@ -1,4 +1,4 @@
-use Rattle.spin_core.proofs.TraceWalk.{List, ◌≡◌, [], ◌∷◌, refl, ‵, given, ftrue, ◌$◌, !, by, move, keep, fsplit, fjoin, learn, use0, use1, no_more, and_then, returns, alloc_all, pass_all, free_all, look_at, get, sets, agg, unit, param, Tuple, token, Token, token_told, token_made}
+use Rattle.spin_core.proofs.trace.Walk.{List, ◌≡◌, [], ◌∷◌, refl, ‵, given, ftrue, ◌$◌, !, by, move, keep, fsplit, fjoin, learn, use0, use1, no_more, and_then, returns, alloc_all, pass_all, free_all, look_at, get, sets, agg, unit, param, Tuple, token, Token, token_told, token_made}
 use Rattle.spin_core.proofs.WalkSteps.{says, last_fact}
 use Rattle.spin_core.proofs.Walking.{walks}
 use Rattle.spin_core.specs.Logs.{log_owns}

@@ -10,7 +10,7 @@ use denote.Struct.Tuple.{Tuple}
 use denote.Struct.Laws.{field_copy}
 use denote.Struct.Lending.{of_Lends}
 use Rattle.core.specs.contracts.marker.PhantomData as marker
-use Rattle.spin_core.proofs.TraceTokens.{lends_twice}
+use Rattle.spin_core.proofs.trace.Tokens.{lends_twice}
 use Rattle.spin_history.specs.declared.history.History.{Ghosts}
 use Rattle.spin_history.specs.contracts.history.ClosedLog as C
 use Rattle.spin_history.proofs.Steps.{closed_twice}

@@ -1,4 +1,4 @@
-use Rattle.spin_core.proofs.TraceWalk.{◌≡◌, [], ◌∷◌, refl, named, ‵, ◌$◌, !, by, move, keep, drop, fsplit, fjoin, learn, await, use0, no_more, and_then, returns, alloc_all, pass_all, free_all, look_at, get, sets, agg, unhide, param, Tuple, token, Token, token_made}
+use Rattle.spin_core.proofs.trace.Walk.{◌≡◌, [], ◌∷◌, refl, named, ‵, ◌$◌, !, by, move, keep, drop, fsplit, fjoin, learn, await, use0, no_more, and_then, returns, alloc_all, pass_all, free_all, look_at, get, sets, agg, unhide, param, Tuple, token, Token, token_made}
 use mathlib.Core.List.{IsPrefix}
 use Rattle.spin_core.proofs.Lemmas.{cite}
 use Rattle.spin_core.proofs.WalkSteps.{says}

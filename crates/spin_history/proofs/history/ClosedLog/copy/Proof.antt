@@ -1,4 +1,4 @@
-use Rattle.spin_core.proofs.TraceWalk.{◌≡◌, [], ◌∷◌, refl, named, ‵, ◌$◌, !, by, move, keep, drop, fsplit, fjoin, use0, no_more, and_then, returns, alloc_all, pass_all, free_all, look_at, get, sets, agg, unhide, param, Tuple, token, Token, token_made}
+use Rattle.spin_core.proofs.trace.Walk.{◌≡◌, [], ◌∷◌, refl, named, ‵, ◌$◌, !, by, move, keep, drop, fsplit, fjoin, use0, no_more, and_then, returns, alloc_all, pass_all, free_all, look_at, get, sets, agg, unhide, param, Tuple, token, Token, token_made}
 use Rattle.spin_core.proofs.WalkSteps.{says}
 use Rattle.spin_core.proofs.Walking.{walks, as_shr}
 use Rattle.spin_history.specs.contracts.history.ClosedLog as ClosedLog

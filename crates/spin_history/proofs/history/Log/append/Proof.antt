@@ -1,4 +1,4 @@
-use Rattle.spin_core.proofs.TraceWalk.{[], ◌∷◌, ◌++◌, refl, named, vunit, emp, ‵, raw, ◌⊛◌, ◌$◌, ◌∵◌, !, qed, by, move, keep, split, fsplit, fsplit3, fjoin, fjoin3, await, feq_i, unit_lit, of_opd, returns, enter, alloc_all, pass_all, free_all, look_at, sets, fact_i, yes, RattleType, owns, types_at, plain, RefOf, mut_vals, mut_Tells, shr_vals, shr_Tells, nothing, opens, closes, param, Stays, stay_dropped, stay_ref, walk_of, Goes-dropped, Goes-ref, proved, ends}
+use Rattle.spin_core.proofs.trace.Walk.{[], ◌∷◌, ◌++◌, refl, named, vunit, emp, ‵, raw, ◌⊛◌, ◌$◌, ◌∵◌, !, qed, by, move, keep, split, fsplit, fsplit3, fjoin, fjoin3, await, feq_i, unit_lit, of_opd, returns, enter, alloc_all, pass_all, free_all, look_at, sets, fact_i, yes, RattleType, owns, types_at, plain, RefOf, mut_vals, mut_Tells, shr_vals, shr_Tells, nothing, opens, closes, param, Stays, stay_dropped, stay_ref, walk_of, Goes-dropped, Goes-ref, proved, ends}
 use Rattle.spin_core.proofs.Lemmas.{cite}
 use Rattle.spin_core.proofs.Walking.{others}
 use Rattle.spin_history.proofs.Steps as steps

@@ -1,4 +1,4 @@
-use Rattle.spin_core.proofs.TraceWalk.{◌≡◌, [], ◌∷◌, refl, ‵, ◌$◌, !, by, move, keep, fsplit, fjoin, use0, await, no_more, and_then, returns, alloc_all, pass_all, free_all, look_at, get, sets, agg, param, Tuple, token, Token, token_told, token_made}
+use Rattle.spin_core.proofs.trace.Walk.{◌≡◌, [], ◌∷◌, refl, ‵, ◌$◌, !, by, move, keep, fsplit, fjoin, use0, await, no_more, and_then, returns, alloc_all, pass_all, free_all, look_at, get, sets, agg, param, Tuple, token, Token, token_told, token_made}
 use Rattle.spin_core.proofs.Lemmas.{cite}
 use Rattle.spin_core.proofs.WalkSteps.{says}
 use Rattle.spin_core.proofs.Walking.{walks}

@@ -4,8 +4,8 @@ use Rattle.spin_session.specs.Meaning.{ways_of}
 use Rattle.spin_mutex.specs.Queue.{IsQueue, ticket_meaning}
 use denote.Param.{param}
 use Rattle.spin_step.specs.contracts.ticket_calls.TicketCall as call
-use Rattle.spin_core.proofs.Sends.{entry_over, sends_word}
-use Rattle.spin_core.proofs.Values.{opens_last}
+use Rattle.spin_core.proofs.tie.Sends.{entry_over, sends_word}
+use Rattle.spin_core.proofs.tie.Values.{opens_last}
 use Rattle.spin_mutex.proofs.TicketRefines.{starts}
 use Rattle.spin_mutex.proofs.ticket.TicketMutex.starting_at.Goals as goal
 

@@ -4,7 +4,7 @@ use types.Kit.{prop, regoal}
 use denote.Param.{layouts}
 use Rattle.core.proofs.alloc.Calls.{Goes-blank}
 use Rattle.std.proofs.ResultValues.{and_tt}
-use Rattle.spin_core.proofs.TraceTokens.{ends}
+use Rattle.spin_core.proofs.trace.Tokens.{ends}
 use Rattle.spin_core.proofs.Walking.{all_dropped}
 use Rattle.spin_once.specs.contracts.exclusive.Exclusive as exclusive
 use Rattle.spin_once.specs.contracts.exclusive.Exclusive.into_inner.{ended, clauses}

@@ -3,7 +3,7 @@ use Rattle.spin_core.proofs.WalkNames.{List, [], ◌∷◌, ◌++◌, refl, a_ty
 use types.Kit.{prop, regoal}
 use denote.Param.{layouts}
 use Rattle.std.proofs.ResultValues.{and_tt}
-use Rattle.spin_core.proofs.TraceTokens.{ends}
+use Rattle.spin_core.proofs.trace.Tokens.{ends}
 use Rattle.spin_core.proofs.Walking.{all_dropped, all_go}
 use Rattle.spin_once.specs.contracts.exclusive.Exclusive.new.{ended, clauses}
 use Rattle.spin_once.proofs.exclusive.Exclusive.new.Statement.{statement}

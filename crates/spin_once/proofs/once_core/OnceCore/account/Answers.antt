@@ -1,7 +1,7 @@
 use base.Fml.{Lft}
 use contract.BorrowLft.{◌⊑◌, ⊑_meet, ⊑_static}
 use Rattle.std.proofs.Common.{[], ◌++◌}
-use Rattle.spin_core.proofs.TieLaws.{entries_within, permit_within}
+use Rattle.spin_core.proofs.tie.Laws.{entries_within, permit_within}
 use Rattle.spin_once.proofs.once_core.OnceCore.account.Goals as goal
 
 -- a lifetime within the lifetimes of the value's type and within those of the seed's type is within all of them together

@@ -2,7 +2,7 @@ use Rattle.std.proofs.Common.{sym, subst}
 use denote.Builtin.{unit}
 use denote.Param.{param}
 use Rattle.spin_step.specs.contracts.once_calls.OnceCall as call
-use Rattle.spin_core.proofs.Sends.{entry_over, sends_word_less}
+use Rattle.spin_core.proofs.tie.Sends.{entry_over, sends_word_less}
 use Rattle.spin_once.proofs.Known.{known}
 use Rattle.spin_once.proofs.Kept.{starts_made}
 use Rattle.spin_once.proofs.once_core.OnceCore.initialized.Goals as goal

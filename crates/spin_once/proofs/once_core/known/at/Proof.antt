@@ -4,7 +4,7 @@ use types.Kit.{prop, regoal}
 use types.Match.{live}
 use denote.Ref.{Bor, ShrRef}
 use denote.Param.{layouts}
-use Rattle.spin_core.proofs.TraceTokens.{ends}
+use Rattle.spin_core.proofs.trace.Tokens.{ends}
 use Rattle.spin_core.proofs.Walking.{all_dropped, all_go}
 use Rattle.std.specs.Prelude.{IfSome, IsSomeAnd}
 use Rattle.std.specs.Ptr.{as_ptr}

@@ -2,8 +2,8 @@ use Rattle.std.proofs.Common.{[], refl, sym}
 use denote.Param.{param}
 use Rattle.spin_step_more.specs.contracts.rw_calls.RwCall as call
 use Rattle.spin_core.specs.CellMemory.{Common}
-use Rattle.spin_core.proofs.Sends.{entry_over, first_field, sends_word_less}
-use Rattle.spin_core.proofs.Values.{opens_last}
+use Rattle.spin_core.proofs.tie.Sends.{entry_over, first_field, sends_word_less}
+use Rattle.spin_core.proofs.tie.Values.{opens_last}
 use Rattle.spin_rwlock.specs.contracts.rwlock.rule.RwRule.{the_row}
 use Rattle.spin_rwlock.proofs.RwRefines.{starts}
 use Rattle.spin_rwlock.proofs.rwlock.RwLock+T+R.new.Goals as goal

@@ -1,8 +1,8 @@
 use Rattle.std.proofs.Common.{[], refl, sym}
 use denote.Builtin.{unit}
 use denote.Param.Send.{IsSync, sendable}
-use Rattle.spin_core.proofs.Sends.{entry, sends_word_less}
-use Rattle.spin_core.proofs.Values.{opens_last}
+use Rattle.spin_core.proofs.tie.Sends.{entry, sends_word_less}
+use Rattle.spin_core.proofs.tie.Values.{opens_last}
 use Rattle.spin_session.proofs.Refining.{starts}
 use Rattle.spin_seats.specs.Meaning.{seats_meaning}
 use Rattle.spin_seats.specs.Table.{seats_table}

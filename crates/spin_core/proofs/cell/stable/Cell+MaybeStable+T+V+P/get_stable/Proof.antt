@@ -26,7 +26,7 @@ use Rattle.spin_core.specs.contracts.cell.Cell as cell
 use Rattle.spin_core.specs.contracts.cell.stable.MaybeStable as maybe_stable
 use Rattle.spin_core.specs.contracts.cell.stable.Stable as stable
 use Rattle.spin_core.proofs.cell.stable.MaybeStable.TheLaws as maybe_stable_laws
-use Rattle.spin_core.proofs.CellFields.{Row, row_out, row_in, standing_words, Joins, fields_out, rejoined, rekeyed}
+use Rattle.spin_core.proofs.cell.Fields.{Row, row_out, row_in, standing_words, Joins, fields_out, rejoined, rekeyed}
 use Rattle.spin_core.specs.contracts.cell.stable.Cell+MaybeStable+T+V+P.get_stable.{ended, clauses}
 use Rattle.spin_core.proofs.cell.stable.Cell+MaybeStable+T+V+P.get_stable.Statement.{statement}
 use Rattle.spin_core.proofs.cell.stable.Cell+MaybeStable+T+V+P.get_stable.Code as code

@@ -7,8 +7,8 @@ use Rattle.spin_step.specs.contracts.flag_calls.FlagCall as call
 use denote.Param.{layouts}
 use denote.Triple.Spec.{triple_of}
 use denote.Triple.Table.{widened}
-use Rattle.spin_core.proofs.Released.{released}
-use Rattle.spin_core.proofs.TieLaws.{numbered, opened, traced_over}
+use Rattle.spin_core.proofs.guard.Released.{released}
+use Rattle.spin_core.proofs.tie.Laws.{numbered, opened, traced_over}
 use Rattle.spin_step.specs.contracts.place.Seat as seat
 use Rattle.spin_step.specs.contracts.flag_calls.FlagPoint as point
 use denote.RattleType.{RattleType}

@@ -5,8 +5,8 @@ use contract.Running.{within}
 use denote.Param.{layouts}
 use denote.Triple.Spec.{triple_of}
 use denote.Triple.Table.{widened}
-use Rattle.spin_core.proofs.Released.{released}
-use Rattle.spin_core.proofs.TieLaws.{numbered, opened, traced_over}
+use Rattle.spin_core.proofs.guard.Released.{released}
+use Rattle.spin_core.proofs.tie.Laws.{numbered, opened, traced_over}
 use Rattle.spin_mutex.specs.contracts.ticket.rule.TicketRule as F
 use denote.RattleType.{RattleType}
 use denote.Builtin.{u64}

@@ -1,7 +1,7 @@
 use Rattle.std.proofs.Common.{◌≡◌, rules, Some, sym, ap, ◌∙◌, subst}
 use Rattle.spin_core.specs.Cell.{use_of}
 use Rattle.spin_core.specs.Stable.{maybe_stable}
-use Rattle.spin_core.proofs.Ties as tie
+use Rattle.spin_core.proofs.tie.Ties as tie
 use Rattle.spin_once.specs.Once.{use_of_view}
 use Rattle.spin_once.specs.OnceValues.{IsValue, uses}
 use Rattle.spin_once.specs.declared.once_core.rule.Stage.TheVariants.{Done}

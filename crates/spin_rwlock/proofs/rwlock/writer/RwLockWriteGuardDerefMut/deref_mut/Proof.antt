@@ -38,8 +38,8 @@ use Rattle.spin_rwlock.specs.contracts.rwlock.rule.RwRule as F
 use Rattle.spin_rwlock.proofs.rwlock.rule.RwRule.TheLaws as FL
 use Rattle.spin_step_more.specs.contracts.rw_calls.RwCall as call
 use Rattle.spin_step_more.proofs.rw_calls.RwCall.TheLaws as call_laws
-use Rattle.spin_core.proofs.Sends.{at_first}
-use Rattle.spin_core.proofs.TieLaws.{numbered, numbered_laws, opened, opening_laws, traced_over, trace_over_laws, units, permit_within, trace_within}
+use Rattle.spin_core.proofs.tie.Sends.{at_first}
+use Rattle.spin_core.proofs.tie.Laws.{numbered, numbered_laws, opened, opening_laws, traced_over, trace_over_laws, units, permit_within, trace_within}
 use Rattle.spin_rwlock.specs.contracts.rwlock.rule.RwRuleRuleParty.TheImpl.{ghosts, dict}
 use Rattle.spin_rwlock.proofs.rwlock.rule.RwRuleRuleParty.TheImpl.Met.{bound}
 use Rattle.spin_rwlock.specs.Guards.{write_with}

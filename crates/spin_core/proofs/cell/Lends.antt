@@ -29,9 +29,9 @@ use denote.Struct.Lending.{Lends, Lends-false, Lends-nothing}
 use Rattle.core.proofs.cell.Borrows.{by_one, unnest_before}
 use Rattle.spin_core.specs.Cell.{Use, off, reads, writes, Way, fixes, Fixes, Seen, Ways, use_of}
 use Rattle.spin_core.specs.CellMemory.{offset, Known, Id, round_code, tag, Part, piece, reader_owns, shown, named, right, stand, inner, permit_at, permit_owns, permit_shares, reader_shares, writer_owns, writer_shares}
-use Rattle.spin_core.proofs.CellParts.{piece_in, piece_cut}
-use Rattle.spin_core.proofs.CellThrough.{Back, Cut, again, cuts}
-use Rattle.spin_core.proofs.CellWalks.{permit_in, has_value}
+use Rattle.spin_core.proofs.cell.Parts.{piece_in, piece_cut}
+use Rattle.spin_core.proofs.cell.Through.{Back, Cut, again, cuts}
+use Rattle.spin_core.proofs.cell.Walks.{permit_in, has_value}
 use Rattle.spin_core.proofs.Signs.{signs}
 use Rattle.spin_core.proofs.Lemmas.{script, cite, twice, settled, having}
 

@@ -23,7 +23,7 @@ use denote.Through.{renamed}
 use Rattle.core.proofs.cell.Through.{hands_before}
 use Rattle.spin_core.specs.Cell.{Use, Ways, writes}
 use Rattle.spin_core.specs.CellMemory.{Id, offset, named, tracked, right, permit_owns, writer_owns}
-use Rattle.spin_core.proofs.CellWalks.{permit_in}
+use Rattle.spin_core.proofs.cell.Walks.{permit_in}
 use Rattle.spin_core.proofs.Signs.{signs}
 use Rattle.spin_core.proofs.Lemmas.{script, cite, twice, having}
 

@@ -15,9 +15,9 @@ use denote.Steps.{nothing}
 use Rattle.atomic_table.specs.Seated.{fact}
 use Rattle.spin_core.specs.Cell.{Going, Preserves, Finds, Carries, Learns, Use, off, reads, writes, Way, alone, lends, fixes, reading, writing, Limits}
 use Rattle.spin_core.specs.CellMemory.{Id, Round, round_code, tag, parts, Part, piece, remains, idle, offset, shown, shared, resting_value, value_state, reader_owns}
-use Rattle.spin_core.proofs.CellWays.{going_rest}
-use Rattle.spin_core.proofs.CellParts.{parts_cut, parts_glue, parts_whole, some_agree, piece_cut}
-use Rattle.spin_core.proofs.CellRounds.{begun, held, whole, renewed, lies, rests_lent, rests_fixed}
+use Rattle.spin_core.proofs.cell.Ways.{going_rest}
+use Rattle.spin_core.proofs.cell.Parts.{parts_cut, parts_glue, parts_whole, some_agree, piece_cut}
+use Rattle.spin_core.proofs.cell.Rounds.{begun, held, whole, renewed, lies, rests_lent, rests_fixed}
 use Rattle.spin_core.proofs.Signs.{signs}
 use Rattle.spin_core.proofs.WalkSteps.{knows}
 use Rattle.spin_core.proofs.Lemmas.{script, lemma, update, cite, twice, updates, renew, settled}

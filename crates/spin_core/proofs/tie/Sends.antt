@@ -14,7 +14,7 @@ use denote.Struct.Struct.{Struct}
 use denote.Struct.Tuple.{Tuple}
 use Rattle.spin_core.specs.CellMemory.{Common, Sends}
 use Rattle.spin_core.specs.contracts.trace.Trace.{the_row, the_type}
-use Rattle.spin_core.proofs.TraceSteps.{log_keyless}
+use Rattle.spin_core.proofs.trace.Steps.{log_keyless}
 use Rattle.spin_step.specs.contracts.schedule.Move as move
 
 -- the row of an entry, made from the row of the calls and the row of the values; `entry` has no values

@@ -16,8 +16,8 @@ use Rattle.spin_core.specs.Run.{IsPlayed, OnWord}
 use Rattle.spin_core.specs.Run as run
 use Rattle.spin_core.specs.Passes.{Says}
 use Rattle.spin_core.specs.Own.{Numbered, by_party, present_from, kind, entries_by, Rested, IsRun, MadeNone, what}
-use Rattle.spin_core.proofs.CellCounts.{around}
-use Rattle.spin_core.proofs.Runs as runs
+use Rattle.spin_core.proofs.cell.Counts.{around}
+use Rattle.spin_core.proofs.tie.Runs as runs
 
 -- Lists of numbered parties.
 

@@ -5,7 +5,7 @@ use Rattle.spin_step.specs.Parties.{no_entries}
 use Rattle.spin_core.specs.Cell.{Use, Way, Ways, no_fact, Limits, Going, MeetsRule, Rests, readers_of, writers_of, off}
 use Rattle.spin_core.specs.Views.{Part, idle as nothing, entries_of_part, IsLockOf, Encodes, NamesNobody}
 use Rattle.spin_step.specs.Orders.{IsInOrder}
-use Rattle.spin_core.proofs.Leaving.{leaves}
+use Rattle.spin_core.proofs.tie.Leaving.{leaves}
 use Rattle.spin_step.proofs.InOrder.{in_order-fresh}
 
 -- What each view is in the plain lock, and how it uses the value; which view has nothing; and what the words are. Parties use the value

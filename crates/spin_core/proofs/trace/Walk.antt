@@ -26,4 +26,4 @@ pub use denote.Struct.Tuple.{Tuple}
 pub use denote.Struct.Lending.{lent_out}
 pub use denote.Triple.Walked.{Stays, stay_dropped, stay_ref, walk_of, Goes-dropped, Goes-ref}
 pub use Rattle.atomic_table.proofs.Walks.{proved}
-pub use Rattle.spin_core.proofs.TraceTokens.{token, Token, token_told, token_made, ends}
+pub use Rattle.spin_core.proofs.trace.Tokens.{token, Token, token_told, token_made, ends}

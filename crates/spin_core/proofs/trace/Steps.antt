@@ -21,7 +21,7 @@ use types.Tokens.{bor_fracture}
 use denote.Steps.{nothing}
 use denote.Opens.{Cuts-Halves}
 use denote.Struct.Lending.{Lends}
-use Rattle.spin_core.proofs.TracePrefixes.{one_in_other, prefix_uncoded}
+use Rattle.spin_core.proofs.trace.Prefixes.{one_in_other, prefix_uncoded}
 use Rattle.spin_core.specs.Logs.{logs, log_owns, log_part, log_shares, known_owns, KnowsBoth}
 use Rattle.spin_core.proofs.Signs.{signs}
 use Rattle.spin_core.proofs.Lemmas.{script, lemma, update, cite, having}

@@ -9,8 +9,8 @@ use Rattle.spin_step.proofs.Exclusive.{exclusive-like}
 use Rattle.spin_step.proofs.Sums.{sum_kinds}
 use Rattle.spin_core.specs.Cell.{Use, off, Rests}
 use Rattle.spin_core.specs.Views.{Part, entries_of_part, KnowsServed, part_at, IsLockOf, Encodes, no_word, up, holder_up, ticket_up, moved_up, NamesNobody}
-use Rattle.spin_core.proofs.Runs.{get_seam}
-use Rattle.spin_core.proofs.Views.{part-there}
+use Rattle.spin_core.proofs.tie.Runs.{get_seam}
+use Rattle.spin_core.proofs.tie.Views.{part-there}
 use Rattle.spin_step.specs.Orders.{IsInOrder}
 
 -- the place that a party had which now has this one

@@ -11,7 +11,7 @@ use denote.Struct.Laws.{unit-laws, unit-copy, usize-laws, usize-copy}
 use denote.Struct.Tuple.{Tuple, tuple_laws}
 use Rattle.spin_core.specs.contracts.trace.Trace as trace
 use Rattle.spin_core.proofs.trace.Trace.TheLaws as traces
-use Rattle.spin_core.proofs.Sends.{entry_over}
+use Rattle.spin_core.proofs.tie.Sends.{entry_over}
 use Rattle.spin_core.specs.contracts.tie.Opening as opening
 use Rattle.spin_core.proofs.tie.Opening.TheLaws as openings
 use Rattle.spin_step.proofs.schedule.Move.TheLaws as moves

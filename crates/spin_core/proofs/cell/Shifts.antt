@@ -26,15 +26,15 @@ use Rattle.spin_core.specs.declared.trace.Trace.{Trace}
 use Rattle.spin_core.specs.Cell.{word_limit, Ways, use_of, readers_of, writers_of, MeetsRule, HasView, after, Going, IsKnown, Carries, Carrying, Keeps, Use, off, Way, reading, writing, Limits}
 use Rattle.spin_core.specs.CellMemory.{second_at, roster, Id, value_state, stand, core, core_at, standing, inner}
 use Rattle.spin_core.specs.Traced.{grown, grown_at, Learnt, Named, Traces, TracesSecond}
-use Rattle.spin_core.proofs.CellCounts.{part_of as counted, splits}
-use Rattle.spin_core.proofs.CellRoster.{places}
-use Rattle.spin_core.proofs.CellRounds.{held}
-use Rattle.spin_core.proofs.CellTurns as value
-use Rattle.spin_core.proofs.CellWays.{going_rest, going_map, carrying_rest, carrying_carries, learnt_of}
+use Rattle.spin_core.proofs.cell.Counts.{part_of as counted, splits}
+use Rattle.spin_core.proofs.cell.Roster.{places}
+use Rattle.spin_core.proofs.cell.Rounds.{held}
+use Rattle.spin_core.proofs.cell.Turns as value
+use Rattle.spin_core.proofs.cell.Ways.{going_rest, going_map, carrying_rest, carrying_carries, learnt_of}
 use Rattle.spin_core.proofs.Signs.{signs}
 use Rattle.spin_core.proofs.WalkSteps.{knows}
-use Rattle.spin_core.proofs.TraceSteps.{appends, observes, shows as told_of}
-use Rattle.spin_core.proofs.TraceWord.{beside, with, Takes, word_apart}
+use Rattle.spin_core.proofs.trace.Steps.{appends, observes, shows as told_of}
+use Rattle.spin_core.proofs.trace.Word.{beside, with, Takes, word_apart}
 use Rattle.spin_core.proofs.Lemmas.{script, lemma, cite, updates, renew, settled}
 
 module _ {M : Type 1} {𝓤 : Ura M} (𝓛 : Logic 𝓤) (Er Ur : RattleType) where

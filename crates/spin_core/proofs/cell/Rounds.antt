@@ -14,7 +14,7 @@ use denote.Memory.{part_at, mem}
 use denote.Shares.{Shares, settles}
 use Rattle.spin_core.specs.Cell.{Use, writes, Way, lends, fixes, Fixed}
 use Rattle.spin_core.specs.CellMemory.{Id, idle, round_code, share, parts, remains, resting_value, lying, value_state, offset, shown, named, tracked, waits_for, shared, right}
-use Rattle.spin_core.proofs.CellParts.{parts_in, parts_but, piece_in, renames}
+use Rattle.spin_core.proofs.cell.Parts.{parts_in, parts_but, piece_in, renames}
 use Rattle.spin_core.proofs.Signs.{signs}
 use Rattle.spin_core.proofs.Lemmas.{script, lemma, cite, updates, renew, settled}
 

@@ -20,7 +20,7 @@ use Rattle.spin_core.specs.Cell.{Ways, Moved}
 use Rattle.spin_core.specs.Traced.{Watches, Named}
 use Rattle.spin_core.specs.declared.trace.Trace.{Trace}
 use Rattle.spin_step.proofs.Schedules.{after-append}
-use Rattle.spin_core.proofs.Owns.{by_of}
+use Rattle.spin_core.proofs.tie.Owns.{by_of}
 
 both_empty : {X : Type 0} (xs ys : List X) → xs ++ ys ≡ [] → (xs ≡ []) × (ys ≡ [])
 both_empty [] ys none = (refl, none)

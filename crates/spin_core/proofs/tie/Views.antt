@@ -9,8 +9,8 @@ use Rattle.std.specs.Prelude.{slice_get}
 use Rattle.spin_step.specs.Plain.{Plain, Kind, Change, releases, turns}
 use Rattle.spin_step.specs.Parties.{entries_after, apply_some, IsOpenStep}
 use Rattle.spin_core.specs.Cell.{HasView, after}
-use Rattle.spin_core.proofs.CellCounts.{around}
-use Rattle.spin_core.proofs.Runs.{get_seam}
+use Rattle.spin_core.proofs.cell.Counts.{around}
+use Rattle.spin_core.proofs.tie.Runs.{get_seam}
 use Rattle.spin_core.specs.Views.{Part, idle, holds, entries_of_part, KnowsServed, HasPart, part_at, IsLockOf}
 use Rattle.spin_step.specs.Orders.{IsInOrder}
 use Rattle.spin_step.proofs.Entries.{entries-own, entries-other}

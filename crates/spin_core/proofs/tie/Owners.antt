@@ -8,8 +8,8 @@ use Rattle.spin_step.specs.Steps.{bit}
 use Rattle.spin_core.specs.Cell.{Way, alone, lends, most_readers, reading, writing, Limits, readers_of, writers_of}
 use Rattle.spin_core.specs.Views.{Part, idle, entries_of_part, used_by, part_at, IsLockOf}
 use Rattle.spin_step.specs.Orders.{IsInOrder}
-use Rattle.spin_core.proofs.CellCounts.{none}
-use Rattle.spin_core.proofs.Views.{part-beyond}
+use Rattle.spin_core.proofs.cell.Counts.{none}
+use Rattle.spin_core.proofs.tie.Views.{part-beyond}
 
 module _ {X : Type 0} (owner : X → ℕ) (weight : X → ℕ) where
   abbrev own : ℕ → List X → ℕ

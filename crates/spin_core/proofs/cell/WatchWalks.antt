@@ -25,18 +25,18 @@ use Rattle.spin_core.specs.contracts.trace.Trace as trace
 use Rattle.spin_core.specs.contracts.trace.Watch as watch
 use Rattle.spin_core.specs.declared.trace.Watch.{Watch}
 use Rattle.spin_core.specs.declared.cell.Permit.{Permit}
-use Rattle.spin_core.proofs.TraceTokens.{token, Token, token_made}
+use Rattle.spin_core.proofs.trace.Tokens.{token, Token, token_made}
 use Rattle.spin_core.specs.Cell.{Ways, use_of}
 use Rattle.spin_core.specs.CellMemory.{second_at, Known as Shares, Id, inner, kept, permit_owns}
 use Rattle.spin_core.specs.Traced.{MadeStep, MayKnow, Traces, TracesSecond}
 use Rattle.spin_core.specs.declared.cell.Rule.{Ghosts}
 use Rattle.spin_core.specs.contracts.cell.Permit as permit
-use Rattle.spin_core.proofs.PermitFields.{hand_of, Words, made}
-use Rattle.spin_core.proofs.CellRounds.{readies, settles_down}
-use Rattle.spin_core.proofs.CellWalks.{permit_in}
+use Rattle.spin_core.proofs.cell.PermitFields.{hand_of, Words, made}
+use Rattle.spin_core.proofs.cell.Rounds.{readies, settles_down}
+use Rattle.spin_core.proofs.cell.Walks.{permit_in}
 use Rattle.spin_core.proofs.Signs.{signs}
 use Rattle.spin_core.proofs.WalkSteps.{says, Facts, after_facts, first_and_last, takes_at}
-use Rattle.spin_core.proofs.CellSteps as steps
+use Rattle.spin_core.proofs.cell.Shifts as steps
 use Rattle.spin_core.proofs.Lemmas.{Lemma, script, cite, twice}
 
 -- the watch with this name and these entries

@@ -16,8 +16,8 @@ use Rattle.spin_step.specs.Schedules.{Entry}
 use Rattle.spin_core.specs.Run.{AreMoves}
 use Rattle.spin_core.specs.Passes.{Says}
 use Rattle.spin_core.specs.Own.{Numbered, by_party, what, Tells, RunsByRule}
-use Rattle.spin_core.proofs.CellWays.{going_map, carrying_of}
-use Rattle.spin_core.proofs.Owns as owns
+use Rattle.spin_core.proofs.cell.Ways.{going_map, carrying_of}
+use Rattle.spin_core.proofs.tie.Owns as owns
 
 module _ {X : Type 0} where
   -- the parties without their numbers

@@ -21,7 +21,7 @@ use types.Kit as Kit
 use Rattle.atomic_table.specs.Seated.{halved, seen}
 use Rattle.spin_core.specs.Cell.{HasView, after}
 use Rattle.spin_core.specs.CellMemory.{unused, roster, stand}
-use Rattle.spin_core.proofs.CellParts.{sum}
+use Rattle.spin_core.proofs.cell.Parts.{sum}
 use Rattle.spin_core.proofs.Signs.{signs}
 use Rattle.spin_core.proofs.Lemmas.{lemma, update, cite, updates, renew, settled, having}
 

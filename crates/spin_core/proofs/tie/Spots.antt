@@ -5,8 +5,8 @@ use Rattle.spin_core.specs.Own.{Tells, what}
 use Rattle.spin_core.specs.Passes.{Course, Says, IsOneStep, IsCall, Begins, Waits, Ends, own_mark}
 use Rattle.spin_core.specs.Spots.{Spot, Since, IsIn, HasCalled}
 use Rattle.spin_core.specs.Traced.{Watches}
-use Rattle.spin_core.proofs.Passes as passes
-use Rattle.spin_core.proofs.Passes.{Joins}
+use Rattle.spin_core.proofs.tie.Passes as passes
+use Rattle.spin_core.proofs.tie.Passes.{Joins}
 use Rattle.spin_step.specs.declared.place.Seat.{Seat}
 use Rattle.spin_step.specs.declared.schedule.Move.{Move}
 use Rattle.spin_step.specs.declared.schedule.Move.TheVariants.{Step}

@@ -1,0 +1,14 @@
+pub mod Counts
+pub mod Fields
+pub mod Lends
+pub mod Parts
+pub mod Roster
+pub mod Rounds
+pub mod Sent
+pub mod Shifts
+pub mod PermitFields
+pub mod Walks
+pub mod WatchWalks
+pub mod Turns
+pub mod Ways
+pub mod Through

@@ -1,0 +1,12 @@
+pub mod Leaving
+pub mod Owners
+pub mod Plays
+pub mod Views
+pub mod Runs
+pub mod Owns
+pub mod Sends
+pub mod Ties
+pub mod Values
+pub mod Passes
+pub mod Spots
+pub mod Laws
