@@ -17,7 +17,7 @@ use std::time::{Clock, Duration};
 use std::{io, sync};
 
 /// How many rounds are measured.
-const ROUNDS: usize = 7;
+const ROUNDS: usize = 3;
 
 /// How long one round is, in milliseconds.
 const ROUND_MILLIS: u64 = 100;

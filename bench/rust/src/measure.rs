@@ -7,7 +7,7 @@ use std::time::{Duration, Instant};
 
 use crate::cases::Case;
 
-const ROUNDS: usize = 7;
+const ROUNDS: usize = 3;
 const ROUND: Duration = Duration::from_millis(100);
 // How many calls lie between two looks at the sign to stop. Of a thread that is alone they are so many that the looks
 // cost nothing; among others each call is slow enough, and a queue that the system has stopped still ends soon.
