@@ -2,10 +2,13 @@
 #![tactic(auto)]
 
 mod case;
+mod channels;
 mod report;
 mod size;
 mod team;
+mod waits;
 
+use case::Work;
 use std::sync::Wait;
 use std::thread::Threads;
 use std::time::Clock;
@@ -16,11 +19,13 @@ fn command<R: Threads + Wait + Clock + Print + AllocGlobal + Sync>(
     rt: &R,
     name: &str,
     threads: Option<&str>,
+    work: Option<Work>,
 ) -> io::Result<()> {
     match threads {
-        Some(threads) => report::measure(rt, name, threads),
+        Some(threads) => report::measure(rt, name, threads, work),
         None if name == "sizes" => size::print(rt),
         None if name == "smoke" => report::try_all(rt),
+        None if name == "channels" => channels::measure(rt),
         None => Err(report::usage()),
     }
 }
@@ -30,5 +35,9 @@ fn main(rt: HostRuntime) -> io::Result<()> {
     let _program = words.next();
     let name = words.next();
     let threads = words.next();
-    command(&rt, name.as_deref().unwrap_or(""), threads.as_deref())
+    let work = match (words.next(), words.next()) {
+        (Some(inside), Some(between)) => report::work(&inside, &between),
+        _ => None,
+    };
+    command(&rt, name.as_deref().unwrap_or(""), threads.as_deref(), work)
 }

@@ -1,16 +1,16 @@
 //! What the program does and prints.
 use crate::case::{
     Adds, Alone, Case, FirstCalls, Floor, Forces, Gets, LateCalls, OneWriter, PassAdds,
-    PassReaders, Readers, Rounds, Starvers, Upgrades, complete,
+    PassReaders, Readers, Rounds, Starvers, Upgrades, Work, Works, complete,
 };
 use crate::team::Team;
 use spin_barrier::barrier::Barrier;
-use spin_core::relax::{SpinThenYield, Yield};
+use spin_core::relax::{Yield, YieldThenSleep};
 use spin_fair::fair::FairMutex;
 use spin_flag::spin::SpinMutex;
 use spin_mutex::mutex::Mutex;
-use spin_rwlock::rwlock::RwLock;
 use spin_mutex::ticket::TicketMutex;
+use spin_rwlock::rwlock::RwLock;
 use std::sync::Wait;
 use std::thread::Threads;
 use std::time::{Clock, Duration};
@@ -38,13 +38,14 @@ const ALONE: [&str; 6] = [
 ];
 
 /// The cases of one thread or several, except `barrier_rounds`.
-const BESIDE: [&str; 14] = [
+const BESIDE: [&str; 15] = [
     "floor",
     "spin_mutex",
     "spin_mutex_pass",
     "mutex",
     "mutex_yield",
-    "mutex_spin_then_yield",
+    "spin_mutex_sleep",
+    "mutex_sleep",
     "ticket_mutex",
     "fair_mutex",
     "rw_read",
@@ -58,9 +59,9 @@ const BESIDE: [&str; 14] = [
 /// What to do with a case.
 #[derive(Clone, Copy)]
 enum Task {
-    /// Measure rounds, and print a line for each: the number of calls, the nanoseconds that they took, and
-    /// the number of calls by the slowest thread. A thread makes this many calls before it checks again
-    /// whether to stop.
+    /// Measure rounds, and print a line for each: the number of calls, the nanoseconds that they took, the number of
+    /// calls by the slowest thread, and the nanoseconds that one call in a thousand exceeds, or 0 of one thread. A
+    /// thread makes this many calls before it checks again whether to stop.
     Measure(u64),
     /// Make this many calls in each thread.
     Try(u64),
@@ -68,7 +69,9 @@ enum Task {
 
 /// Returns the error for words that are no command.
 pub fn usage() -> io::Error {
-    io::Error::other("usage: spin_bench CASE THREADS | spin_bench sizes | spin_bench smoke")
+    io::Error::other(
+        "usage: spin_bench CASE THREADS [INSIDE BETWEEN] | spin_bench sizes | spin_bench smoke | spin_bench channels",
+    )
 }
 
 /// Measures one round of a case, and returns the sum of what its calls read.
@@ -78,9 +81,14 @@ fn round<C: Case + Sync, R: Threads + Wait + Clock + Print + Sync>(
     threads: usize,
     chunk: u64,
 ) -> io::Result<u64> {
-    let team = Team::new(rt, case, chunk, u64::MAX);
+    let team = Team::new(rt, case, chunk, u64::MAX, threads > 1);
     let nanos = team.time(threads, Duration::from_millis(ROUND_MILLIS))?;
-    println!(rt; "{} {nanos} {}", team.calls(), team.fewest())?;
+    println!(rt;
+        "{} {nanos} {} {}",
+        team.calls(),
+        team.fewest(),
+        team.longest()
+    )?;
     Ok(team.seen())
 }
 
@@ -108,7 +116,7 @@ fn on_shared<C: Case + Sync, R: Threads + Wait + Clock + Print + Sync>(
     match task {
         Task::Measure(chunk) => rounds(rt, case, threads, chunk),
         Task::Try(calls) => {
-            let team = Team::new(rt, case, calls, 1);
+            let team = Team::new(rt, case, calls, 1, false);
             team.run(threads, Duration::ZERO)?;
             Ok(team.seen())
         }
@@ -147,6 +155,23 @@ fn on_alone<R: Threads + Wait + Clock + Print + AllocGlobal + Sync>(
     }
 }
 
+/// Does the task on the lock that has this name, with work inside its section and between two.
+fn on_work<R: Threads + Wait + Clock + Print + AllocGlobal + Sync>(
+    rt: &R,
+    task: Task,
+    threads: usize,
+    name: &str,
+    work: Work,
+) -> io::Result<u64> {
+    match name {
+        "spin_mutex" => on_case(rt, task, threads, Works(<SpinMutex<u64>>::new(0), work)),
+        "mutex" => on_case(rt, task, threads, Works(<Mutex<u64>>::new(0), work)),
+        "fair_mutex" => on_case(rt, task, threads, Works(<FairMutex<u64>>::new(0), work)),
+        "rw_write" => on_case(rt, task, threads, Works(<RwLock<u64>>::new(0), work)),
+        _ => Err(usage()),
+    }
+}
+
 /// Does the task on the case that has this name.
 fn on_name<R: Threads + Wait + Clock + Print + AllocGlobal + Sync>(
     rt: &R,
@@ -160,8 +185,19 @@ fn on_name<R: Threads + Wait + Clock + Print + AllocGlobal + Sync>(
         "spin_mutex_pass" => on_case(rt, task, threads, PassAdds(SpinMutex::new(0))),
         "mutex" => on_case(rt, task, threads, Adds(<Mutex<u64>>::new(0))),
         "mutex_yield" => on_case(rt, task, threads, Adds(<Mutex<u64, Yield>>::new(0))),
-        "mutex_spin_then_yield" => {
-            on_case(rt, task, threads, Adds(<Mutex<u64, SpinThenYield>>::new(0)))
+        "mutex_sleep" => on_case(
+            rt,
+            task,
+            threads,
+            Adds(<Mutex<u64, YieldThenSleep>>::new(0)),
+        ),
+        "spin_mutex_sleep" => {
+            on_case(
+                rt,
+                task,
+                threads,
+                Adds(<SpinMutex<u64, YieldThenSleep>>::new(0)),
+            )
         }
         "ticket_mutex" => on_case(rt, task, threads, Adds(<TicketMutex<u64>>::new(0))),
         "fair_mutex" => on_case(rt, task, threads, Adds(<FairMutex<u64>>::new(0))),
@@ -182,8 +218,12 @@ fn report<R: Threads + Wait + Clock + Print + AllocGlobal + Sync>(
     task: Task,
     threads: usize,
     name: &str,
+    work: Option<Work>,
 ) -> io::Result<()> {
-    let sum = on_name(rt, task, threads, name)?;
+    let sum = match work {
+        Some(work) => on_work(rt, task, threads, name, work)?,
+        None => on_name(rt, task, threads, name)?,
+    };
     println!(rt; "{name}.{threads} {sum}")
 }
 
@@ -194,14 +234,29 @@ fn chunk(threads: u8) -> u64 {
     if threads == 1 { 1000 } else { 25 }
 }
 
+/// Returns the work that the words say, if they are numbers.
+pub fn work(inside: &str, between: &str) -> Option<Work> {
+    Some(Work {
+        inside: inside.parse::<u64>().ok()?,
+        between: between.parse::<u64>().ok()?,
+    })
+}
+
 /// Measures the case with this name in this many threads.
 pub fn measure<R: Threads + Wait + Clock + Print + AllocGlobal + Sync>(
     rt: &R,
     name: &str,
     threads: &str,
+    work: Option<Work>,
 ) -> io::Result<()> {
     match threads.parse::<u8>() {
-        Ok(threads) => report(rt, Task::Measure(chunk(threads)), threads as usize, name),
+        Ok(threads) => report(
+            rt,
+            Task::Measure(chunk(threads)),
+            threads as usize,
+            name,
+            work,
+        ),
         Err(_) => Err(usage()),
     }
 }
@@ -214,7 +269,7 @@ fn try_each<R: Threads + Wait + Clock + Print + AllocGlobal + Sync>(
     names: &[&str],
 ) -> io::Result<()> {
     for name in names {
-        report(rt, Task::Try(calls), threads, name)?;
+        report(rt, Task::Try(calls), threads, name, None)?;
     }
     Ok(())
 }
@@ -226,6 +281,7 @@ pub fn try_all<R: Threads + Wait + Clock + Print + AllocGlobal + Sync>(rt: &R) -
     for threads in [1, 2, 4] {
         try_each(rt, 100, threads, &BESIDE)?;
         try_each(rt, 10, threads, &["barrier_rounds"])?;
+        report(rt, Task::Try(100), threads, "mutex", work("5", "10"))?;
     }
     Ok(())
 }

@@ -2,8 +2,8 @@
 use spin_fair::fair::{FairMutex, FairMutexGuard};
 use spin_flag::spin::{SpinMutex, SpinMutexGuard};
 use spin_mutex::mutex::{Mutex, MutexGuard};
-use spin_rwlock::rwlock::{RwLock, RwLockReadGuard, RwLockUpgradableGuard, RwLockWriteGuard};
 use spin_mutex::ticket::{TicketMutex, TicketMutexGuard};
+use spin_rwlock::rwlock::{RwLock, RwLockReadGuard, RwLockUpgradableGuard, RwLockWriteGuard};
 use std::mem::size_of;
 use std::{io, sync};
 

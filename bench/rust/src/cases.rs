@@ -1,4 +1,4 @@
-//! What is measured: a call takes a lock, adds 1 to the number under it or sees a 1 there, and lets go.
+//! The cases of the Rust crate `spin`.
 use std::hint::spin_loop;
 use std::sync::atomic::{AtomicBool, AtomicU64, Ordering::SeqCst};
 
@@ -6,26 +6,8 @@ use spin::mutex::{FairMutex, Mutex, SpinMutex, TicketMutex};
 use spin::rwlock::RwLock;
 use spin::{Barrier, LazyLock, Once, Yield};
 
-use crate::measure;
-
-/// One lock, or what stands in its place. A call either adds 1 to what lies there, or sees a 1.
-pub trait Case: Default + Sync {
-    /// The lock that so many threads share.
-    fn of(_threads: u64) -> Self {
-        Self::default()
-    }
-
-    /// One call, in the worker of that number. It answers what it saw, or 0 where it has added.
-    fn call(&self, worker: u64) -> u64;
-
-    /// Whether the worker is to end, now that somebody may have told it to.
-    fn is_to_stop(&self, told: &AtomicBool) -> bool {
-        told.load(SeqCst)
-    }
-
-    /// How much all calls have added.
-    fn added(&self) -> u64;
-}
+use crate::case::{Adds, Case, OneWriter, Readers, Work, Works, Written};
+use crate::{cases, exclusive, shared};
 
 /// The atomic steps of a lock alone: an exchange of 0 for 1, and a store of 0.
 #[derive(Default)]
@@ -65,27 +47,18 @@ impl Case for Floor {
     }
 }
 
-macro_rules! spinning {
-    ($lock:ty) => {
-        impl Case for $lock {
-            fn call(&self, _worker: u64) -> u64 {
-                let mut guard = self.lock();
-                *guard = guard.wrapping_add(1);
-                0
-            }
-
-            fn added(&self) -> u64 {
-                *self.lock()
-            }
-        }
-    };
+exclusive! {
+    SpinMutex<u64>, |it| *it.lock();
+    Mutex<u64>, |it| *it.lock();
+    Mutex<u64, Yield>, |it| *it.lock();
+    TicketMutex<u64>, |it| *it.lock();
+    FairMutex<u64>, |it| *it.lock();
+    std::sync::Mutex<u64>, |it| *it.lock().expect("no call panics");
 }
 
-spinning!(SpinMutex<u64>);
-spinning!(Mutex<u64>);
-spinning!(Mutex<u64, Yield>);
-spinning!(TicketMutex<u64>);
-spinning!(FairMutex<u64>);
+shared! {
+    RwLock<u64>, |it| *it.read(), *it.write();
+}
 
 /// A lock that is taken by starving, trying once, and letting go.
 #[derive(Default)]
@@ -103,41 +76,6 @@ impl Case for Starvers {
 
     fn added(&self) -> u64 {
         *self.lock.lock()
-    }
-}
-
-impl Case for RwLock<u64> {
-    fn call(&self, _worker: u64) -> u64 {
-        let mut guard = self.write();
-        *guard = guard.wrapping_add(1);
-        0
-    }
-
-    fn added(&self) -> u64 {
-        *self.read()
-    }
-}
-
-/// A lock of a 1 that everybody only reads.
-pub struct Readers {
-    lock: RwLock<u64>,
-}
-
-impl Default for Readers {
-    fn default() -> Self {
-        Readers {
-            lock: RwLock::new(1),
-        }
-    }
-}
-
-impl Case for Readers {
-    fn call(&self, _worker: u64) -> u64 {
-        *self.lock.read()
-    }
-
-    fn added(&self) -> u64 {
-        self.lock.read().wrapping_sub(1)
     }
 }
 
@@ -161,49 +99,6 @@ impl Case for Upgrades {
 
     fn added(&self) -> u64 {
         self.lock.read().wrapping_sub(1)
-    }
-}
-
-/// A lock that the first worker writes and the others read. Its number is odd: the writer adds 2, and who reads it sees
-/// its lowest bit.
-pub struct OneWriter {
-    lock: RwLock<u64>,
-}
-
-impl Default for OneWriter {
-    fn default() -> Self {
-        OneWriter {
-            lock: RwLock::new(1),
-        }
-    }
-}
-
-impl Case for OneWriter {
-    fn call(&self, worker: u64) -> u64 {
-        if worker == 0 {
-            let mut odd = self.lock.write();
-            *odd = odd.wrapping_add(2);
-            0
-        } else {
-            *self.lock.read() % 2
-        }
-    }
-
-    fn added(&self) -> u64 {
-        *self.lock.read() / 2
-    }
-}
-
-impl Case for std::sync::Mutex<u64> {
-    #[inline]
-    fn call(&self, _worker: u64) -> u64 {
-        let mut guard = self.lock().expect("no call panics");
-        *guard = guard.wrapping_add(1);
-        0
-    }
-
-    fn added(&self) -> u64 {
-        *self.lock().expect("no call panics")
     }
 }
 
@@ -327,12 +222,12 @@ pub struct Rounds {
 
 impl Default for Rounds {
     fn default() -> Self {
-        Self::of(1)
+        Self::of(1, Work::default())
     }
 }
 
 impl Case for Rounds {
-    fn of(threads: u64) -> Self {
+    fn of(threads: u64, _work: Work) -> Self {
         Rounds {
             barrier: Barrier::new(threads as usize),
             threads,
@@ -364,145 +259,26 @@ impl Case for Rounds {
     }
 }
 
-/// A case by its name on the command line.
-#[derive(Clone, Copy)]
-pub enum Name {
-    Floor,
-    SpinMutex,
-    Mutex,
-    MutexYield,
-    TicketMutex,
-    FairMutex,
-    FairStarve,
-    RwRead,
-    RwWrite,
-    RwUpgrade,
-    RwOneWriter,
-    OnceGet,
-    OnceCall,
-    OnceFirst,
-    LazyForce,
-    BarrierAlone,
-    BarrierRounds,
-    StdMutex,
-}
-
-impl Name {
-    pub const ALL: [Name; 18] = [
-        Name::Floor,
-        Name::SpinMutex,
-        Name::Mutex,
-        Name::MutexYield,
-        Name::TicketMutex,
-        Name::FairMutex,
-        Name::FairStarve,
-        Name::RwRead,
-        Name::RwWrite,
-        Name::RwUpgrade,
-        Name::RwOneWriter,
-        Name::OnceGet,
-        Name::OnceCall,
-        Name::OnceFirst,
-        Name::LazyForce,
-        Name::BarrierAlone,
-        Name::BarrierRounds,
-        Name::StdMutex,
-    ];
-
-    pub fn parse(word: &str) -> Option<Name> {
-        Self::ALL.into_iter().find(|name| name.text() == word)
-    }
-
-    pub fn text(self) -> &'static str {
-        match self {
-            Name::Floor => "floor",
-            Name::SpinMutex => "spin_mutex",
-            Name::Mutex => "mutex",
-            Name::MutexYield => "mutex_yield",
-            Name::TicketMutex => "ticket_mutex",
-            Name::FairMutex => "fair_mutex",
-            Name::FairStarve => "fair_starve",
-            Name::RwRead => "rw_read",
-            Name::RwWrite => "rw_write",
-            Name::RwUpgrade => "rw_upgrade",
-            Name::RwOneWriter => "rw_one_writer",
-            Name::OnceGet => "once_get",
-            Name::OnceCall => "once_call",
-            Name::OnceFirst => "once_first",
-            Name::LazyForce => "lazy_force",
-            Name::BarrierAlone => "barrier_alone",
-            Name::BarrierRounds => "barrier_rounds",
-            Name::StdMutex => "std_mutex",
-        }
-    }
-
-    /// Whether threads do the case beside one another.
-    pub fn has_threads(self) -> bool {
-        !matches!(
-            self,
-            Name::FairStarve
-                | Name::RwUpgrade
-                | Name::OnceCall
-                | Name::OnceFirst
-                | Name::LazyForce
-                | Name::BarrierAlone
-        )
-    }
-
-    /// How many calls each thread makes for a try. Rounds are few: on a busy machine each waits until all its threads have
-    /// had a processor.
-    pub fn smoke_calls(self) -> u64 {
-        match self {
-            Name::BarrierRounds => 20,
-            _ => 1000,
-        }
-    }
-
-    /// Measures it in so many threads, and answers what was seen and left.
-    pub fn measure(self, threads: u64) -> u64 {
-        match self {
-            Name::Floor => measure::measure::<Floor>(threads),
-            Name::SpinMutex => measure::measure::<SpinMutex<u64>>(threads),
-            Name::Mutex => measure::measure::<Mutex<u64>>(threads),
-            Name::MutexYield => measure::measure::<Mutex<u64, Yield>>(threads),
-            Name::TicketMutex => measure::measure::<TicketMutex<u64>>(threads),
-            Name::FairMutex => measure::measure::<FairMutex<u64>>(threads),
-            Name::FairStarve => measure::measure::<Starvers>(threads),
-            Name::RwRead => measure::measure::<Readers>(threads),
-            Name::RwWrite => measure::measure::<RwLock<u64>>(threads),
-            Name::RwUpgrade => measure::measure::<Upgrades>(threads),
-            Name::RwOneWriter => measure::measure::<OneWriter>(threads),
-            Name::OnceGet => measure::measure::<Gets>(threads),
-            Name::OnceCall => measure::measure::<LateCalls>(threads),
-            Name::OnceFirst => measure::measure::<FirstCalls>(threads),
-            Name::LazyForce => measure::measure::<Forces>(threads),
-            Name::BarrierAlone => measure::measure::<Alone>(threads),
-            Name::BarrierRounds => measure::measure::<Rounds>(threads),
-            Name::StdMutex => measure::measure::<std::sync::Mutex<u64>>(threads),
-        }
-    }
-
-    /// What was seen and left, where each thread makes so many calls under a new lock.
-    pub fn count(self, threads: u64, calls: u64) -> u64 {
-        match self {
-            Name::Floor => measure::count::<Floor>(threads, calls),
-            Name::SpinMutex => measure::count::<SpinMutex<u64>>(threads, calls),
-            Name::Mutex => measure::count::<Mutex<u64>>(threads, calls),
-            Name::MutexYield => measure::count::<Mutex<u64, Yield>>(threads, calls),
-            Name::TicketMutex => measure::count::<TicketMutex<u64>>(threads, calls),
-            Name::FairMutex => measure::count::<FairMutex<u64>>(threads, calls),
-            Name::FairStarve => measure::count::<Starvers>(threads, calls),
-            Name::RwRead => measure::count::<Readers>(threads, calls),
-            Name::RwWrite => measure::count::<RwLock<u64>>(threads, calls),
-            Name::RwUpgrade => measure::count::<Upgrades>(threads, calls),
-            Name::RwOneWriter => measure::count::<OneWriter>(threads, calls),
-            Name::OnceGet => measure::count::<Gets>(threads, calls),
-            Name::OnceCall => measure::count::<LateCalls>(threads, calls),
-            Name::OnceFirst => measure::count::<FirstCalls>(threads, calls),
-            Name::LazyForce => measure::count::<Forces>(threads, calls),
-            Name::BarrierAlone => measure::count::<Alone>(threads, calls),
-            Name::BarrierRounds => measure::count::<Rounds>(threads, calls),
-            Name::StdMutex => measure::count::<std::sync::Mutex<u64>>(threads, calls),
-        }
-    }
+cases! {
+    "floor": Floor,
+    "spin_mutex": Adds<SpinMutex<u64>>,
+    "spin_mutex_work": Works<SpinMutex<u64>>,
+    "mutex": Adds<Mutex<u64>>,
+    "mutex_work": Works<Mutex<u64>>,
+    "mutex_yield": Adds<Mutex<u64, Yield>>,
+    "ticket_mutex": Adds<TicketMutex<u64>>,
+    "fair_mutex": Adds<FairMutex<u64>>,
+    "fair_starve": Starvers,
+    "rw_read": Readers<RwLock<u64>>,
+    "rw_write": Adds<Written<RwLock<u64>>>,
+    "rw_write_work": Works<Written<RwLock<u64>>>,
+    "rw_upgrade": Upgrades,
+    "rw_one_writer": OneWriter<RwLock<u64>>,
+    "once_get": Gets,
+    "once_call": LateCalls,
+    "once_first": FirstCalls,
+    "lazy_force": Forces,
+    "barrier_alone": Alone,
+    "barrier_rounds": Rounds,
+    "std_mutex": Adds<std::sync::Mutex<u64>>,
 }

@@ -1,11 +1,10 @@
 //! Rounds of calls, and what they took.
-use std::iter::{self, Sum};
 use std::sync::atomic::{AtomicBool, Ordering::SeqCst};
 use std::sync::Mutex;
 use std::thread;
 use std::time::{Duration, Instant};
 
-use crate::cases::Case;
+use crate::case::{Case, Work};
 
 const ROUNDS: usize = 3;
 const ROUND: Duration = Duration::from_millis(100);
@@ -13,64 +12,97 @@ const ROUND: Duration = Duration::from_millis(100);
 // cost nothing; among others each call is slow enough, and a queue that the system has stopped still ends soon.
 const CHUNK_ALONE: u64 = 1000;
 const CHUNK_AMONG_OTHERS: u64 = 25;
+// A thread among others times one call after so many chunks.
+const CHUNKS_A_TIMED_CALL: u64 = 4;
 
 // A lock at the start of a cache line, alone on it. Where a run's stack happens to put the flag and the value on two
 // lines, a call is some 2 ns faster.
-#[derive(Default)]
 #[repr(align(64))]
 struct OnALine<C>(C);
 
-/// How many calls threads made, and the sum of what these saw.
-#[derive(Clone, Copy, Default)]
-struct Work {
+/// What threads did: how many calls they made, the sum of what these saw, the calls of the thread that made the fewest,
+/// and how long the timed ones took.
+struct Works {
     calls: u64,
     seen: u64,
-}
-
-/// The work of all threads, and the calls of the one that made the fewest.
-struct Works {
-    all: Work,
     fewest: u64,
+    nanos: Vec<u64>,
 }
 
-impl Sum for Work {
-    fn sum<I: Iterator<Item = Work>>(all: I) -> Work {
-        all.fold(Work::default(), |sum, more| Work {
-            calls: sum.calls + more.calls,
-            seen: sum.seen.wrapping_add(more.seen),
-        })
+impl Works {
+    fn none() -> Works {
+        Works {
+            calls: 0,
+            seen: 0,
+            fewest: u64::MAX,
+            nanos: Vec::new(),
+        }
+    }
+
+    fn and(mut self, other: Works) -> Works {
+        self.calls += other.calls;
+        self.seen = self.seen.wrapping_add(other.seen);
+        self.fewest = self.fewest.min(other.fewest);
+        self.nanos.extend(other.nanos);
+        self
+    }
+
+    // The nanoseconds that one timed call in a thousand exceeds, or those of the longest one of fewer; 0 where none was timed.
+    fn longest(&mut self) -> u64 {
+        self.nanos.sort_unstable();
+        let last = self.nanos.len() - self.nanos.len() / 1000;
+        last.checked_sub(1).map_or(0, |it| self.nanos[it])
     }
 }
 
 // The loop that is measured, alone in its function.
 #[inline(never)]
-fn repeat<C: Case>(case: &C, worker: u64, calls: u64) -> Work {
+fn repeat<C: Case>(case: &C, worker: u64, calls: u64) -> u64 {
     let mut seen: u64 = 0;
     for _ in 0..calls {
         seen = seen.wrapping_add(case.call(worker));
     }
-    Work { calls, seen }
+    seen
 }
 
 // One thread's calls until it is to stop.
-fn until_told<C: Case>(case: &C, worker: u64, chunk: u64, told: &AtomicBool) -> Work {
-    iter::from_fn(|| (!case.is_to_stop(told)).then(|| repeat(case, worker, chunk))).sum()
+fn until_told<C: Case>(case: &C, worker: u64, threads: u64, told: &AtomicBool) -> Works {
+    let mut works = Works::none();
+    let alone = threads == 1;
+    let chunk = if alone {
+        CHUNK_ALONE
+    } else {
+        CHUNK_AMONG_OTHERS
+    };
+    works.nanos.reserve(if alone { 0 } else { 1 << 16 });
+    for number in 0u64.. {
+        if case.is_to_stop(told) {
+            break;
+        }
+        works.seen = works.seen.wrapping_add(repeat(case, worker, chunk));
+        works.calls += chunk;
+        if !alone && number % CHUNKS_A_TIMED_CALL == 0 {
+            let start = Instant::now();
+            works.seen = works.seen.wrapping_add(repeat(case, worker, 1));
+            works.nanos.push(start.elapsed().as_nanos() as u64);
+            works.calls += 1;
+        }
+    }
+    works.fewest = works.calls;
+    works
 }
 
 // Does the work in so many threads, and tells them to stop after some time. None begins before all are there, and none at
 // all where one is refused, since the others might wait for it.
-fn among<F>(threads: u64, time: Duration, told: &AtomicBool, work: F) -> Works
-where
-    F: Fn(u64) -> Work + Sync,
-{
+fn among<C: Case>(case: &C, threads: u64, told: &AtomicBool) -> Works {
     let gate = &Mutex::new(());
     let begin = &|worker| {
         // Where a thread was refused, who starts them has panicked under the lock.
         let refused = gate.lock().is_err();
         if refused {
-            Work::default()
+            Works::none()
         } else {
-            work(worker)
+            until_told(case, worker, threads, told)
         }
     };
     thread::scope(|scope| {
@@ -79,51 +111,31 @@ where
             .map(|worker| scope.spawn(move || begin(worker)))
             .collect();
         drop(closed);
-        thread::sleep(time);
+        thread::sleep(ROUND);
         told.store(true, SeqCst);
-        let works: Vec<_> = workers
+        workers
             .into_iter()
             .map(|worker| worker.join().expect("no call panics"))
-            .collect();
-        Works {
-            fewest: works.iter().map(|work| work.calls).min().unwrap_or(0),
-            all: works.into_iter().sum(),
-        }
+            .fold(Works::none(), Works::and)
     })
 }
 
-// One round, of which a line tells how many calls there were, how many nanoseconds they took, and how many of them the thread
-// made that made the fewest. It answers what they saw.
+// One round, of which a line tells how many calls there were, how many nanoseconds they took, how many of them the thread
+// made that made the fewest, and how long a long one took. It answers what they saw.
 fn round<C: Case>(case: &C, threads: u64) -> u64 {
-    let chunk = if threads == 1 {
-        CHUNK_ALONE
-    } else {
-        CHUNK_AMONG_OTHERS
-    };
-    let OnALine(told) = &OnALine::<AtomicBool>::default();
+    let OnALine(told) = &OnALine(AtomicBool::new(false));
     let start = Instant::now();
-    let works = among(threads, ROUND, told, |worker| {
-        until_told(case, worker, chunk, told)
-    });
+    let mut works = among(case, threads, told);
     let nanos = start.elapsed().as_nanos();
-    println!("{} {nanos} {}", works.all.calls, works.fewest);
-    works.all.seen
+    let longest = works.longest();
+    println!("{} {nanos} {} {longest}", works.calls, works.fewest);
+    works.seen
 }
 
-/// What was seen in all, together with what is left at the end, where each thread has made so many calls under a new lock:
-/// the number of calls, where each did what it had to.
-pub fn count<C: Case>(threads: u64, calls: u64) -> u64 {
-    let OnALine(case) = &OnALine(C::of(threads));
-    let told = &AtomicBool::default();
-    let works = among(threads, Duration::ZERO, told, |worker| {
-        repeat(case, worker, calls)
-    });
-    case.added().wrapping_add(works.all.seen)
-}
-
-/// Measures several rounds under one new lock. It answers as [`count`] does.
-pub fn measure<C: Case>(threads: u64) -> u64 {
-    let OnALine(case) = &OnALine(C::of(threads));
+/// Measures several rounds under one new lock. It answers what was seen in all, together with what is left at the end: the
+/// number of calls, where each did what it had to.
+pub fn measure<C: Case>(threads: u64, work: Work) -> u64 {
+    let OnALine(case) = &OnALine(C::of(threads, work));
     let seen = (0..ROUNDS).fold(0, |seen: u64, _| seen.wrapping_add(round(case, threads)));
     case.added().wrapping_add(seen)
 }

@@ -1,2 +1,2 @@
 -- The calls of an `RwLock`.
-pub use Rattle.spin_step_more.specs.declared.rw_calls.RwCall.TheVariants.{Read, TryRead, UpgradeableRead, TryUpgradeableRead, Write, TryWrite, Upgrade, TryUpgrade, Downgrade, DowngradeToUpgradeable, ReaderCount, WriterCount, Release}
+pub use Rattle.spin_step_more.specs.declared.rw_calls.RwCall.TheVariants.{Read, TryRead, UpgradeableRead, TryUpgradeableRead, Write, TryWrite, Upgrade, TryUpgrade, Downgrade, DowngradeToUpgradeable, ReaderCount, WriterCount, IsLocked, Release}

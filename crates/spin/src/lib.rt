@@ -6,13 +6,15 @@
 #![tactic(auto)]
 
 pub use mutex::MutexGuard;
-pub use relax::{RelaxStrategy, Spin, SpinThenYield, Yield};
+pub use relax::{RelaxStrategy, Spin, Yield, YieldThenSleep};
 pub use rwlock::RwLockReadGuard;
 pub use spin_barrier::barrier;
-pub use spin_core::{laws, lock, relax};
+pub use spin_core::{laws, relax};
 pub use spin_once::{lazylock, once};
+pub use spin_order as order;
 pub use spin_rwlock::rwlock;
 
+pub mod lock;
 pub mod mutex;
 pub mod step;
 

@@ -1,3 +1,4 @@
 pub mod Gathered
 pub mod Keeping
+pub mod Opens
 pub mod Rolls

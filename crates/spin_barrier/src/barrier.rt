@@ -9,6 +9,8 @@ use crate::keep::{Keeper, Kept};
 use spin_core::relax::{RelaxStrategy, Spin};
 use spin_mutex::mutex::Mutex;
 use spin_step_more::barrier::State;
+use std::fmt;
+use std::fmt::{Debug, Formatter};
 use std::sync::Wait;
 
 /// A barrier at which the threads of a group wait for each other. It is reusable: after a group it gathers
@@ -56,8 +58,13 @@ impl BarrierWaitResult {
 }
 
 impl<R> Barrier<R> {
+    ghost use Rattle.spin_barrier.specs.Opens.{Gathers};
+
     /// Creates a barrier for groups of `n` threads, at which no thread has arrived. If `n` is 0 or 1, each
     /// thread is a group of its own and does not wait.
+    ///
+    /// # Contract
+    /// The barrier opens with groups of `n`, in which nobody has arrived (`Gathers`). The call returns.
     ///
     /// # Examples
     /// ```
@@ -66,7 +73,9 @@ impl<R> Barrier<R> {
     /// let one: Barrier = Barrier::new(0);
     /// assert!(rt; one.wait(&rt).is_leader());
     /// ```
-    pub const fn new(n: usize) -> Self {
+    pub const fn new(n: usize) -> Self
+        ensures { Gathers n result }
+    {
         Barrier {
             state: Mutex::new(Kept {
                 state: State::new(n),
@@ -141,5 +150,21 @@ impl<R: RelaxStrategy, K: Keeper> Barrier<R, K> {
                 ensures { IfOk result (λ found. K.left seen found) }
             { self.state.lock(rt).look(generation, &seen) },
         )
+    }
+}
+
+/// Prints `Barrier { .. }`.
+impl<R, K: Keeper> Debug for Barrier<R, K> {
+    fn fmt<W: fmt::Write>(&self, f: &mut Formatter<W>) -> fmt::Result {
+        f.debug_struct("Barrier").finish_non_exhaustive()
+    }
+}
+
+/// Prints `BarrierWaitResult { is_leader: .. }`.
+impl Debug for BarrierWaitResult {
+    fn fmt<W: fmt::Write>(&self, f: &mut Formatter<W>) -> fmt::Result {
+        f.debug_struct("BarrierWaitResult")
+            .field("is_leader", &self.leads)
+            .finish()
     }
 }

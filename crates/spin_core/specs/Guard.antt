@@ -1,7 +1,12 @@
 -- The value of a guard, the guard with another value, and the value that a hold keeps.
-use Rattle.std.specs.Prelude.{◌≡◌, Option}
+use Rattle.std.specs.Prelude.{◌≡◌, ◌≤◌, Option, Some, length}
 use Rattle.spin_core.specs.Cell.{Use, writes}
+use Rattle.spin_step.specs.Schedules.{Entry}
+use Rattle.spin_core.specs.Own.{Numbered}
+use Rattle.spin_core.specs.Spots.{Spot}
+use Rattle.spin_core.specs.Values.{IsLast}
 use Rattle.spin_core.specs.Writer.{writer_of}
+use Rattle.spin_core.specs.declared.tie.Opening.{Opening}
 use Rattle.spin_core.specs.declared.guard.Guard.{Guard}
 use Rattle.spin_core.specs.declared.guard.Held.{Held}
 use Rattle.spin_core.specs.declared.guard.Uses.{Ghosts}
@@ -42,3 +47,16 @@ module _ {T V E P R K S : Type 0} where
 
   abbrev pub held_seen : {uses : Ghosts P V} → Held T V E P R K S uses → Watch E
   held_seen it = it.seen
+
+module _ {T X E P R S : Type 0} where
+  -- the spot of the guard's party
+  abbrev pub guard_spot : Guard T (Numbered X) E P R (Opening T) S → Spot (Opening T) X E
+  guard_spot guard = (guard_key guard, Some (guard_view guard), guard_seen guard)
+
+  -- the guard knows the history of its lock, at least up to the last step of its party
+  abbrev pub Holds : Guard T (Numbered X) E P R (Opening T) S → Type 0
+  Holds guard = ((guard_key guard).name ≡ (guard_seen guard).name) × ((guard_view guard).2 ≤ length (guard_seen guard).entries)
+
+-- when the guard was granted, its lock had this value
+abbrev pub HasFound : {T X C P R S : Type 0} → T → Guard T (Numbered X) (Entry C T) P R (Opening T) S → Type 0
+HasFound x guard = IsLast (guard_key guard) (guard_seen guard).entries x

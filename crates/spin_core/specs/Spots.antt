@@ -1,8 +1,9 @@
 -- What a party has done from one of its steps to a later one, in one lock.
-use Rattle.std.specs.Prelude.{◌≡◌, Bool, true, Option, Some}
+use Rattle.std.specs.Prelude.{◌≡◌, Bool, true, Option, Some, List}
 use Rattle.spin_step.specs.declared.schedule.Outcome.{Outcome}
 use Rattle.spin_step.specs.Machines.{Machine}
 use Rattle.spin_step.specs.Schedules.{Entry}
+use Rattle.spin_core.specs.Logs.{KnowsBoth}
 use Rattle.spin_core.specs.Own.{Numbered, what}
 use Rattle.spin_core.specs.Passes.{Course, Made, IsCall, IsOneStep, Begins, Waits, WritesSome}
 use Rattle.spin_core.specs.Values.{IsLast}
@@ -16,6 +17,10 @@ Spot K X E = K × Option (Numbered X) × Watch E
 
 abbrev pub spot : {T P K X E S : Type 0} → Permit T (Numbered X) P K S → Watch E → Spot K X E
 spot permit seen = (permit.key, permit.view, seen)
+
+-- The party at `now` is the one at `before`. It also knows these entries of the trace: the longer of the two histories.
+abbrev pub Learns : {K X E : Type 0} → List E → Spot K X E → Spot K X E → Type 0
+Learns known before now = (now.0 ≡ before.0) × (now.1 ≡ before.1) × (now.2.name ≡ before.2.name) × KnowsBoth before.2.entries known now.2.entries
 
 -- For locks that run a model, which is given by the key:
 module _ {K W V C L A X : Type 0} (model : K → Machine W V C L A) where

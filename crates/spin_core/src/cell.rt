@@ -82,10 +82,20 @@ impl<'a, T, V, P: Rule<T, V>> Model for Permit<'a, T, V, P> {
     ghost also_shares = { λ h _ κ. permit_shares P.row T.row V.row.coded.code P.Second.row (P.holds h.key) (P.ways h.key) 'a h.cell h.view h.value κ };
 }
 
-/// Shows that a party at rest has ended its permit. Only [`Permit::leave`] makes one.
-#[derive(Drop)]
-pub struct Left {
-    made: (),
+/// The permit of a party at rest, which ends when this is dropped. Only [`Permit::leave`] makes one.
+///
+/// # Contract
+/// A `Left` in a contract is the key of its cell, and the last view of its party.
+pub struct Left<'a, T, V, P: Rule<T, V>> {
+    permit: Permit<'a, T, V, P>,
+}
+
+impl<'a, T, V, P: Rule<T, V>> Model for Left<'a, T, V, P> {
+    ghost Value = { P.Key × Option V };
+
+    ghost view = { λ left. (left.permit.key, left.permit.view) };
+
+    ghost invariant = { λ left. Rests (P.holds left.permit.key) (P.ways left.permit.key).1 left.permit.view };
 }
 
 /// The right to write the value, which only one party has at a time.
@@ -251,11 +261,14 @@ impl<'a, T, V, P: Rule<T, V>> Permit<'a, T, V, P> {
 
     /// Ends the permit. The party has to be at rest: it does not use the value, and the rule also holds
     /// without the party.
-    pub fn leave(self) -> Left
+    ///
+    /// # Contract
+    /// What is returned names the cell and the party.
+    pub fn leave(self) -> Left<'a, T, V, P>
         requires { Rests (P.holds self.key) (P.ways self.key).1 self.view }
+        ensures { result ≡ (self.entry.key, self.entry.view) }
     {
-        let Permit { cell: _, marker: _ } = self;
-        Left { made: () }
+        Left { permit: self }
     }
 
     /// Ends the permit of a party that is at rest, like [`leave`](Permit::leave), or of one that uses the
@@ -326,6 +339,13 @@ impl<T, V, P: Rule<T, V>> WritePermit<'_, T, V, P> {
 // Forgets a `Second`, whose type need not be `Drop`.
 pub(crate) fn let_go<S>(second: S) {
     let _gone = unsafe { ManuallyDrop::new_unchecked(second) };
+}
+
+impl<T, V, P: Rule<T, V>> Drop for Left<'_, T, V, P> {
+    fn drop(self) {
+        let Self { permit } = self;
+        permit.finish();
+    }
 }
 
 impl<T: Drop, V, P: Rule<T, V>> Drop for Cell<T, V, P> {

@@ -4,7 +4,8 @@ ghost use Rattle.std.specs.Prelude.{◌≡◌, Option, Some};
 ghost use Rattle.spin_core.specs.Cell.{Use, writes, use_of};
 
 use crate::cell::{Left, Permit, Rule, WritePermit};
-use crate::trace::Watch;
+use crate::tie::{Entry, Numbered, Opening};
+use crate::trace::{Knows, Watch};
 use std::marker::PhantomData;
 use std::ops::{Deref, DerefMut};
 
@@ -27,9 +28,9 @@ pub trait Release<T, V>: Rule<T, V> + Uses<V> {
     /// Releases the lock of a party that writes.
     ///
     /// # Contract
-    /// There is no clause. The body has to return a [`Left`], which `leave` alone makes. So the writer's party is at
-    /// rest afterwards.
-    fn release(writer: WritePermit<'_, T, V, Self>) -> Left;
+    /// A party of the writer's cell is at rest afterwards. It is the writer, since no other permit of this cell is at hand.
+    fn release<'a>(writer: WritePermit<'a, T, V, Self>) -> Left<'a, T, V, Self>
+        ensures { result.0 ≡ writer.entry.key };
 
     // `use_at` agrees with the rule. This is stated apart, since a ghost field cannot use names of the rule.
     ghost same: { (key : Self.Key) (view : Option V) → Self.use_at view ≡ use_of (Self.ways key).1 view };
@@ -124,6 +125,65 @@ impl<'a, T, V, E, P: Release<T, V>, R> Guard<'a, T, V, E, P, R> {
             strategy: _,
         } = this;
         (writer, seen)
+    }
+}
+
+impl<'a, T, X, C, P: Release<T, Numbered<X>, Key = Opening<T>>, R> Guard<
+    'a,
+    T,
+    Numbered<X>,
+    Entry<C, T>,
+    P,
+    R,
+> {
+    ghost use Rattle.spin_core.specs.Guard.{HasFound, Holds, guard_seen, guard_spot, guard_value};
+    ghost use Rattle.spin_core.specs.Spots.{Learns};
+
+    /// Returns this guard, which then also knows what the other knows. It does nothing when it runs.
+    ///
+    /// So the next call of the guard's party comes after the calls that the other knows by now.
+    ///
+    /// # Contract
+    /// The party and the value stay (`same`). The history that the guard knows is the longer of the two, of which the
+    /// other is a prefix (`learns`).
+    pub fn after<K: Knows<Entry<C, T>>>(this: Self, earlier: &K) -> Self
+        requires holds { Holds this }
+        requires one { (guard_seen this).name ≡ K.of earlier.now }
+        ensures holds { Holds result }
+        ensures same { guard_value result ≡ guard_value this.entry }
+        ensures learns { Learns (K.entries earlier.now) (guard_spot this.entry) (guard_spot result) }
+    {
+        let (writer, seen) = Guard::into_parts(this);
+        let known = seen.later(&earlier.known());
+        Guard::new(writer, known)
+    }
+
+    /// States that the guard's party found this value. It does nothing when it runs.
+    ///
+    /// A caller calls it before it writes, to tell afterwards what it found.
+    ///
+    /// # Contract
+    /// The guard has to show the value still (`shows`), and to have found the one that it shows (`found`), which each
+    /// call that grants a guard says.
+    pub fn found(this: &Self, value: &T)
+        requires shows { value.now ≡ guard_value this.now }
+        requires found { HasFound (guard_value this.now) this.now }
+        ensures { HasFound value.now this.now }
+    {
+        let _ = this;
+        let _ = value;
+    }
+}
+
+impl<E, T, V, P: Release<T, V>, R> Knows<E> for Guard<'_, T, V, E, P, R> {
+    ghost use Rattle.spin_core.specs.Guard.{guard_seen};
+
+    ghost of = { λ guard. (guard_seen guard).name };
+
+    ghost entries = { λ guard. (guard_seen guard).entries };
+
+    fn known(&self) -> Watch<E> {
+        self.seen.copy()
     }
 }
 

@@ -1,10 +1,20 @@
 //! Traits for code that takes any lock. Begin with [`Lock`], which each mutex of the crate `spin` and its `RwLock`
-//! implement.
+//! implement, and with [`Acquire`], for what has a guard.
 ghost use Rattle.std.specs.Prelude.{◌≡◌, is_some, is_ok, MatchResult};
 ghost use Rattle.spin_core.specs.Calls.{AnswersOf, AnswersOfShared};
 
 use std::ops::DerefMut;
 use std::sync::Wait;
+
+mod acquire;
+mod fill;
+mod lent;
+mod reserve;
+
+pub use acquire::{Acquire, AcquireShared};
+pub use fill::{Fill, Force};
+pub use lent::Lent;
+pub use reserve::{Claim, Reserve};
 
 /// A lock that gives one thread at a time access to a value of type `T`.
 ///

@@ -1,18 +1,23 @@
 //! How a waiting call passes the time between two looks at a lock's word. Begin with [`RelaxStrategy`] and its four
-//! implementations [`Spin`], [`Yield`], [`SpinThenYield`] and [`Loop`].
+//! implementations [`Spin`], [`Yield`], [`YieldThenSleep`] and [`Loop`].
 ghost use Rattle.std.specs.Prelude.{Some};
 ghost use Rattle.spin_core.specs.Retries.{Succeeds};
 
 use std::hint::spin_loop;
 use std::marker::PhantomData;
 use std::sync::Wait;
+use std::sync::atomic::AtomicU64;
 use std::thread::yield_now;
+use std::time::Duration;
 
-/// The longest pause of a waiting call, as a number of spin hints.
-pub const MAX_HINTS: u32 = 512;
+/// The longest pause of a waiting call, as a number of spin hints. A call has it that waits behind several others.
+pub const MAX_HINTS: u32 = 1024;
 
-/// The longest pause of a call that backs off, and of one that waits in a queue, as a number of spin hints.
-pub const MAX_BACK_OFF: u32 = 64;
+/// The longest pause of a call that backs off, as a number of spin hints.
+pub const MAX_BACK_OFF: u32 = 256;
+
+/// The first pause of a call that backs off has so many spin hints, and each later one so many times as many as the last.
+pub const BACK_OFF_STEP: u32 = 16;
 
 /// How a waiting call passes the time. A lock names its strategy as its type parameter `R`.
 ///
@@ -49,24 +54,24 @@ pub trait RelaxStrategy {
         Self::relax(rt);
     }
 
-    /// Passes the time between two attempts of a call whose earlier pauses had `given` hints in all. So a strategy can
-    /// do something else when a call has waited for long, as [`SpinThenYield`] does. The default `pause_after` calls
-    /// `pause`.
+    /// Passes the time between two attempts of a call whose earlier pauses had `given` hints in all, those of
+    /// [`MAX_HINTS`] not counted. So a strategy can do something else when a call has waited for long, as [`Spin`] does.
+    /// The default `pause_after` calls `pause`.
     fn pause_after<W: Wait>(rt: &W, hints: u32, given: u32) {
         let _ = given;
         Self::pause(rt, hints);
     }
 
     /// Pauses for so many hints, but for at most [`MAX_HINTS`], in a call whose earlier pauses had `given` hints in all.
-    /// Returns how many hints they had with this pause. Every waiting call of a lock passes its time by this call
-    /// alone.
+    /// Returns how many hints they had with this pause. One of `MAX_HINTS` is not counted: it ends before the call is
+    /// next, and a call that is next begins to wait. Every waiting call of a lock passes its time by this call alone.
     // Where a loop bounds its own count of hints too, this bound costs nothing. Where the strategy does not read `given`,
     // the count costs nothing.
     #[inline(always)]
     final fn bounded_pause<W: Wait>(rt: &W, hints: u32, given: u32) -> u32 {
         let hints = hints.min(MAX_HINTS);
         Self::pause_after(rt, hints, given);
-        given.saturating_add(hints)
+        given.saturating_add(hints % MAX_HINTS)
     }
 
     /// Relaxes and tries again, until an attempt succeeds.
@@ -96,9 +101,9 @@ pub trait RelaxStrategy {
         try_again::<Self, S, A, F, W>(rt, state, 1, attempt)
     }
 
-    /// Like [`retry`](RelaxStrategy::retry), but each [`pause`](RelaxStrategy::pause) has twice as many hints as
-    /// the last one, up to [`MAX_BACK_OFF`]. A lock whose waiters may overtake each other is fastest when few of them
-    /// load its word.
+    /// Like [`retry`](RelaxStrategy::retry), but the first [`pause`](RelaxStrategy::pause) has [`BACK_OFF_STEP`] hints,
+    /// and each later one so many times as many as the last, up to [`MAX_BACK_OFF`]. A lock whose waiters may overtake
+    /// each other is fastest when few of them load its word.
     ///
     /// # Contract
     /// Like that of `retry`.
@@ -110,9 +115,9 @@ pub trait RelaxStrategy {
     }
 }
 
-// Pauses and tries again, until an attempt succeeds. The first pause has one hint, and each later one has twice as many
-// hints as the last one, up to `most`. It is not inlined, since inlining would lengthen the path of each caller that does
-// not wait.
+// Pauses and tries again, until an attempt succeeds. The first pause has `BACK_OFF_STEP` hints, and each later one so many
+// times as many as the last, but none has more than `most`. It is not inlined, since inlining would lengthen the path of
+// each caller that does not wait.
 #[cold]
 #[inline(never)]
 fn try_again<R: RelaxStrategy, S, A, F: Fn(S) -> Result<A, S>, W: Wait>(
@@ -124,7 +129,7 @@ fn try_again<R: RelaxStrategy, S, A, F: Fn(S) -> Result<A, S>, W: Wait>(
     requires { F.IsAlwaysCallable attempt }
     ensures { Succeeds (F.post attempt) state result }
 {
-    let mut hints = 1;
+    let mut hints = BACK_OFF_STEP.min(most);
     let mut given = 0;
     let mut state = state;
     for _ in rt.forever() {
@@ -133,12 +138,20 @@ fn try_again<R: RelaxStrategy, S, A, F: Fn(S) -> Result<A, S>, W: Wait>(
             Ok(answer) => return answer,
             Err(next) => state = next,
         }
-        hints = hints.saturating_mul(2).min(most);
+        hints = hints.saturating_mul(BACK_OFF_STEP).min(most);
     }
     unreachable!()
 }
 
-/// The strategy that gives the processor's hint for spinning. It is the default of every lock that has a parameter `R`.
+// A call with the strategy `Spin` gives fewer hints than this.
+const PATIENCE: u32 = 1024;
+
+/// The strategy that gives the processor's hint for spinning, and yields once a call has waited for long. It is the
+/// default of every lock that has a parameter `R`.
+///
+/// A call gives fewer than 1,024 hints in all. In place of a pause that would exceed this it yields once, like [`Yield`]. So
+/// each lock goes on where more threads wait than there are processors, even a queue of tickets whose next thread has no
+/// processor. A thread behind four others in such a queue yields at once. `relax` gives one hint.
 pub struct Spin;
 
 impl RelaxStrategy for Spin {
@@ -150,6 +163,14 @@ impl RelaxStrategy for Spin {
     fn pause<W: Wait>(rt: &W, hints: u32) {
         for _ in 0..hints {
             Self::relax(rt);
+        }
+    }
+
+    fn pause_after<W: Wait>(rt: &W, hints: u32, given: u32) {
+        if given.saturating_add(hints) < PATIENCE {
+            Self::pause(rt, hints);
+        } else {
+            yield_now();
         }
     }
 }
@@ -175,44 +196,45 @@ impl RelaxStrategy for Yield {
     }
 }
 
-// The strategy `SpinThenYield` spins in a pause of at most so many hints, less one for each eight that the call has given.
-// In a queue it so spins only near the front: a thread behind four others pauses for more, and yields at once.
-const SPIN_LIMIT: u32 = 31;
+// The shortest sleep, in nanoseconds.
+const SHORTEST_SLEEP: u64 = 16;
 
-// If no other thread wants the processor, a yield takes about as long as so many hints.
-const HINTS_A_YIELD: u32 = 64;
+// A sleep is doubled for so many hints that the call has given, but at most so often: to a millisecond.
+const HINTS_A_DOUBLING: u32 = 256;
 
-/// The strategy that spins like [`Spin`] while a call has not waited for long, and then yields like [`Yield`].
+const MAX_DOUBLINGS: u32 = 16;
+
+/// The strategy that yields while a call has not waited for long, and then sleeps, for longer and longer.
 ///
-/// Use it where more threads may wait than there are processors. There a queue with [`Spin`] nearly stands still, since
-/// the thread that is next may have no processor. Where each thread has a processor, `SpinThenYield` is about as fast as
-/// `Spin`. A call gives at most 250 hints in all. In place of a pause of many hints it yields several times, so that it
-/// looks no more often than with `Spin`.
+/// Use it where a lock may be held for long, and its waiters are to leave the processor to others. A call yields until its
+/// pauses had 1,024 hints: some seven times if others may overtake it. Then each pause is a sleep, of 256 ns in the
+/// beginning and of a millisecond in the end. No release wakes a sleeper. A thread behind four others in a queue of
+/// tickets never sleeps.
 ///
 /// # Examples
 /// ```
-/// use spin::SpinThenYield;
-/// use spin::mutex::Mutex;
+/// use spin::YieldThenSleep;
+/// use spin::mutex::SpinMutex;
 /// use std::thread;
 ///
-/// let last: Mutex<u64, SpinThenYield> = Mutex::new(0);
+/// let last: SpinMutex<u64, YieldThenSleep> = SpinMutex::new(0);
 /// thread::join(&rt, || *last.lock(&rt) = 1, || *last.lock(&rt) = 2);
 /// assert!(rt; [1, 2].contains(&last.into_inner()));
 /// ```
-pub struct SpinThenYield;
+pub struct YieldThenSleep;
 
-impl RelaxStrategy for SpinThenYield {
+impl RelaxStrategy for YieldThenSleep {
     fn relax<W: Wait>(rt: &W) {
         Yield::relax(rt);
     }
 
     fn pause_after<W: Wait>(rt: &W, hints: u32, given: u32) {
-        if hints.saturating_add(given / 8) <= SPIN_LIMIT {
-            return Spin::pause(rt, hints);
+        if given < PATIENCE {
+            return Self::pause(rt, hints);
         }
-        for _ in 0..(hints / HINTS_A_YIELD).max(1) {
-            Self::relax(rt);
-        }
+        let doublings = (given / HINTS_A_DOUBLING).min(MAX_DOUBLINGS);
+        let sleep = Duration::from_nanos(SHORTEST_SLEEP << doublings);
+        AtomicU64::new(0).park_timeout(rt, 0, sleep);
     }
 }
 

@@ -39,6 +39,28 @@ impl<E> Model for Watch<E> {
     ghost also_shares = { λ watch _ κ. said (known_owns E.row.coded.code watch.name watch.entries) κ };
 }
 
+/// A value that knows how a trace with entries of type `E` begins: a watch, and each pass and guard of a lock.
+pub trait Knows<E> {
+    // The name of the trace.
+    ghost of: { Self → ℕ };
+    // The entries with which the trace begins.
+    ghost entries: { Self → List E };
+
+    /// Returns a watch that knows the same.
+    fn known(&self) -> Watch<E>
+        ensures { (result.name ≡ of self.now) × (result.entries ≡ entries self.now) };
+}
+
+impl<E> Knows<E> for Watch<E> {
+    ghost of = { λ watch. watch.name };
+
+    ghost entries = { λ watch. watch.entries };
+
+    fn known(&self) -> Watch<E> {
+        self.copy()
+    }
+}
+
 impl<E, S> Trace<E, S> {
     /// Creates an empty trace with a name of its own, and with `word`.
     pub const fn new(word: S) -> Trace<E, S>
@@ -69,6 +91,16 @@ impl<E, S> Trace<E, S> {
         requires { self.now.name ≡ watch.now.name }
         ensures { IsPrefix watch.now.entries self.now.entries }
     {}
+}
+
+impl<E> Trace<E, u64> {
+    /// Returns the word that stands beside the list, and the trace.
+    pub fn told(self) -> (u64, Self)
+        ensures { (result.0 ≡ self.word) × (result.1 ≡ self) }
+    {
+        let word = self.word;
+        (word, self)
+    }
 }
 
 impl<E> Watch<E> {

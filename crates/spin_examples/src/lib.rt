@@ -4,19 +4,25 @@
 //! Begin with [`from_rust`].
 #![tactic(auto)]
 
+pub mod accounts;
 pub mod adding;
 pub mod after;
 pub mod agreed;
 pub mod any_lock;
 pub mod batch;
+pub mod beside;
 pub mod cache;
+pub mod conditions;
 pub mod ending;
+pub mod forever;
 pub mod from_rust;
 pub mod guide;
+pub mod in_order;
 pub mod ledger;
 pub mod meeting;
-pub mod order;
 pub mod paired;
+pub mod parties;
+pub mod parts;
 pub mod passes;
 pub mod passes_fair;
 pub mod passes_lazy;
@@ -24,10 +30,13 @@ pub mod passes_once;
 pub mod passes_rw;
 pub mod passes_ticket;
 pub mod phases;
+pub mod planned;
+pub mod preorder;
 pub mod publishing;
 pub mod registers;
 pub mod relay;
 pub mod settings;
+pub mod three_locks;
 pub mod totals;
 pub mod two_locks;
 pub mod versions;

@@ -1,12 +1,11 @@
 //! Eight threads count under one lock.
 #![tactic(auto)]
 
-use spin_core::relax::Yield;
-use spin_mutex::mutex::Mutex;
+use spin_flag::spin::SpinMutex;
 use std::{io, thread};
 
 fn main(rt: HostRuntime) -> io::Result<()> {
-    let total: Mutex<u64, Yield> = Mutex::new(0);
+    let total: SpinMutex<u64> = SpinMutex::new(0);
     let (lent, host) = (&total, &rt);
     thread::scope(thread::scope_env(), host, |scope| {
         for _ in 0..8 {

@@ -1,5 +1,5 @@
 -- The table of a fair lock refines the plain lock: of its holders and starvers at most one holds.
-use Rattle.std.proofs.Common.{◌≡◌, ◌≢◌, ◌⊎◌, ℕ, ◌+◌, ◌<◌, ◌≤◌, ◌%◌, ◌==◌, if◌then◌else◌, Option, Some, None, List, [], length, inr, bit_or, ◌/◌, slice_get, refl, arith}
+use Rattle.std.proofs.Common.{◌≡◌, ◌≢◌, ◌⊎◌, ℕ, ◌+◌, ◌<◌, ◌≤◌, ◌%◌, ◌==◌, if◌then◌else◌, Option, Some, None, List, [], length, false, inr, bit_or, ◌/◌, slice_get, refl, arith}
 use Rattle.std.proofs.lemmas.Nat.{or_block}
 use Rattle.std.specs.Int.Bits.{or_zero_r}
 use Rattle.spin_step.specs.Plain.{Plain, writing, fair_word}
@@ -16,17 +16,17 @@ use Rattle.spin_step_more.specs.declared.fair_calls.FairCall.{FairCall}
 use Rattle.spin_step_more.specs.declared.fair_calls.FairCall.TheVariants.{TryLockStarver, StarverTryLockFair, StarverDrop, Release}
 use Rattle.spin_step_more.specs.declared.fair_calls.FairPoint.{FairPoint}
 use Rattle.spin_step_more.specs.declared.fair_calls.FairPoint.TheVariants.{First, Register, SetFlag, Unregister}
-use Rattle.spin_step_more.specs.Starvers.{most_starvers}
+use Rattle.spin_step_more.specs.Starvers.{is_held_word, most_starvers}
 use Rattle.spin_step_more.specs.FairCalls.{fair_table}
 use Rattle.spin_step_more.proofs.FairSteps.{fair_lock-grants, fair_starve-grants, fair_lock_fair-grants, fair_lock_starved-grants, fair_unstarve-gives, fair_unlock-gives}
-use Rattle.spin_core.specs.Cell.{word_limit, reading, writing as writes_of, MeetsRule}
+use Rattle.spin_core.specs.Cell.{word_limit, reading, writing as writes_of, writers_of, MeetsRule}
 use Rattle.spin_core.specs.Views.{Part, starves, HasPart, IsLockOf, entries_of_part}
 use Rattle.spin_core.specs.declared.tie.Opening.{Opening}
 use Rattle.spin_core.specs.declared.trace.Trace.{Trace}
 use Rattle.spin_core.proofs.tie.Leaving.{fair_word-up}
-use Rattle.spin_core.proofs.tie.Owners.{Writes as MayWrite, one_holds, one_user}
+use Rattle.spin_core.proofs.tie.Owners.{Writes as MayWrite, one_holds, one_user, writers_among}
 use Rattle.spin_core.proofs.tie.Views.{release-own}
-use Rattle.spin_session.specs.Meaning.{Sound, ComesFrom, Refines, part_of, use_at, ways_of}
+use Rattle.spin_session.specs.Meaning.{AreWords, just_one, Sound, ComesFrom, Refines, part_of, use_at, ways_of}
 use Rattle.spin_session.specs.Turns.{Ended, Knows}
 use Rattle.spin_step.specs.declared.answer.Answer.TheVariants.{Granted, Locked, Starved}
 use Rattle.spin_step.specs.declared.schedule.Outcome.TheVariants.{Answered}
@@ -70,6 +70,11 @@ facts v = grind arith
 
 pub one_holder : (vs : List View) (plain : Plain) → IsInOrder plain → IsLockOf (part_of fair_meaning) vs plain → OneHolds plain
 one_holder = one_holds (part_of fair_meaning) (λ v. (facts v).0)
+
+-- nobody writes while the word shows no holder
+pub quiet : {m : Unit {0}} (n : ℕ) → is_held_word n ≡ false → (vs : List View) → AreWords just_one fair_meaning n m vs → writers_of (use_at fair_meaning) vs ≡ 0
+quiet n free vs is = let words = is.0 in
+    grind (arith, free, words.4, one_holder vs words.0 words.2 words.3, writers_among (part_of fair_meaning) (λ v. (facts v).2) vs words.0 words.3)
 
 module _ {T : Type 0} (value : T) where
   abbrev table : Table ℕ T FairCall FairPoint (Answer T)

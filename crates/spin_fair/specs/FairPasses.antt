@@ -14,7 +14,7 @@ use Rattle.spin_session.specs.Ending as ending
 pub use Rattle.spin_session.specs.Ending.{Includes, Recalls}
 use Rattle.spin_session.specs.Turns as turns
 use Rattle.spin_session.specs.Turns.{SeatSpot}
-pub use Rattle.spin_session.specs.Passes.{◌⨾◌, After, history, lock_of, new_in, opening_of, party, OpensWith, Holds}
+pub use Rattle.spin_session.specs.Passes.{◌⨾◌, After, Learns, history, lock_of, new_in, opening_of, party, OpensWith, Holds}
 use Rattle.spin_fair.specs.Fair.{Done, View, fair_meaning, fair_tables}
 use Rattle.spin_fair.specs.declared.fair.FairMutex.{FairMutex}
 
@@ -43,9 +43,17 @@ module _ {T : Type 0} where
   abbrev pub WroteSome : FairCall → FairSpot T → FairSpot T → Type 0
   WroteSome = session.WroteSome fair_tables
 
+  -- From `before` to `now` the pass has acquired the lock by this call, and has found this value: the one written last.
+  abbrev pub FoundBy : FairCall → T → FairSpot T → FairSpot T → Type 0
+  FoundBy = session.FoundBy fair_tables
+
   -- The history is a schedule of the model. Unless a party still writes the value, the value is the one written last.
   abbrev pub Ends : Opening T → T × Trace (Done T) (Unit {0}) → Type 0
   Ends = ending.Ends fair_tables fair_meaning just_one
+
+  -- the same where no party still writes: the value is the one written last
+  abbrev pub Settles : Opening T → T × Trace (Done T) (Unit {0}) → Type 0
+  Settles = ending.Settles fair_tables fair_meaning just_one
 
   module _ {P R S : Type 0} where
     -- By this call the party at the spot has acquired the guard, whose value is the one written last.

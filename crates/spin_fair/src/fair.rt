@@ -1,12 +1,12 @@
 //! A spinning mutex in which starvers go before newcomers. Begin at [`FairMutex::lock`] and [`FairMutex::starve`].
-ghost use Rattle.std.specs.Prelude.{IfSome, IfOk};
+ghost use Rattle.std.specs.Prelude.{IfErr, IfSome, IfOk};
 ghost use Rattle.spin_step.specs.declared.answer.Answer.TheVariants.{Granted};
 ghost use Rattle.spin_step_more.specs.declared.fair_calls.FairCall.TheVariants.{Lock, TryLock, TryLockStarver, Starve};
-ghost use Rattle.spin_fair.specs.FairPasses.{Calls, Ends, Grants, OpensWith, new_in, opening};
+ghost use Rattle.spin_fair.specs.FairPasses.{Calls, Ends, Grants, OpensWith, Settles, new_in, opening};
 
 use spin_core::cell::Cell;
 use spin_core::guard::{self, Guard};
-use spin_core::lock::{Lock, with_guard};
+use spin_core::lock::{Acquire, Lock, Reserve, with_guard};
 use spin_core::relax::{RelaxStrategy, Spin, Strategy};
 use spin_core::tie::Opening;
 use spin_core::trace::Trace;
@@ -97,6 +97,36 @@ impl<T, R> FairMutex<T, R> {
     {
         let (_, value, history) = self.cell.into_parts();
         (value, history)
+    }
+
+    /// Consumes the mutex and returns the value with the lock's whole history, in `Ok` if nobody holds the lock any
+    /// more: no guard was leaked, and no hold dropped. Forgotten starvers do not matter.
+    ///
+    /// # Contract
+    /// The history is a schedule of the lock's model. In `Ok` the value is the one written last (`settled`). The call
+    /// returns.
+    ///
+    /// # Examples
+    /// ```
+    /// use spin::mutex::{FairMutex, FairMutexGuard};
+    ///
+    /// let lock: FairMutex<u64> = FairMutex::new(4);
+    /// *lock.lock(&rt) = 5;
+    /// assert_eq!(rt; lock.try_into_history().ok().expect(&rt, "it is free").0, 5);
+    /// let other: FairMutex<u64> = FairMutex::new(4);
+    /// *FairMutexGuard::leak(other.lock(&rt)) = 6;
+    /// assert!(rt; other.try_into_history().is_err());
+    /// ```
+    pub fn try_into_history(self) -> Result<(T, History<T>), (T, History<T>)>
+        ensures settled { IfOk result (Settles (opening self)) }
+        ensures held { IfErr result (Ends (opening self)) }
+    {
+        let (word, value, history) = self.cell.into_parts();
+        if fair::is_locked(word as usize) {
+            Err((value, history))
+        } else {
+            Ok((value, history))
+        }
     }
 
     /// Consumes the mutex and returns the value.
@@ -236,6 +266,8 @@ impl<T, R> FairMutex<T, R> {
 
 /// Creates an unlocked mutex that holds the default value.
 impl<T: Default, R> Default for FairMutex<T, R> {
+    ghost is_default = { λ lock. (value : T) × T.is_default value × OpensWith value (opening lock) };
+
     fn default() -> Self {
         Self::new(T::default())
     }
@@ -243,8 +275,29 @@ impl<T: Default, R> Default for FairMutex<T, R> {
 
 /// Creates an unlocked mutex that holds the value.
 impl<T, R> From<T> for FairMutex<T, R> {
+    ghost from_gives = { λ value lock. OpensWith value (opening lock) };
+
     fn from(value: T) -> Self {
         Self::new(value)
+    }
+}
+
+impl<'a, T: 'a, R: RelaxStrategy + 'a> Acquire<'a> for FairMutex<T, R> {
+    type Guard = FairMutexGuard<'a, T, R>;
+
+    type Relax = R;
+
+    ghost grants = { λ lock guard. Grants Lock (new_in (opening lock)) guard };
+
+    ghost tries = { λ lock guard. Grants TryLock (new_in (opening lock)) guard };
+
+    fn acquire<W: Wait>(&'a self, rt: &W) -> FairMutexGuard<'a, T, R> {
+        let session = enter(&self.cell);
+        acquire(session, FairCall::Lock, None, rt)
+    }
+
+    fn try_acquire(&'a self) -> Option<FairMutexGuard<'a, T, R>> {
+        self.try_lock()
     }
 }
 
@@ -255,5 +308,15 @@ impl<T, R: RelaxStrategy> Lock<T> for FairMutex<T, R> {
 
     fn try_with<A, F: FnOnce(&mut T) -> A>(&self, by: F) -> Result<A, F> {
         with_guard(self.try_lock(), by)
+    }
+}
+
+impl<'a, T: 'a, R: RelaxStrategy + 'a> Reserve<'a> for FairMutex<T, R> {
+    type Place = Starvation<'a, T, R>;
+
+    ghost has = { λ lock place. Calls Starve Granted (new_in (opening lock)) place };
+
+    fn reserve<W: Wait>(&'a self, rt: &W) -> Option<Starvation<'a, T, R>> {
+        self.starve(rt)
     }
 }

@@ -12,14 +12,14 @@ use Rattle.spin_step.specs.declared.flag_calls.FlagPoint.{FlagPoint}
 use Rattle.spin_step.specs.declared.place.Hold.{Hold}
 use Rattle.spin_step.specs.declared.place.Hold.TheVariants.{Write}
 use Rattle.spin_step.specs.declared.place.Seat.{Seat}
-use Rattle.spin_core.specs.Cell.{reads, MeetsRule}
+use Rattle.spin_core.specs.Cell.{reads, MeetsRule, writers_of}
 use Rattle.spin_core.specs.Views.{Part, HasPart, IsLockOf}
 use Rattle.spin_core.specs.declared.tie.Opening.{Opening}
 use Rattle.spin_core.specs.declared.trace.Trace.{Trace}
 use Rattle.spin_core.proofs.tie.Leaving.{flag_word-up}
-use Rattle.spin_core.proofs.tie.Owners.{OfHolders, one_holder}
+use Rattle.spin_core.proofs.tie.Owners.{OfHolders, one_holder, writers_among}
 use Rattle.spin_core.proofs.tie.Views.{release-own}
-use Rattle.spin_session.specs.Meaning.{part_of, use_at, Sound, ComesFrom, Refines, ways_of}
+use Rattle.spin_session.specs.Meaning.{AreWords, just_one, part_of, use_at, Sound, ComesFrom, Refines, ways_of}
 use Rattle.spin_session.proofs.Refining as session
 use Rattle.spin_flag.specs.Flag.{flag_meaning, Done, IsFlag, View}
 
@@ -51,3 +51,7 @@ starts opening trace named empty = session.starts (flag_table opening.value) fla
 
 pub never_reads : (v : View) → use_at flag_meaning v ≡ reads → ⊥
 never_reads v e = grind (arith, e)
+
+-- nobody writes while the flag is clear
+pub quiet : {m : Unit {0}} (n : ℕ) → n ≡ 0 → (seats : List View) → AreWords just_one flag_meaning n m seats → writers_of (use_at flag_meaning) seats ≡ 0
+quiet n clear seats is = let words = is.0 in omega (arith, clear, words.4, writers_among (part_of flag_meaning) (λ v. grind arith) seats words.0 words.3)

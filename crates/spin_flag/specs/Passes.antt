@@ -15,7 +15,7 @@ use Rattle.spin_session.specs.Ending as ending
 pub use Rattle.spin_session.specs.Ending.{Includes, Recalls}
 use Rattle.spin_session.specs.Turns as turns
 use Rattle.spin_session.specs.Turns.{SeatSpot}
-pub use Rattle.spin_session.specs.Passes.{◌⨾◌, After, history, lock_of, new_in, opening_of, party, OpensWith, Holds}
+pub use Rattle.spin_session.specs.Passes.{◌⨾◌, After, AreTwo, Learns, guard_spot, history, lock_of, new_in, opening_of, party, OpensWith, Holds}
 use Rattle.spin_flag.specs.Flag.{Done, View, flag_meaning, flag_tables}
 use Rattle.spin_flag.specs.declared.spin.SpinMutex.{SpinMutex}
 
@@ -44,9 +44,17 @@ module _ {T : Type 0} where
   abbrev pub WroteSome : FlagCall → FlagSpot T → FlagSpot T → Type 0
   WroteSome = session.WroteSome flag_tables
 
+  -- From `before` to `now` the pass has acquired the lock by this call, and has found this value: the one written last.
+  abbrev pub FoundBy : FlagCall → T → FlagSpot T → FlagSpot T → Type 0
+  FoundBy = session.FoundBy flag_tables
+
   -- The history is a schedule of the model. Unless a party still writes the value, the value is the one written last.
   abbrev pub Ends : Opening T → T × Trace (Done T) (Unit {0}) → Type 0
   Ends = ending.Ends flag_tables flag_meaning just_one
+
+  -- the same where no party still writes: the value is the one written last
+  abbrev pub Settles : Opening T → T × Trace (Done T) (Unit {0}) → Type 0
+  Settles = ending.Settles flag_tables flag_meaning just_one
 
   module _ {P R S : Type 0} where
     -- By this call the party at the spot has acquired the guard, whose value is the one written last.

@@ -1,13 +1,13 @@
 //! A spinning mutex of one flag: the thread that finds the flag clear sets it. Begin at [`SpinMutex::lock`].
-ghost use Rattle.std.specs.Prelude.{Option, IfSome};
+ghost use Rattle.std.specs.Prelude.{Option, IfSome, IfOk, IfErr};
 ghost use Rattle.std.specs.Fmt.{DisplaysOnOk};
 ghost use Rattle.spin_core.specs.Texts.{lock_text};
 ghost use Rattle.spin_step.specs.declared.flag_calls.FlagCall.TheVariants.{Lock, TryLock};
-ghost use Rattle.spin_flag.specs.Passes.{Ends, Grants, OpensWith, new_in, opening};
+ghost use Rattle.spin_flag.specs.Passes.{Ends, Grants, OpensWith, Settles, new_in, opening};
 
 use spin_core::cell::Cell;
 use spin_core::guard::{self, Guard};
-use spin_core::lock::{Lock, with_guard};
+use spin_core::lock::{Acquire, Lock, with_guard};
 use spin_core::relax::{RelaxStrategy, Spin, Strategy};
 use spin_core::texts::write_lock;
 use spin_core::tie::Opening;
@@ -122,6 +122,24 @@ impl<T, R> SpinMutex<T, R> {
         (value, history)
     }
 
+    /// Consumes the mutex and returns the value with the lock's whole history, in `Ok` if nobody holds the lock any
+    /// more: no guard was leaked, and no hold dropped.
+    ///
+    /// # Contract
+    /// The history is a schedule of the lock's model. In `Ok` the value is the one written last (`settled`). The call
+    /// returns.
+    pub fn try_into_history(self) -> Result<(T, History<T>), (T, History<T>)>
+        ensures settled { IfOk result (Settles (opening self)) }
+        ensures held { IfErr result (Ends (opening self)) }
+    {
+        let (word, value, history) = self.cell.into_parts();
+        if word == 0 {
+            Ok((value, history))
+        } else {
+            Err((value, history))
+        }
+    }
+
     /// Consumes the mutex and returns the value.
     ///
     /// It does not look at the flag, since no other thread has the mutex. So it also returns the value if a guard was
@@ -224,6 +242,8 @@ impl<T, R> SpinMutex<T, R> {
 
 /// Creates an unlocked mutex that holds the default value.
 impl<T: Default, R> Default for SpinMutex<T, R> {
+    ghost is_default = { λ lock. (value : T) × T.is_default value × OpensWith value (opening lock) };
+
     fn default() -> Self {
         Self::new(T::default())
     }
@@ -231,6 +251,8 @@ impl<T: Default, R> Default for SpinMutex<T, R> {
 
 /// Creates an unlocked mutex that holds the value.
 impl<T, R> From<T> for SpinMutex<T, R> {
+    ghost from_gives = { λ value lock. OpensWith value (opening lock) };
+
     fn from(value: T) -> Self {
         Self::new(value)
     }
@@ -242,6 +264,25 @@ impl<T: Debug, R> Debug for SpinMutex<T, R> {
         ensures { (found : Option T) × DisplaysOnOk W.write_str_gives f.old result (lock_text T.debug_output found) f.new }
     {
         write_lock(self.try_lock().as_ref().map(|guard| &**guard), f)
+    }
+}
+
+impl<'a, T: 'a, R: RelaxStrategy + 'a> Acquire<'a> for SpinMutex<T, R> {
+    type Guard = SpinMutexGuard<'a, T, R>;
+
+    type Relax = R;
+
+    ghost grants = { λ lock guard. Grants Lock (new_in (opening lock)) guard };
+
+    ghost tries = { λ lock guard. Grants TryLock (new_in (opening lock)) guard };
+
+    fn acquire<W: Wait>(&'a self, rt: &W) -> SpinMutexGuard<'a, T, R> {
+        let session = enter(&self.cell);
+        acquire(session, FlagCall::Lock, None, rt)
+    }
+
+    fn try_acquire(&'a self) -> Option<SpinMutexGuard<'a, T, R>> {
+        self.try_lock()
     }
 }
 

@@ -2,7 +2,7 @@
 use Rattle.std.specs.Prelude.{List}
 use Rattle.spin_history.specs.Entries.{Updates}
 use Rattle.spin_history.specs.declared.history.Snapshot.{Snapshot}
-use Rattle.spin_history.specs.declared.growing.Order.{Ghosts}
+use Rattle.spin_history.specs.declared.growing.Preorder.{Ghosts}
 use Rattle.spin_history.specs.declared.register.Register.{Register}
 
 module _ {T H P : Type 0} {order : Ghosts P T} where

@@ -8,12 +8,12 @@ use crate::register::Register;
 ///
 /// # Examples
 /// ```
-/// use spin_history::growing::{Growing, Order};
+/// use spin_history::growing::{Growing, Preorder};
 /// use spin_history::history::{BlankLog, History, Work, open};
 ///
 /// struct Descending;
 ///
-/// impl Order<u64> for Descending {
+/// impl Preorder<u64> for Descending {
 ///     ghost use Rattle.std.specs.Prelude.{◌≤◌};
 ///     ghost use Rattle.std.proofs.Common.{le_refl, le_trans};
 ///     ghost use Rattle.std.proofs.Math.Bridge.{le_prop};
@@ -44,7 +44,7 @@ use crate::register::Register;
 ///
 /// assert_eq!(rt; open(CountDown), 8);
 /// ```
-pub trait Order<T> {
+pub trait Preorder<T> {
     ghost le: { T → T → Type 0 };
 
     ghost fact: { (x y : T) → IsProp (le x y) };
@@ -57,7 +57,7 @@ pub trait Order<T> {
 /// The order in which any value may follow any other: the default order of a [`Register`].
 pub struct Unordered;
 
-impl<T> Order<T> for Unordered {
+impl<T> Preorder<T> for Unordered {
     ghost use Rattle.std.specs.Prelude.{⊤};
     ghost use mathlib.Core.HLevel.{Unit-prop};
 
@@ -73,7 +73,7 @@ impl<T> Order<T> for Unordered {
 /// The order in which a number never falls.
 pub struct Ascending;
 
-impl Order<u64> for Ascending {
+impl Preorder<u64> for Ascending {
     ghost use Rattle.std.specs.Prelude.{ℕ, ◌≤◌};
     ghost use Rattle.std.proofs.Common.{le_refl, le_trans};
     ghost use Rattle.std.proofs.Math.Bridge.{le_prop};

@@ -2,10 +2,11 @@
 //! use it. The log is ghost state, and no lock is changed for it.
 //!
 //! Begin with [`register::Register`]. A [`growing::Growing`] value changes only as an order allows, and a
-//! [`tally::Tally`] has an exact total.
+//! [`tally::Tally`] has an exact total, and a [`quota::Quota`] one that was planned.
 #![tactic(auto)]
 
 pub mod growing;
 pub mod history;
+pub mod quota;
 pub mod register;
 pub mod tally;

@@ -28,13 +28,13 @@
 //!
 //! assert_eq!(rt; open(Publish(&rt)), (1, 2));
 //! ```
-ghost use Rattle.std.specs.Prelude.{◌≡◌, Some, IfSome, IfNone};
+ghost use Rattle.std.specs.Prelude.{◌≡◌, [], ◌∷◌, ◌++◌, Some, IfSome, IfNone};
 ghost use Rattle.std.specs.Fn.{FnOnceReturnsAt, FnOnceReturnsAtMut};
 ghost use mathlib.Core.List.{IsPrefix};
 ghost use Rattle.spin_history.specs.Entries.{last, InOrder, InOrder-prop, IsAtOrAfter, WritesOne, ReadsIn, WritesIn, UpdatesIn};
 ghost use Rattle.spin_history.specs.Known.{known_to, Finds, Inspects, Changes, ChangesBy, MayWrite};
 
-use crate::growing::{Order, Unordered};
+use crate::growing::{Preorder, Unordered};
 use crate::history::{History, Log, Snapshot};
 use spin_core::lock::{Lock, SharedLock};
 use std::marker::PhantomData;
@@ -48,7 +48,7 @@ mod calls;
 /// up to date, unless it is a try that fails. The value changes only as the order `P` allows; the default order
 /// allows every change.
 #[derive(Drop)]
-pub struct Register<T, H: History, P: Order<T> = Unordered> {
+pub struct Register<T, H: History, P: Preorder<T> = Unordered> {
     value: T,
     log: Log<T, H>,
     order: PhantomData<P>,
@@ -63,7 +63,7 @@ pub struct Register<T, H: History, P: Order<T> = Unordered> {
 /// closure is called with its last write (`ReadsIn`). Whether and when the call returns is not promised.
 pub fn inspect<
     T,
-    P: Order<T>,
+    P: Preorder<T>,
     H: History,
     L: Lock<Register<T, H, P>>,
     A,
@@ -78,7 +78,8 @@ pub fn inspect<
         rt,
         move |register: &mut Register<T, H, P>| -> (A, Snapshot<T, H>)
             requires { F.IsAlwaysCallable by }
-            ensures { (value : T) × (FnOnceReturnsAt F.FnOnce by value result.0 × ReadsIn P.le known.entries value result.1.entries) }
+            ensures found { (value : T) × (FnOnceReturnsAt F.FnOnce by value result.0 × ReadsIn P.le known.entries value result.1.entries) }
+            ensures same { register.new ≡ register.old }
         {
             let mut seen = known;
             let answer = register.inspect(by, &mut seen);
@@ -95,7 +96,7 @@ pub fn inspect<
 /// The caller's snapshot grows to a history that is in order, and the answer is its last write. So it is the
 /// last value that the caller saw, or a later one, whichever thread wrote it. Whether and when the call
 /// returns is not promised.
-pub fn read<T: Copy, P: Order<T>, H: History, L: Lock<Register<T, H, P>>, W: Wait>(
+pub fn read<T: Copy, P: Preorder<T>, H: History, L: Lock<Register<T, H, P>>, W: Wait>(
     rt: &W,
     lock: &L,
     seen: &mut Snapshot<T, H>,
@@ -122,7 +123,7 @@ pub fn read<T: Copy, P: Order<T>, H: History, L: Lock<Register<T, H, P>>, W: Wai
 /// Like that of [`inspect`].
 pub fn inspect_shared<
     T,
-    P: Order<T>,
+    P: Preorder<T>,
     H: History,
     L: SharedLock<Register<T, H, P>>,
     A,
@@ -152,7 +153,7 @@ pub fn inspect_shared<
 ///
 /// # Contract
 /// Like that of [`read`].
-pub fn read_shared<T: Copy, P: Order<T>, H: History, L: SharedLock<Register<T, H, P>>, W: Wait>(
+pub fn read_shared<T: Copy, P: Preorder<T>, H: History, L: SharedLock<Register<T, H, P>>, W: Wait>(
     rt: &W,
     lock: &L,
     seen: &mut Snapshot<T, H>,
@@ -178,7 +179,7 @@ pub fn read_shared<T: Copy, P: Order<T>, H: History, L: SharedLock<Register<T, H
 /// `Some` has a value like that of [`read`]. After `None` the caller's snapshot is unchanged. The contract
 /// does not say when the answer is `None`. A test shows that it is `None` only if the lock's `try_with` returns
 /// its closure.
-pub fn try_read<T: Copy, P: Order<T>, H: History, L: Lock<Register<T, H, P>>>(
+pub fn try_read<T: Copy, P: Preorder<T>, H: History, L: Lock<Register<T, H, P>>>(
     lock: &L,
     seen: &mut Snapshot<T, H>,
 ) -> Option<T>
@@ -188,7 +189,8 @@ pub fn try_read<T: Copy, P: Order<T>, H: History, L: Lock<Register<T, H, P>>>(
     let known = seen.copy();
     let read = lock.try_with(
         move |register: &mut Register<T, H, P>| -> (T, Snapshot<T, H>)
-            ensures { ReadsIn P.le known.entries result.0 result.1.entries }
+            ensures found { ReadsIn P.le known.entries result.0 result.1.entries }
+            ensures same { register.new ≡ register.old }
         {
             let mut seen = known;
             let value = register.read(&mut seen);
@@ -205,11 +207,13 @@ pub fn try_read<T: Copy, P: Order<T>, H: History, L: Lock<Register<T, H, P>>>(
 ///
 /// # Contract
 /// Like that of [`try_read`]. Whether and when the call returns is not promised.
-pub fn try_read_shared<T: Copy, P: Order<T>, H: History, L: SharedLock<Register<T, H, P>>, W: Wait>(
-    rt: &W,
-    lock: &L,
-    seen: &mut Snapshot<T, H>,
-) -> Option<T>
+pub fn try_read_shared<
+    T: Copy,
+    P: Preorder<T>,
+    H: History,
+    L: SharedLock<Register<T, H, P>>,
+    W: Wait,
+>(rt: &W, lock: &L, seen: &mut Snapshot<T, H>) -> Option<T>
     ensures found { IfSome result (λ value. Finds P.le value seen.old seen.new) }
     ensures refused { IfNone result (known_to seen.new ≡ known_to seen.old) }
 {
@@ -240,7 +244,7 @@ pub fn try_read_shared<T: Copy, P: Order<T>, H: History, L: SharedLock<Register<
 /// (`UpdatesIn`). Whether and when the call returns is not promised.
 pub fn change<
     T,
-    P: Order<T>,
+    P: Preorder<T>,
     H: History,
     L: Lock<Register<T, H, P>>,
     A,
@@ -257,7 +261,8 @@ pub fn change<
         move |register: &mut Register<T, H, P>| -> (A, Snapshot<T, H>)
             requires callable { F.IsAlwaysCallable by }
             requires grows { (x y : T) (a : A) → FnOnceReturnsAtMut F.FnOnce by x a y → P.le x y }
-            ensures { (before after : T) × (FnOnceReturnsAtMut F.FnOnce by before result.0 after × UpdatesIn P.le known.entries before after result.1.entries) }
+            ensures changed { (before after : T) × (FnOnceReturnsAtMut F.FnOnce by before result.0 after × UpdatesIn P.le known.entries before after result.1.entries) }
+            ensures one { register.new.log.entries ≡ register.old.log.entries ++ register.new.value ∷ [] }
         {
             let mut seen = known;
             let answer = register.change(by, &mut seen);
@@ -273,7 +278,7 @@ pub fn change<
 /// # Contract
 /// In the order, the new value has to be allowed to follow any other. The caller's snapshot grows to a
 /// history whose last write is the new value. Whether and when the call returns is not promised.
-pub fn write<T: Drop, P: Order<T>, H: History, L: Lock<Register<T, H, P>>, W: Wait>(
+pub fn write<T: Drop, P: Preorder<T>, H: History, L: Lock<Register<T, H, P>>, W: Wait>(
     rt: &W,
     lock: &L,
     new: T,
@@ -305,7 +310,7 @@ pub fn write<T: Drop, P: Order<T>, H: History, L: Lock<Register<T, H, P>>, W: Wa
 /// (`UpdatesIn`). Whether and when the call returns is not promised.
 pub fn update<
     T: Drop,
-    P: Order<T>,
+    P: Preorder<T>,
     H: History,
     L: Lock<Register<T, H, P>>,
     F: FnOnce(&T) -> T,
@@ -361,7 +366,7 @@ pub fn update<
 ///
 /// assert_eq!(rt; open(TryBesideReader(&rt)), (false, true));
 /// ```
-pub fn try_write<T: Drop, P: Order<T>, H: History, L: Lock<Register<T, H, P>>>(
+pub fn try_write<T: Drop, P: Preorder<T>, H: History, L: Lock<Register<T, H, P>>>(
     lock: &L,
     new: T,
     seen: &mut Snapshot<T, H>,
@@ -373,7 +378,8 @@ pub fn try_write<T: Drop, P: Order<T>, H: History, L: Lock<Register<T, H, P>>>(
     let wrote = lock.try_with(
         move |register: &mut Register<T, H, P>| -> Snapshot<T, H>
             requires { (x : T) → P.le x new }
-            ensures { WritesIn P.le known.entries new result.entries }
+            ensures wrote { WritesIn P.le known.entries new result.entries }
+            ensures one { register.new.log.entries ≡ register.old.log.entries ++ new ∷ [] }
         {
             let mut seen = known;
             register.write(new, &mut seen);

@@ -1,10 +1,10 @@
 -- Suppose that what a waiting call asks is open. In as many rounds as an undisturbed call takes steps, the call is
 -- answered, or another party changes a word, or the call's own exchange fails spuriously.
-use Rattle.spin_laws.proofs.Names.{seat_of, ◌≡◌, ℕ, ◌+◌, ◌-◌, ◌<◌, ◌≤◌, ◌⊎◌, ◌==◌, ◌&&◌, ◌||◌, Bool, true, false, not, Option, Some, List, [], ◌∷◌, ◌++◌, length, slice_get, if◌then◌else◌, refl, ap, sym, ◌∙◌, subst, arith, inl, inr, ⊎_elim, cases_eq, eqb-true, ne_eqb, false≢true, Plain, Change, Hold, Calling, Next, Continue, Answers, Move, Step, Outcome, Mark, joined, Machine, Seen, Scene, scene, opening, State, happens, after, at_first, goes_on, seen_after, eqb_self, get-set_same, state-seen_after, Test, occurs, MovesOn, AreRounds, is_call_step, max}
+use Rattle.spin_laws.proofs.Names.{seat_of, ◌≡◌, ℕ, ◌+◌, ◌-◌, ◌<◌, ◌≤◌, ◌⊎◌, ◌==◌, ◌&&◌, ◌||◌, Bool, true, false, not, Option, Some, List, [], ◌∷◌, ◌++◌, length, slice_get, if◌then◌else◌, refl, ap, sym, ◌∙◌, subst, arith, inl, inr, ⊎_elim, cases_eq, eqb-true, ne_eqb, false≢true, Plain, Change, Hold, Calling, Next, Continue, Answers, Move, Step, Outcome, Mark, joined, Machine, Seen, Scene, scene, opening, State, happens, after, at_first, goes_on, seen_after, eqb_self, get-set_same, state-seen_after, Test, occurs, MovesOn, is_call_step, max}
 use Rattle.spin_world_core.proofs.Names.{StepKind, by_step, AllOf, LeavesAlone, UndisturbedTakes, is_open_now, steps_alone, Lawful, Every, IsInTime, KeepsPromises, and_from, encoded, mark_of, scene_of}
 use Rattle.spin_world_core.proofs.Every.{left_after}
 use Rattle.spin_world_core.specs.Spans.{own_count}
-use Rattle.spin_laws.specs.Alone.{same_numbers, disturbs, ends_or_fails, AnsweredOrDisturbed}
+use Rattle.spin_laws.specs.Alone.{same_numbers, disturbs, ends_or_fails, AnsweredOrDisturbed, StepsInEach}
 use Rattle.spin_laws.proofs.Waiting.{of_call, same_beside, or_left, or_right}
 
 same_is : (xs ys : List ℕ) → same_numbers xs ys ≡ true → xs ≡ ys
@@ -122,12 +122,12 @@ module _ {W V C L A : Type 0} (m : Machine W V C L A) (p : ℕ) (c : C) (h : Opt
         (event seen taken q e.0 e.1 keeps.0 time.0)
 
     rounds_through : (rounds : List (List (ℕ × Move C V))) (seen : Seen W V C L) (taken : ℕ) → Every (KeepsPromises m) m seen (joined rounds) → Every (IsInTime m) m seen (joined rounds) → Quiet seen taken
-        → AreRounds m seen.state rounds → max 1 most ≤ taken + length rounds → Stops seen.state (joined rounds)
+        → StepsInEach m p seen.state rounds → max 1 most ≤ taken + length rounds → Stops seen.state (joined rounds)
     rounds_through [] seen taken keeps time q are enough = absurd (omega (arith, enough, q.few))
     rounds_through (es ∷ rounds) seen taken keeps time q are enough =
         through es (joined rounds) seen taken keeps time q (λ later more stepped keeps time q'.
-        let less = stepped (subst (MovesOn m seen.state es p) q.at (are.0 p)) in
-        rounds_through rounds (seen_after m seen es) later keeps time q' (subst (λ s. AreRounds m s rounds) (sym (state-seen_after m seen es)) are.1) (omega (arith, enough, less)))
+        let less = stepped (subst (MovesOn m seen.state es p) q.at are.0) in
+        rounds_through rounds (seen_after m seen es) later keeps time q' (subst (λ s. StepsInEach m p s rounds) (sym (state-seen_after m seen es)) are.1) (omega (arith, enough, less)))
 
 module _ {W V C L A : Type 0} (m : Machine W V C L A) where
   pub answered_or_disturbed : Lawful m → (n : ℕ) (past : List (ℕ × Move C V)) (rounds : List (List (ℕ × Move C V))) → AnsweredOrDisturbed m n past rounds
@@ -146,4 +146,4 @@ module _ {W V C L A : Type 0} (m : Machine W V C L A) where
         few = omega arith;
         encodes = left_after m (λ s. m.numbers s.state.words ≡ encoded m.lock_kind s.plain) (KeepsPromises m) (λ s keeps. keeps.encodes) (opening m n) past here.each here.first;
       })
-      (subst (λ s. AreRounds m s rounds) (sym same) are) (omega (arith, some, enough)))
+      (subst (λ s. StepsInEach m p s rounds) (sym same) are) (omega (arith, some, enough)))

@@ -21,3 +21,9 @@ pub mod Counts
 pub mod Moments
 pub mod Onces
 pub mod Sure
+pub mod Several
+pub mod KeptOut
+pub mod AnyLocks
+pub mod Waits
+pub mod Blockers
+pub mod Joins

@@ -2,7 +2,7 @@
 -- which is a number of rounds and no atomic load. After at most this many rounds the party lets the others continue. A
 -- round lowers the highest loads by one, or reaches the goal. The record `Walks` below has what is to be shown of the
 -- steps of each object. All other moves are alike in every object.
-use Rattle.spin_laws.proofs.Names.{suc, max, if◌then◌else◌, eqb_self, ne_eqb, eq-eqb, entries, Gone, entries_of, Table, machine_of, entries_held, Notes, StandsSo, row_passes, ◌≡◌, ℕ, ◌<◌, ◌≤◌, ◌⊎◌, ◌==◌, ◌||◌, Bool, true, false, Option, Some, None, List, [], ◌∷◌, ◌++◌, length, slice_get, refl, ap, sym, ◌∙◌, subst, arith, inl, inr, ⊎_elim, cases_eq, cases_lt, false≢true, Plain, IsOpenStep, Hold, Seat, Calling, Holding, Leaked, Next, Move, Begin, Step, Weak, BelongsTo, Machine, goes_on, resting, is_owners, Seen, Scene, scene, scene_at, opening, joined, seen_after, after, at_first, ◌-◌, get-set_same, of_event, Plays, Invariant, kept, state-seen_after, state_is, seat_is, Test, occurs, IsRound, AreRounds}
+use Rattle.spin_laws.proofs.Names.{Outcome, suc, max, if◌then◌else◌, eqb_self, ne_eqb, eq-eqb, entries, Gone, entries_of, Table, machine_of, entries_held, Notes, StandsSo, row_passes, ◌≡◌, ℕ, ◌<◌, ◌≤◌, ◌⊎◌, ◌==◌, ◌||◌, Bool, true, false, Option, Some, None, List, [], ◌∷◌, ◌++◌, length, slice_get, refl, ap, sym, ◌∙◌, subst, arith, inl, inr, ⊎_elim, cases_eq, cases_lt, false≢true, Plain, IsOpenStep, Hold, Seat, Calling, Holding, Leaked, Next, Move, Begin, Step, Weak, BelongsTo, Machine, goes_on, resting, is_owners, Seen, Scene, scene, scene_at, opening, joined, seen_after, after, at_first, ◌-◌, get-set_same, of_event, Plays, Invariant, kept, state-seen_after, state_is, seat_is, Test, occurs, IsRound, AreRounds}
 use Rattle.spin_laws.specs.Rounds.{is_release}
 use Rattle.spin_world_core.proofs.Names.{StepKind}
 use Rattle.spin_laws.proofs.Waiting.{of_call, or_left, or_right, or_rest, held_by, is_busy, is_idle, unawaited, awaited_of, same_beside, no_owner, moves_on}
@@ -13,6 +13,14 @@ use Rattle.spin_step.specs.StepKinds as step_kind
 use Rattle.spin_world_core.specs.Runs.{seat_of, scene_of}
 use Rattle.spin_world_core.proofs.Steps.{played}
 use Rattle.spin_world_core.proofs.Reached as reached
+
+held_resting : (C L : Type 0) (h : Option Hold) → held_by {C = C} {L = L} (Some (resting h)) ≡ h
+held_resting C L None = refl
+held_resting C L (Some h) = refl
+
+either_way : (b : Bool) → (b ≡ true) ⊎ (b ≡ false)
+either_way true = inl refl
+either_way false = inr refl
 
 -- the party's seat implies that the party has entries in the plain lock that pass this test
 
@@ -175,7 +183,10 @@ module _ {W V C L A B : Type 0} {t : Table W V C L B} {given : Machine W V C L A
     within_all sc pays q = ⊎_elim (λ (low : load seen l q ≤ n). omega (arith, low)) (λ y. y.0) (pays q)
 
     within : (sc : Event) → ((q : ℕ) → Pays_by sc q) → Within seen l (suc n)
-    within sc pays = grind (arith, within_all, own_load, other_load)
+    within sc pays = record {
+      mine = subst (λ k. k ≤ suc n) (own_load seen.plain l (seat_of seen p)) (within_all sc pays p);
+      theirs = λ q ne. subst (λ k. k ≤ suc n) (other_load seen.plain l q (seat_of seen q) ne) (within_all sc pays q);
+    }
 
     -- the load of a party that does not step, by whether it is the waiting party
     by_whom : (sc : Event) (i : L) (o : ℕ) → ((o ≡ p) → x.mine sc.after.plain i ≤ max (x.mine seen.plain l) n) → ((o ≡ p → ⊥) → x.theirs sc.after.plain i o (seat_of seen o) ≤ max (theirs seen l o) n)
@@ -203,10 +214,22 @@ module _ {W V C L A B : Type 0} {t : Table W V C L B} {given : Machine W V C L A
         inr (l, (same p ∙ w.0, w.1, made.known, made.good), λ o. stays sc l o (same o) (rw plain (omega arith)) (λ e. idle) (pays o))
 
     module _ (q : ℕ) (ne : q ≡ p → ⊥) where
+      -- the load of q, which now has this seat, falls (or was 0), or does not rise and the move is not awaited
+      abbrev Slows : Move C V → Outcome A V → Option (Seat C L) → Type 0
+      Slows move what o = (load_by seen.plain l q o ≤ load seen l q - 1) ⊎ ((load_by seen.plain l q o ≤ load seen l q) × (held_by o ≡ held_by (seat_of seen q)) × (awaited q (seat_of seen q) q move what o ≡ false))
+
+      begins_slow : (d : C) (i : L) (j : Option Hold) → seat_of seen q ≡ Some (resting j) → m.begin d j ≡ Some i → Slows (Begin d) (begun seen.state q d j (Some i)).outcome (Some (Calling d i j))
+      begins_slow d i j at may =
+          let b = walks.begins seen l w q d i j ne at may in
+          let his = other_load seen.plain l q (seat_of seen q) ne in let now = other_load seen.plain l q (Some (Calling d i j)) ne in
+          let held : j ≡ held_by (seat_of seen q) = sym (ap held_by at ∙ held_resting C L j) in
+          ⊎_elim (λ (is : is_release (m.asks d j) ≡ true). inl (omega (arith, his, now, b.1 is)))
+          (λ (no : is_release (m.asks d j) ≡ false). inr (omega (arith, his, now, b.0), held, subst (λ h. awaited_of m q h q (Begin d) (begun seen.state q d j (Some i)).outcome (Some (Calling d i j)) ≡ false) held (grind (arith, no))))
+          (either_way (is_release (m.asks d j)))
+
       -- an event without a plain step, at which the load of q falls (or was 0), or does not rise and is not awaited
-      slows : (move : Move C V) (at : Option (Seat C L)) (h : Happened W V C L A) (kind : StepKind) → let sc = scene_of seen q move at h None kind None in let o = seat_of sc.after q in
-          (load_by seen.plain l q o ≤ load seen l q - 1) ⊎ ((load_by seen.plain l q o ≤ load seen l q) × (held_by o ≡ held_by (seat_of seen q)) × (awaited q (seat_of seen q) q move h.outcome o ≡ false))
-          → After seen q sc → Goes sc
+      slows : (move : Move C V) (at : Option (Seat C L)) (h : Happened W V C L A) (kind : StepKind) → let sc = scene_of seen q move at h None kind None in
+          Slows move h.outcome (seat_of sc.after q) → After seen q sc → Goes sc
       slows move at h kind slow after pays =
           let sc = scene_of seen q move at h None kind None in
           on q sc l refl after pays (after.others p ne ∙ w.0) w.1
@@ -220,7 +243,7 @@ module _ {W V C L A B : Type 0} {t : Table W V C L B} {given : Machine W V C L A
           (record {
             passes = λ move o r at closed. quiet q _ refl refl refl;
             begins = λ d i j at may. slows (Begin d) (Some (resting j)) (begun seen.state q d j (Some i)) _
-                (grind (arith, other_load, walks.begins seen l w q d i j ne at may, at, get-set_same seen.state.seats q (Calling d i j) _ at));
+                (subst (Slows (Begin d) (begun seen.state q d j (Some i)).outcome) (sym (get-set_same seen.state.seats q (Calling d i j) _ at)) (begins_slow d i j at may));
             steps = λ d i j at after pays. let sc = scene_at m seen q Step (Some (Calling d i j)) in
                 ⊎_elim inl (λ (falls : Falls seen l q sc n).
                 on q sc l refl after pays (after.others p ne ∙ w.0) w.1 (inl (omega (arith, falls.his, other_load sc.after.plain l q (seat_of sc.after q) ne)))

@@ -10,7 +10,7 @@ use Rattle.spin_world_core.specs.Joined.{joined}
 use Rattle.spin_world_core.specs.Runs.{opening}
 use Rattle.spin_world_core.specs.Users.{seen_after}
 use Rattle.spin_world_core.specs.Undisturbed.{is_open_now, steps_alone}
-use Rattle.spin_laws.specs.Rounds.{Test, occurs, AreRounds, refuses_weakly}
+use Rattle.spin_laws.specs.Rounds.{Test, occurs, MovesOn, refuses_weakly}
 use Rattle.spin_step.specs.declared.schedule.Outcome.TheVariants as outcome
 
 abbrev pub same_numbers : List ℕ → List ℕ → Bool
@@ -28,13 +28,18 @@ disturbs m p s (e ∷ es) =
 abbrev pub ends_or_fails : {V C L A : Type 0} → ℕ → Test V C L A
 ends_or_fails p q move o x = elim o [ outcome.Answered a b ↦ q == p | other ↦ refuses_weakly p q move other x ]
 
--- Suppose that a party's call waits, and that what the call asks is open. Take as many rounds as an undisturbed call
--- takes steps (`steps_alone`), at least one. In them the call is answered, or another party changes a word, or the
+-- in each of these stretches of a schedule the party takes a step of its call, if it is in one
+abbrev pub StepsInEach : {W V C L A : Type 0} → Machine W V C L A → ℕ → State W V C L → List (List (ℕ × Move C V)) → Type 0
+StepsInEach m p s [] = Unit {0}
+StepsInEach m p s (es ∷ rest) = MovesOn m s es p (slice_get s.seats p) × StepsInEach m p (after m s es) rest
+
+-- Suppose that a party's call waits, and that what the call asks is open. Take as many stretches in which the party takes a step as
+-- an undisturbed call takes steps (`steps_alone`), at least one. In them the call is answered, or another party changes a word, or the
 -- call's own exchange fails spuriously.
 abbrev pub AnsweredOrDisturbed : {W V C L A : Type 0} → Machine W V C L A → ℕ → List (ℕ × Move C V) → List (List (ℕ × Move C V)) → Type 0
 AnsweredOrDisturbed {C = C} {L = L} m n past rounds =
     let seen = seen_after m (opening m n) past in
     let s = after m (at_first m n) past in
     (p : ℕ) (c : C) (l : L) (h : Option Hold) → slice_get s.seats p ≡ Some (Calling c l h) → is_open_now p (m.asks c h) (seen.span p) seen.plain ≡ true
-    → AreRounds m s rounds → 1 ≤ length rounds → steps_alone (m.asks c h) ≤ length rounds
+    → StepsInEach m p s rounds → 1 ≤ length rounds → steps_alone (m.asks c h) ≤ length rounds
     → (occurs m (ends_or_fails p) s (joined rounds) ≡ true) ⊎ (disturbs m p s (joined rounds) ≡ true)

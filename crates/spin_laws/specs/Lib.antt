@@ -13,3 +13,8 @@ pub mod Moments
 pub mod Onces
 pub mod Progress
 pub mod TicketTurns
+pub mod Several
+pub mod KeptOut
+pub mod AnyLocks
+pub mod Waits
+pub mod Joins

@@ -171,6 +171,14 @@ pub fn a_count_of_a_rwlock_was_so_at_a_moment<T>()
         Found (rwlock.model opening) RwLockView rw.WriterCount (Count count) (Was writers count) }
 {}
 
+/// If a pass called `is_locked` of an `RwLock` once, then at some moment of the call the lock was as the answer says.
+///
+/// # Contract
+/// `Found`: at a moment of the call the test `is_held` of the plain lock gave the same answer as the call.
+pub fn a_look_at_a_rwlock_was_so_at_a_moment<T>()
+    ensures { (opening : T) (held : Bool) → Found (rwlock.model opening) RwLockView rw.IsLocked (Is held) (Was is_held held) }
+{}
+
 /// If a pass counted the taken seats of a `Seats` once, the count was right at a moment of the call.
 ///
 /// # Contract

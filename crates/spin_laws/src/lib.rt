@@ -19,6 +19,7 @@
 mod answers;
 mod laws;
 mod limits;
+mod order;
 mod progress;
 mod rounds;
 pub mod uses;
@@ -26,11 +27,11 @@ pub mod uses;
 pub use answers::{
     a_call_without_a_value_found_none_at_a_moment, a_count_of_a_rwlock_was_so_at_a_moment,
     a_count_of_seats_was_so_at_a_moment, a_look_at_a_fair_mutex_was_so_at_a_moment,
-    a_look_at_a_once_was_so_at_a_moment, a_look_at_a_spin_mutex_was_so_at_a_moment,
-    a_look_at_a_ticket_mutex_was_so_at_a_moment, a_refused_starve_found_as_many_as_may_starve,
-    a_refused_starver_was_kept_out_at_a_moment, a_refused_try_found_all_seats_taken,
-    a_refused_try_found_the_fair_mutex_held_or_starved, a_refused_try_found_the_spin_mutex_held,
-    a_refused_try_found_the_ticket_mutex_held_or_used_up,
+    a_look_at_a_once_was_so_at_a_moment, a_look_at_a_rwlock_was_so_at_a_moment,
+    a_look_at_a_spin_mutex_was_so_at_a_moment, a_look_at_a_ticket_mutex_was_so_at_a_moment,
+    a_refused_starve_found_as_many_as_may_starve, a_refused_starver_was_kept_out_at_a_moment,
+    a_refused_try_found_all_seats_taken, a_refused_try_found_the_fair_mutex_held_or_starved,
+    a_refused_try_found_the_spin_mutex_held, a_refused_try_found_the_ticket_mutex_held_or_used_up,
     a_refused_try_read_was_kept_out_at_a_moment, a_refused_try_upgrade_was_kept_out_at_a_moment,
     a_refused_try_upgradeable_read_was_kept_out_at_a_moment,
     a_refused_try_write_was_kept_out_at_a_moment, the_reason_for_a_refusal_was_so_at_a_moment,
@@ -47,6 +48,13 @@ pub use limits::{
     a_call_of_a_spin_mutex_keeps_its_limit, a_call_of_a_ticket_mutex_keeps_its_limit,
     a_call_of_seats_keeps_its_limit, a_lock_of_a_ticket_mutex_enters_in_turn,
     a_lock_of_a_ticket_mutex_has_its_ticket_in_time, an_upgrade_of_a_rwlock_asks_by_its_first_step,
+};
+pub use order::{
+    a_fair_lock_keeps_out_by_what_is_asked, a_flag_keeps_out_by_what_is_asked,
+    a_once_keeps_out_by_what_is_asked, a_read_write_lock_keeps_out_by_what_is_asked,
+    a_ticket_lock_keeps_out_by_what_is_asked, locks_in_order_are_free_of_deadlock,
+    seats_keep_out_by_what_is_asked, some_party_goes_on, some_party_goes_on_beside_joins,
+    waits_have_no_cycle,
 };
 pub use progress::{
     an_upgrade_of_a_rwlock_is_granted_in_three_rounds,

@@ -25,7 +25,8 @@ ghost use Rattle.spin_laws.specs.Onces.{foretold_till, has_value};
 
 use crate::answers::{
     a_count_of_a_rwlock_was_so_at_a_moment, a_look_at_a_fair_mutex_was_so_at_a_moment,
-    a_look_at_a_once_was_so_at_a_moment, a_look_at_a_spin_mutex_was_so_at_a_moment,
+    a_look_at_a_once_was_so_at_a_moment, a_look_at_a_rwlock_was_so_at_a_moment,
+    a_look_at_a_spin_mutex_was_so_at_a_moment,
     a_refused_try_found_the_ticket_mutex_held_or_used_up,
 };
 use spin_fair::fair::Pass as FairPass;
@@ -72,6 +73,15 @@ pub fn count_the_readers<T, R>(pass: RwPass<'_, T, R>) -> (usize, RwPass<'_, T, 
 {
     a_count_of_a_rwlock_was_so_at_a_moment::<T>();
     pass.reader_count()
+}
+
+/// Asks once whether an `RwLock` is held.
+pub fn look_at_a_rwlock<T, R>(pass: RwPass<'_, T, R>) -> (bool, RwPass<'_, T, R>)
+    ensures { AtAMoment (rwlock.model (rw_passes.opening_of pass.entry).value) rw.IsLocked (rw_passes.party result.1)
+        (rw_passes.history pass.entry) (rw_passes.history result.1) (Was is_held result.0) }
+{
+    a_look_at_a_rwlock_was_so_at_a_moment::<T>();
+    pass.is_locked()
 }
 
 /// Asks once whether a `Once` has a value.

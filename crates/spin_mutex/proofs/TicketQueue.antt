@@ -15,7 +15,7 @@ pub plain_queue : (next serving : ℕ) (vs : List View) (is : Word next serving 
 plain_queue next serving vs is = record {
   next_is = is.4;
   serving_is = is.5;
-  numbered = is.2.numbered;
+  numbered = (is.2.numbered.0, is.2.numbered.1 is.1);
   one_entered = is.2.exclusive.one_entered;
   parties = λ id v at. ap (λ e. e.tickets) (is.3 id).0 ∙ (ap (λ x. (entries_of_part id x).tickets) (part-there part id v vs at) ∙ grind arith);
   nobody_else = λ id far. ap (λ e. e.tickets) (is.3 id).0 ∙ ap (λ x. (entries_of_part id x).tickets) (part-beyond part id vs far);
@@ -30,8 +30,8 @@ in_turn next serving vs is = let s = is.0 in let order = is.2 in
     record {
       in_order = omega (arith, is.4, is.5, order.numbered.0);
       within_limit = omega (arith, is.4, order.within_limit);
-      one_each = λ t low high. count t ∙ count-between t (serving_word s) s.tickets order.numbered.1 (omega (arith, low, is.5)) (omega (arith, high, is.4, order.numbered.0));
-      none_served = λ t low. count t ∙ count-lower t (serving_word s) s.tickets order.numbered.1 (omega (arith, low, is.5));
-      none_untaken = λ t high. count t ∙ count-upper t (serving_word s) s.tickets order.numbered.1 (omega (arith, high, is.4, order.numbered.0));
-      in_turn = λ id t at. sym (entered_is_served s id t order.numbered order.exclusive.one_entered (plain.parties id (Holding (hold.Ticket t)) at)).1 ∙ sym is.5;
+      one_each = λ t low high. count t ∙ count-between t (serving_word s) s.tickets (order.numbered.1 is.1) (omega (arith, low, is.5)) (omega (arith, high, is.4, order.numbered.0));
+      none_served = λ t low. count t ∙ count-lower t (serving_word s) s.tickets (order.numbered.1 is.1) (omega (arith, low, is.5));
+      none_untaken = λ t high. count t ∙ count-upper t (serving_word s) s.tickets (order.numbered.1 is.1) (omega (arith, high, is.4, order.numbered.0));
+      in_turn = λ id t at. sym (entered_is_served s id t (order.numbered.0, order.numbered.1 is.1) order.exclusive.one_entered (plain.parties id (Holding (hold.Ticket t)) at)).1 ∙ sym is.5;
     }

@@ -14,7 +14,7 @@ use Rattle.spin_session.specs.Ending as ending
 pub use Rattle.spin_session.specs.Ending.{Includes, Recalls}
 use Rattle.spin_session.specs.Turns as turns
 use Rattle.spin_session.specs.Turns.{SeatSpot}
-pub use Rattle.spin_session.specs.Passes.{◌⨾◌, After, history, lock_of, new_in, opening_of, party, OpensWith, Holds}
+pub use Rattle.spin_session.specs.Passes.{◌⨾◌, After, history, lock_of, new_in, opening_of, party, OpensAt, OpensWith, Holds, Learns}
 use Rattle.spin_mutex.specs.Queue.{Made, View, ticket_meaning, ticket_tables}
 use Rattle.spin_mutex.specs.declared.ticket.TicketMutex.{TicketMutex}
 
@@ -43,9 +43,17 @@ module _ {T : Type 0} where
   abbrev pub WroteSome : TicketCall → TicketSpot T → TicketSpot T → Type 0
   WroteSome = session.WroteSome ticket_tables
 
+  -- From `before` to `now` the pass has acquired the lock by this call, and has found this value: the one written last.
+  abbrev pub FoundBy : TicketCall → T → TicketSpot T → TicketSpot T → Type 0
+  FoundBy = session.FoundBy ticket_tables
+
   -- The history is a schedule of the model. Unless a party still writes the value, the value is the one written last.
   abbrev pub Ends : Opening T → T × Trace (Made T) ℕ → Type 0
   Ends = ending.Ends ticket_tables ticket_meaning with_second
+
+  -- the same where no party still writes: the value is the one written last
+  abbrev pub Settles : Opening T → T × Trace (Made T) ℕ → Type 0
+  Settles = ending.Settles ticket_tables ticket_meaning with_second
 
   module _ {P R S : Type 0} where
     -- By this call the party at the spot has acquired the guard, whose value is the one written last.

@@ -1,9 +1,9 @@
 //! `Mutex`, which uses only the contract of an inner lock. Begin at [`Mutex::lock`].
-ghost use Rattle.std.specs.Prelude.{◌≡◌, IfSome};
-ghost use Rattle.spin_mutex.specs.Mutex.{Ends, Grants, Lock, OpensWith, TryLock, new_in, opening};
+ghost use Rattle.std.specs.Prelude.{◌≡◌, IfErr, IfOk, IfSome};
+ghost use Rattle.spin_mutex.specs.Mutex.{Ends, Grants, Lock, OpensWith, Settles, TryLock, new_in, opening};
 
 use crate::ticket::{self, TicketMutex, TicketMutexGuard};
-use spin_core::lock::{Lock, with_guard};
+use spin_core::lock::{Acquire, Lock, with_guard};
 use spin_core::relax::{RelaxStrategy, Spin};
 use std::sync::Wait;
 
@@ -13,9 +13,8 @@ pub mod tickets;
 /// A mutual exclusion lock on which a waiting thread spins.
 ///
 /// It contains a [`TicketMutex`], so threads are served in the order of their tickets. The contract does not
-/// say which lock that is. A waiting thread passes the time with the strategy `R`. With [`Spin`] each waiting thread
-/// needs a processor: else the next in the queue may have none, and the queue nearly stands still. Use the strategy
-/// `SpinThenYield` then, or a `SpinMutex`.
+/// say which lock that is. A waiting thread passes the time with the strategy `R`. With more threads than processors the
+/// next in the queue may have none, and the others wait for it too: a `SpinMutex` is many times as fast then.
 ///
 /// # Contract
 /// While a guard or a hold of the lock lives, no other call acquires the lock. A guard gives a value of `T`,
@@ -87,6 +86,27 @@ impl<T, R> Mutex<T, R> {
         ensures { Ends (opening self) result }
     {
         self.inner.into_history()
+    }
+
+    /// Consumes the mutex and returns the value with the mutex's whole history, in `Ok` if nobody holds it any more, as
+    /// `TicketMutex::try_into_history` does.
+    ///
+    /// # Contract
+    /// The history is a schedule of the model. In `Ok` the value is the one written last (`settled`). The call returns.
+    ///
+    /// # Examples
+    /// ```
+    /// use spin::Mutex;
+    ///
+    /// let total: Mutex<u64> = Mutex::new(1);
+    /// *total.lock(&rt) = 7;
+    /// assert_eq!(rt; total.try_into_history().ok().expect(&rt, "it is free").0, 7);
+    /// ```
+    pub fn try_into_history(self) -> Result<(T, ticket::History<T>), (T, ticket::History<T>)>
+        ensures settled { IfOk result (Settles (opening self)) }
+        ensures held { IfErr result (Ends (opening self)) }
+    {
+        self.inner.try_into_history()
     }
 
     /// Consumes the mutex and returns the value.
@@ -216,6 +236,8 @@ impl<T, R: RelaxStrategy> Mutex<T, R> {
 }
 
 impl<T: Default, R> Default for Mutex<T, R> {
+    ghost is_default = { λ lock. (value : T) × T.is_default value × OpensWith value (opening lock) };
+
     fn default() -> Self {
         Self::new(T::default())
     }
@@ -223,8 +245,28 @@ impl<T: Default, R> Default for Mutex<T, R> {
 
 /// Creates an unlocked mutex that holds the value.
 impl<T, R> From<T> for Mutex<T, R> {
+    ghost from_gives = { λ value lock. OpensWith value (opening lock) };
+
     fn from(value: T) -> Self {
         Self::new(value)
+    }
+}
+
+impl<'a, T: 'a, R: RelaxStrategy + 'a> Acquire<'a> for Mutex<T, R> {
+    type Guard = MutexGuard<'a, T, R>;
+
+    type Relax = R;
+
+    ghost grants = { λ lock guard. Grants Lock (new_in (opening lock)) guard };
+
+    ghost tries = { λ lock guard. Grants TryLock (new_in (opening lock)) guard };
+
+    fn acquire<W: Wait>(&'a self, rt: &W) -> MutexGuard<'a, T, R> {
+        self.inner.acquire(rt)
+    }
+
+    fn try_acquire(&'a self) -> Option<MutexGuard<'a, T, R>> {
+        self.try_lock()
     }
 }
 

@@ -1,12 +1,12 @@
 //! A spinning mutex that serves the threads in the order of their tickets. Begin at [`TicketMutex::lock`].
-ghost use Rattle.std.specs.Prelude.{Option, IfSome};
+ghost use Rattle.std.specs.Prelude.{Option, IfErr, IfOk, IfSome};
 ghost use Rattle.std.specs.Fmt.{DisplaysOnOk};
 ghost use Rattle.spin_core.specs.Texts.{lock_text};
-ghost use Rattle.spin_mutex.specs.TicketPasses.{Ends, Grants, Lock, OpensWith, TryLock, new_in, opening};
+ghost use Rattle.spin_mutex.specs.TicketPasses.{Ends, Grants, Lock, OpensAt, OpensWith, Settles, TryLock, new_in, opening};
 
 use spin_core::cell::Cell;
 use spin_core::guard::{self, Guard};
-use spin_core::lock::{Lock, with_guard};
+use spin_core::lock::{Acquire, Lock, with_guard};
 use spin_core::relax::{RelaxStrategy, Spin, Strategy};
 use spin_core::texts::write_lock;
 use spin_core::tie::Opening;
@@ -26,8 +26,8 @@ pub use spin_core::laws::{a_guard_reads_the_last_value_written, two_guards_read_
 /// A mutual exclusion lock that serves its threads in the order of their tickets, and on which a waiting thread spins.
 ///
 /// Each call of [`lock`](Self::lock) takes a ticket with the next number, and enters when that number is served. With
-/// more spinning threads than processors a call may wait for a thread that is not scheduled, and the queue nearly
-/// stands still. Use `SpinMutex` then, or the strategy `SpinThenYield`. A waiting thread relaxes with strategy `R`.
+/// more threads than processors the next one may have none, and the others wait for it too: a `SpinMutex` is many times as
+/// fast then. A waiting thread relaxes with strategy `R`.
 ///
 /// # Contract
 /// While a guard or a hold of the lock lives, no other call acquires it. Threads enter in the order of their tickets
@@ -64,15 +64,11 @@ pub type TicketMutexGuard<'a, T, R = Spin> = Guard<'a, T, Party, Entry<T>, Ticke
 /// `held_value` is the value that the guard had.
 pub type Held<'a, T, R = Spin> = guard::Held<'a, T, Party, Entry<T>, TicketRule, R>;
 
-// The hints that a waiting thread gives in a pause, for each ticket before its own, up to a limit. The thread that is
-// next gives one hint.
-const HINTS_EACH: u64 = 8;
-
 impl<T, R> TicketMutex<T, R> {
     /// Creates an unlocked mutex that holds `value`.
     ///
     /// # Contract
-    /// The lock's history begins with this value (`opens`). The call returns.
+    /// The lock's history begins with this value, and its first ticket is 0 (`opens`). The call returns.
     pub const fn new(value: T) -> Self
         ensures opens { OpensWith value (opening result) }
     {
@@ -81,7 +77,7 @@ impl<T, R> TicketMutex<T, R> {
 
     // Creates an unlocked mutex whose first ticket has the number `first`.
     pub(crate) const fn starting_at(value: T, first: u64) -> Self
-        ensures opens { OpensWith value (opening result) }
+        ensures opens { OpensAt value first (opening result) }
     {
         let trace = Trace::new(first);
         let opening = Opening::starting_at(&trace, &value, &first);
@@ -104,6 +100,37 @@ impl<T, R> TicketMutex<T, R> {
     {
         let (_, value, history) = self.cell.into_parts();
         (value, history)
+    }
+
+    /// Consumes the mutex and returns the value with the lock's whole history, in `Ok` if no ticket is out any more:
+    /// no guard was leaked, and no hold dropped.
+    ///
+    /// # Contract
+    /// The history is a schedule of the lock's model. In `Ok` the value is the one written last (`settled`). The call
+    /// returns.
+    ///
+    /// # Examples
+    /// ```
+    /// use spin::mutex::{TicketMutex, TicketMutexGuard};
+    ///
+    /// let lock: TicketMutex<u64> = TicketMutex::new(4);
+    /// *lock.lock(&rt) = 5;
+    /// assert_eq!(rt; lock.try_into_history().ok().expect(&rt, "it is free").0, 5);
+    /// let other: TicketMutex<u64> = TicketMutex::new(4);
+    /// *TicketMutexGuard::leak(other.lock(&rt)) = 6;
+    /// assert!(rt; other.try_into_history().is_err());
+    /// ```
+    pub fn try_into_history(self) -> Result<(T, History<T>), (T, History<T>)>
+        ensures settled { IfOk result (Settles (opening self)) }
+        ensures held { IfErr result (Ends (opening self)) }
+    {
+        let (next, value, history) = self.cell.into_parts();
+        let (serving, history) = history.told();
+        if next == serving {
+            Ok((value, history))
+        } else {
+            Err((value, history))
+        }
     }
 
     /// Consumes the mutex and returns the value.
@@ -204,6 +231,8 @@ impl<T: Debug, R> Debug for TicketMutex<T, R> {
 
 /// Creates an unlocked mutex that holds the default value.
 impl<T: Default, R> Default for TicketMutex<T, R> {
+    ghost is_default = { λ lock. (value : T) × T.is_default value × OpensWith value (opening lock) };
+
     fn default() -> Self {
         Self::new(T::default())
     }
@@ -211,8 +240,29 @@ impl<T: Default, R> Default for TicketMutex<T, R> {
 
 /// Creates an unlocked mutex that holds the value.
 impl<T, R> From<T> for TicketMutex<T, R> {
+    ghost from_gives = { λ value lock. OpensWith value (opening lock) };
+
     fn from(value: T) -> Self {
         Self::new(value)
+    }
+}
+
+impl<'a, T: 'a, R: RelaxStrategy + 'a> Acquire<'a> for TicketMutex<T, R> {
+    type Guard = TicketMutexGuard<'a, T, R>;
+
+    type Relax = R;
+
+    ghost grants = { λ lock guard. Grants Lock (new_in (opening lock)) guard };
+
+    ghost tries = { λ lock guard. Grants TryLock (new_in (opening lock)) guard };
+
+    fn acquire<W: Wait>(&'a self, rt: &W) -> TicketMutexGuard<'a, T, R> {
+        let session = enter(&self.cell);
+        acquire(session, TicketCall::Lock, None, rt)
+    }
+
+    fn try_acquire(&'a self) -> Option<TicketMutexGuard<'a, T, R>> {
+        self.try_lock()
     }
 }
 

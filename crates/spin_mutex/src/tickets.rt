@@ -1,4 +1,6 @@
 //! The numbers of the tickets: the next number, and a lock whose first ticket has a high number. Begin at [`next`].
+ghost use Rattle.spin_mutex.specs.TicketPasses.{OpensAt, opening};
+
 use crate::ticket::TicketMutex;
 
 /// Returns the number of the next ticket.
@@ -29,7 +31,7 @@ pub fn next<T, R>(lock: &TicketMutex<T, R>) -> u64 {
 /// does when no ticket is left.
 ///
 /// # Contract
-/// Only that the call returns.
+/// The lock's history begins with this value, and its tickets with this number (`opens`). The call returns.
 ///
 /// # Examples
 /// ```
@@ -40,6 +42,8 @@ pub fn next<T, R>(lock: &TicketMutex<T, R>) -> u64 {
 /// assert!(rt; lock.try_lock().is_some());
 /// assert!(rt; lock.try_lock().is_none());
 /// ```
-pub fn starting_at<T, R>(value: T, first: u64) -> TicketMutex<T, R> {
+pub fn starting_at<T, R>(value: T, first: u64) -> TicketMutex<T, R>
+    ensures opens { OpensAt value first (opening result) }
+{
     TicketMutex::starting_at(value, first)
 }

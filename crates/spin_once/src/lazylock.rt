@@ -13,6 +13,7 @@ ghost use Rattle.spin_once.specs.declared.lazylock.Initialiser.{Initialiser as A
 use crate::exclusive::Exclusive;
 pub use crate::once_core::{Entry, History};
 use crate::once_core::{Account, Found, OnceCore, Seed};
+use spin_core::lock::Force;
 use spin_core::relax::{RelaxStrategy, Spin};
 use spin_step::OnceCall;
 use std::marker::PhantomData;
@@ -234,6 +235,16 @@ impl<T, F: Makes<T, M>, R: RelaxStrategy, M: Promise<T>> LazyLock<T, F, R, M> {
                 permit.complete(f.into_inner().make(promise))
             }
         }
+    }
+}
+
+impl<T, F: Makes<T, M>, R: RelaxStrategy, M: Promise<T>> Force<T> for LazyLock<T, F, R, M> {
+    ghost can = { λ lock. F.can (initialiser lock) (promise lock) };
+
+    ghost gives = { λ lock value. M.keeps (promise lock) value × Forced M.keeps (new_in (opening lock)) value };
+
+    fn force_by<W: Wait>(&self, rt: &W) -> &T {
+        LazyLock::force(self, rt)
     }
 }
 

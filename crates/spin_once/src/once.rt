@@ -1,14 +1,17 @@
 //! A value that one closure makes. Begin with [`Once::new`] and [`Once::call_once`].
-ghost use Rattle.std.specs.Prelude.{◌≡◌, [], ◌∷◌, IfSome, IfErr, Err};
+ghost use Rattle.std.specs.Prelude.{◌≡◌, [], ◌∷◌, IfSome, IfOk, IfErr, Err};
 ghost use Rattle.spin_step.specs.declared.once_calls.OnceCall.TheVariants.{CallOnce, Get, Poll as PollCall, Wait as WaitCall};
 ghost use Rattle.spin_once.specs.OncePasses.{Ends, Gives, Never, OkGives, OpensWithValues, new_in, opening};
 
 use self::make::make;
 pub use crate::once_core::{Entry, History};
 use crate::once_core::{OnceCore, Seed};
+use spin_core::lock::Fill;
 use spin_core::relax::{RelaxStrategy, Spin};
 use spin_step::OnceCall;
+use std::alloc::AllocError;
 use std::marker::PhantomData;
+use std::mem;
 use std::sync::Wait;
 
 mod make;
@@ -103,6 +106,25 @@ impl<T, R> Once<T, R> {
         self.core.get_mut()
     }
 
+    /// Takes the value out, or returns `None` if there is none. Afterwards the `Once` is empty, as a new one is.
+    ///
+    /// # Contract
+    /// Afterwards the `Once` opens without a value (`opens`). The call returns.
+    ///
+    /// # Examples
+    /// ```
+    /// use spin::Once;
+    ///
+    /// let mut port: Once<u16> = Once::initialized(80);
+    /// assert_eq!(rt; port.take(), Some(80));
+    /// assert_eq!(rt; *port.call_once(&rt, || 81), 81);
+    /// ```
+    pub fn take(&mut self) -> Option<T>
+        ensures opens { OpensWithValues [] (opening self.new) }
+    {
+        mem::replace(self, Once::new()).try_into_inner()
+    }
+
     /// Consumes the `Once`, and returns its value, or `None` if there is none.
     ///
     /// # Examples
@@ -186,6 +208,83 @@ impl<T, R: RelaxStrategy> Once<T, R> {
         found
     }
 
+    /// Does what [`try_call_once`](Once::try_call_once) does, under the name that `std` has for it.
+    ///
+    /// # Contract
+    /// Like that of `try_call_once`.
+    ///
+    /// # Examples
+    /// ```
+    /// use spin::Once;
+    ///
+    /// let port: Once<u16> = Once::new();
+    /// assert!(rt; port.get_or_try_init(&rt, || "no port".parse()).is_err());
+    /// let found = port.get_or_try_init(&rt, || "80".parse());
+    /// assert_eq!(rt; found.ok().copied(), Some(80));
+    /// ```
+    pub fn get_or_try_init<F: FnOnce() -> Result<T, E>, E, W: Wait>(
+        &self,
+        rt: &W,
+        f: F,
+    ) -> Result<&T, E>
+        requires { F.pre f }
+        ensures err { IfErr result (λ e. F.post f (Err e)) }
+        ensures found { OkGives (F.post f) (new_in (opening self.now)) result }
+    {
+        self.try_call_once(rt, f)
+    }
+
+    /// Stores `value` if there is none yet. Otherwise returns it. While a closure runs, the call spins.
+    ///
+    /// # Contract
+    /// `Ok` promises that this call stored `value`, and that it is the only one in a history of the `Once` in which this
+    /// call is one `CallOnce` (`stored`). `Err` is `value` (`back`). Whether and when the call returns is not promised.
+    ///
+    /// # Examples
+    /// ```
+    /// use spin::Once;
+    ///
+    /// let port: Once<u16> = Once::new();
+    /// assert!(rt; port.set(&rt, 80).is_ok());
+    /// assert_eq!(rt; port.set(&rt, 81), Err(81));
+    /// assert_eq!(rt; port.get().copied(), Some(80));
+    /// ```
+    pub fn set<W: Wait>(&self, rt: &W, value: T) -> Result<(), T>
+        ensures stored { IfOk result (λ done. Gives (CallOnce tt) (λ v. v ≡ value) (new_in (opening self.now)) value) }
+        ensures back { IfErr result (λ back. back ≡ value) }
+    {
+        match self.try_insert(rt, value) {
+            Ok(_) => Ok(()),
+            Err((_, value)) => Err(value),
+        }
+    }
+
+    /// Stores `value` if there is none yet, and returns the stored one. Otherwise returns the value that there is, with
+    /// `value`. While a closure runs, the call spins.
+    ///
+    /// # Contract
+    /// With `Ok` the value is `value`, and is the only one in a history of the `Once` in which this call is one `CallOnce`
+    /// (`stored`). With `Err` it is the only one in such a history, in which this call's party wrote none (`there`), and
+    /// `value` comes back (`back`). Whether and when the call returns is not promised.
+    ///
+    /// # Examples
+    /// ```
+    /// use spin::Once;
+    ///
+    /// let port: Once<u16> = Once::new();
+    /// assert_eq!(rt; port.try_insert(&rt, 80).ok().copied(), Some(80));
+    /// let (there, back) = port.try_insert(&rt, 81).err().expect(&rt, "it has a value");
+    /// assert_eq!(rt; (*there, back), (80, 81));
+    /// ```
+    pub fn try_insert<W: Wait>(&self, rt: &W, value: T) -> Result<&T, (&T, T)>
+        ensures stored { IfOk result (λ made. (made.now ≡ value) × Gives (CallOnce tt) (λ v. v ≡ value) (new_in (opening self.now)) made.now) }
+        ensures there { IfErr result (λ both. Gives (CallOnce tt) Never (new_in (opening self.now)) both.0.now) }
+        ensures back { IfErr result (λ both. both.1 ≡ value) }
+    {
+        let (stored, _pass) = self.pass().try_insert(rt, value);
+        stored
+    }
+
     /// Like [`call_once`](Once::call_once), with a copy of `value` in place of what a closure gives.
     ///
     /// # Contract
@@ -255,6 +354,8 @@ impl<T, R: RelaxStrategy> Once<T, R> {
 
 /// Creates a `Once` without a value.
 impl<T, R> Default for Once<T, R> {
+    ghost is_default = { λ once. OpensWithValues [] (opening once) };
+
     fn default() -> Self {
         Self::new()
     }
@@ -262,8 +363,37 @@ impl<T, R> Default for Once<T, R> {
 
 /// Creates a `Once` that holds `value`.
 impl<T, R> From<T> for Once<T, R> {
+    ghost from_gives = { λ value once. OpensWithValues (value ∷ []) (opening once) };
+
     fn from(value: T) -> Self {
         Self::initialized(value)
+    }
+}
+
+/// Creates a `Once` that holds a clone of the value, or an empty one if there is none. It makes one load.
+///
+/// # Examples
+/// ```
+/// use spin::Once;
+///
+/// let port: Once<u16> = Once::initialized(80);
+/// let copy = port.clone().ok().expect(&rt, "memory");
+/// assert_eq!(rt; copy.get().copied(), Some(80));
+/// ```
+impl<T: Clone, R> Clone for Once<T, R> {
+    fn clone(&self) -> Result<Self, AllocError> {
+        match self.get() {
+            Some(value) => Ok(Once::initialized(value.clone()?)),
+            None => Ok(Once::new()),
+        }
+    }
+}
+
+impl<T, R: RelaxStrategy> Fill<T> for Once<T, R> {
+    ghost gives = { λ lock may value. Gives (CallOnce tt) may (new_in (opening lock)) value };
+
+    fn fill<F: FnOnce() -> T, W: Wait>(&self, rt: &W, f: F) -> &T {
+        self.call_once(rt, f)
     }
 }
 

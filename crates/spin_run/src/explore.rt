@@ -5,6 +5,7 @@ mod command;
 mod entries;
 mod explored;
 mod options;
+mod orders;
 mod process;
 mod reading;
 mod report;

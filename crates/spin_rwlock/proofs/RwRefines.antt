@@ -1,5 +1,5 @@
 -- The table of a read-write lock refines the plain lock.
-use Rattle.std.proofs.Common.{◌≡◌, ℕ, ◌+◌, ◌-◌, ◌<◌, ◌≤◌, ◌^◌, [], true, false, length, Option, Some, None, List, refl, ap, arith}
+use Rattle.std.proofs.Common.{◌≡◌, ℕ, ◌+◌, ◌-◌, ◌<◌, ◌≤◌, ◌^◌, [], true, false, length, Option, Some, None, List, refl, sym, ap, arith}
 use Rattle.spin_step.specs.Plain.{Plain, Kind, reading, upgradable, asking, writing, weight, Holder, with_kind, gets, turns, releases, is_holder, rw_word, to_read, to_read_upgradable}
 use Rattle.spin_step.specs.Orders.{IsInOrder}
 use Rattle.spin_step.proofs.Holders.{is_holder-from_entries}
@@ -8,20 +8,20 @@ use Rattle.spin_step.specs.declared.place.Hold.{Hold}
 use Rattle.spin_step.specs.declared.place.Hold.TheVariants as hold
 use Rattle.spin_step.specs.declared.place.Seat.{Seat}
 use Rattle.spin_step.specs.declared.place.Seat.TheVariants.{Holding}
-use Rattle.spin_step_more.specs.Readers.{reader_limit, OneOfEach, read, read_upgradable}
+use Rattle.spin_step_more.specs.Readers.{reader_limit, OneOfEach, read, read_upgradable, writers_in}
 use Rattle.spin_step_more.specs.RwCalls.{rw_table}
 use Rattle.spin_step_more.specs.declared.rw_calls.RwCall.{RwCall}
 use Rattle.spin_step_more.specs.declared.rw_calls.RwCall.TheVariants.{TryRead, Read, TryUpgradeableRead, UpgradeableRead, Upgrade, Downgrade}
 use Rattle.spin_step_more.specs.declared.rw_calls.RwPoint.{RwPoint}
 use Rattle.spin_step_more.specs.declared.rw_calls.RwPoint.TheVariants.{First, Exchange, Asking}
-use Rattle.spin_step_more.proofs.Readers.{one_of_each, word_of}
+use Rattle.spin_step_more.proofs.Readers.{one_of_each, word_of, writers-word}
 use Rattle.spin_step_more.proofs.ReaderSteps.{rw_read-grants, rw_upgradable-grants, rw_write-grants, rw_upgrade-grants, rw_upgrade_asked-grants}
 use Rattle.spin_core.specs.Views.{Part, idle, holds, HasPart, entries_of_part}
 use Rattle.spin_core.proofs.tie.Leaving.{sum-up}
-use Rattle.spin_core.specs.Cell.{MeetsRule}
+use Rattle.spin_core.specs.Cell.{MeetsRule, writers_of}
 use Rattle.spin_core.specs.declared.tie.Opening.{Opening}
 use Rattle.spin_core.specs.declared.trace.Trace.{Trace}
-use Rattle.spin_core.proofs.tie.Owners.{OfReaders, readers_or_writer}
+use Rattle.spin_core.proofs.tie.Owners.{OfReaders, readers_or_writer, writers_hold}
 use Rattle.spin_core.proofs.tie.Views.{release-own, turn-own}
 use Rattle.spin_step.specs.Acts.{retry, one_number, is_section}
 use Rattle.spin_step.specs.declared.table.Operation.TheVariants as op
@@ -31,10 +31,10 @@ use Rattle.spin_step.specs.Plain.{Ask, apply}
 use Rattle.spin_step.specs.declared.answer.Answer.{Answer}
 use Rattle.spin_step.specs.declared.stepped.Next.{Next}
 use Rattle.spin_step_more.specs.RwCalls.{act_of, goes_for}
-use Rattle.spin_session.specs.Meaning.{part_of, worked, SoundAct, Sound, ComesFrom, Refines, ways_of}
+use Rattle.spin_session.specs.Meaning.{AreWords, just_one, part_of, use_at, worked, SoundAct, Sound, ComesFrom, Refines, ways_of}
 use Rattle.spin_session.proofs.Refining as session
 use Rattle.spin_session.proofs.Word.{word_is}
-use Rattle.spin_rwlock.specs.Rw.{rw_meaning, Done as Entries, IsRw}
+use Rattle.spin_rwlock.specs.Rw.{View, rw_meaning, Done as Entries, IsRw}
 
 kind : (v : Seat RwCall RwPoint) → OfReaders (part_of rw_meaning) v
 kind (Holding hold.Write) = (λ p. refl, λ p. refl)
@@ -49,6 +49,11 @@ few s room order = omega (arith, order.holders_fit, room)
 
 no_section : (V : Type 0) (c : RwCall) (l : RwPoint) (h : Option Hold) → is_section (act_of {V = V} reader_limit c l h) ≡ false
 no_section V c l h = grind arith
+
+-- nobody writes while the word shows no writer
+pub quiet : {m : Unit {0}} (n : ℕ) → writers_in n ≡ 0 → (vs : List View) → AreWords just_one rw_meaning n m vs → writers_of (use_at rw_meaning) vs ≡ 0
+quiet n none vs is = let words = is.0 in
+    omega (arith, none, writers-word words.0 n (one_of_each words.0 words.2.exclusive) (sym words.4), writers_hold (part_of rw_meaning) (λ v. (kind v).1) vs words.0 words.3)
 
 module _ {T : Type 0} (value : T) where
   module _ (p : ℕ) (s : Plain) (from : Part) (room : s.cap ≡ reader_limit) (order : IsInOrder s) (has : HasPart s p from) where

@@ -1,6 +1,7 @@
 -- The value of a guard, the write guard with another value in its place, and what the party of a guard knows of the history.
 use Rattle.std.specs.Prelude.{◌≡◌, ◌≤◌, Option, Some, length}
 use Rattle.spin_core.specs.Own.{own_mark}
+use Rattle.spin_core.specs.Values.{IsLast}
 use Rattle.spin_core.specs.Writer.{writer_of}
 use Rattle.spin_session.specs.Turns.{SeatSpot, spot_of}
 use Rattle.spin_step_more.specs.declared.rw_calls.RwCall.{RwCall}
@@ -36,6 +37,10 @@ module _ {T R : Type 0} where
   -- the guard knows the history of its lock, at least up to the last step of its party
   abbrev pub KnowsItsSteps : RwLockWriteGuard T R → Type 0
   KnowsItsSteps it = (it.writer.key.name ≡ it.seen.name) × (own_mark (Some it.writer.view) ≤ length it.seen.entries)
+
+  -- when the guard was granted, its lock had this value
+  abbrev pub HasFound : T → RwLockWriteGuard T R → Type 0
+  HasFound x it = IsLast it.writer.key it.seen.entries x
 
   -- the value of a hold; nobody writes it while the hold lives
   abbrev pub read_held_value : ReadHeld T R → Option T

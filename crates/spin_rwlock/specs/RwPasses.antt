@@ -5,15 +5,18 @@ use Rattle.spin_core.specs.Cell.{Starts, Ways}
 use Rattle.spin_core.specs.Own.{Numbered}
 use Rattle.spin_core.specs.Values.{IsLast}
 use Rattle.spin_core.specs.declared.tie.Opening.{Opening}
+use Rattle.spin_core.specs.declared.trace.Trace.{Trace}
 use Rattle.spin_step.specs.declared.answer.Answer.{Answer}
 use Rattle.spin_step.specs.declared.answer.Answer.TheVariants.{Granted}
 use Rattle.spin_step_more.specs.declared.rw_calls.RwCall.{RwCall}
+use Rattle.spin_session.specs.Meaning.{just_one}
 use Rattle.spin_session.specs.Passes as session
+use Rattle.spin_session.specs.Ending as ending
 pub use Rattle.spin_session.specs.Ending.{Includes, Recalls}
 use Rattle.spin_session.specs.Turns as turns
-pub use Rattle.spin_session.specs.Passes.{◌⨾◌, After, history, lock_of, new_in, opening_of, party, OpensWith}
-use Rattle.spin_rwlock.specs.Rw.{View, rw_tables}
-pub use Rattle.spin_rwlock.specs.Guards.{RwSpot, shared_spot, write_spot, KnowsItsSteps}
+pub use Rattle.spin_session.specs.Passes.{◌⨾◌, After, Learns, history, lock_of, new_in, opening_of, party, OpensWith}
+use Rattle.spin_rwlock.specs.Rw.{Done, View, rw_meaning, rw_tables}
+pub use Rattle.spin_rwlock.specs.Guards.{HasFound, RwSpot, shared_spot, write_spot, KnowsItsSteps}
 use Rattle.spin_rwlock.specs.Guards.{shared_value, write_value}
 use Rattle.spin_rwlock.specs.declared.rwlock.RwLock.{RwLock}
 use Rattle.spin_rwlock.specs.declared.rwlock.reader.SharedGuard.{SharedGuard}
@@ -49,6 +52,14 @@ module _ {T : Type 0} where
   -- from `before` to `now` the pass has written some value, and has then made this call
   abbrev pub WroteSome : RwCall → RwSpot T → RwSpot T → Type 0
   WroteSome = session.WroteSome rw_tables
+
+  -- From `before` to `now` the pass has acquired the lock by this call, and has found this value: the one written last.
+  abbrev pub FoundBy : RwCall → T → RwSpot T → RwSpot T → Type 0
+  FoundBy = session.FoundBy rw_tables
+
+  -- The history is a schedule of the model, and nobody still writes the value: it is the one written last.
+  abbrev pub Settles : Opening T → T × Trace (Done T) (Unit {0}) → Type 0
+  Settles = ending.Settles rw_tables rw_meaning just_one
 
   module _ {R K : Type 0} {kind : Ghosts K} where
     -- the guard's value is the one written last, of all that the party at `now` knows

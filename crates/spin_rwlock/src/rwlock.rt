@@ -1,13 +1,15 @@
 //! A spinning lock for many readers or one writer. Begin at [`RwLock::read`] and [`RwLock::write`].
-ghost use Rattle.std.specs.Prelude.{◌≤◌, IfSome};
+ghost use Rattle.std.specs.Prelude.{◌≤◌, IfErr, IfOk, IfSome};
 ghost use Rattle.spin_step.specs.declared.answer.Answer.TheVariants.{Granted};
 ghost use Rattle.spin_step_more.specs.Readers.{reader_limit};
 ghost use Rattle.spin_step_more.specs.declared.rw_calls.RwCall.TheVariants.{TryRead, Read, TryUpgradeableRead, UpgradeableRead, TryWrite, Write};
-ghost use Rattle.spin_rwlock.specs.RwPasses.{Ends, Grants, Lends, OpensWith, key_of, new_in, opening};
+ghost use Rattle.spin_session.specs.Meaning.{ways_of};
+ghost use Rattle.spin_rwlock.specs.Rw.{IsRw, rw_meaning};
+ghost use Rattle.spin_rwlock.specs.RwPasses.{Ends, Grants, Lends, OpensWith, Settles, key_of, new_in, opening};
 
 use self::pass::{grant, lend};
 use spin_core::cell::{Cell, Rule};
-use spin_core::lock::{Lock, SharedLock, with_guard};
+use spin_core::lock::{Acquire, AcquireShared, Lock, Reserve, SharedLock, with_guard};
 use spin_core::relax::{RelaxStrategy, Spin};
 use spin_core::tie::Opening;
 use spin_core::trace::Trace;
@@ -78,6 +80,37 @@ impl<T, R> RwLock<T, R> {
         RwLock {
             cell,
             strategy: PhantomData,
+        }
+    }
+
+    /// Consumes the lock and returns the value with the lock's whole history, in `Ok` if nobody writes the value any
+    /// more: no writer's guard was leaked, and no writer's hold dropped. Readers do not matter.
+    ///
+    /// # Contract
+    /// The history is a schedule of the lock's model. In `Ok` the value is the one written last (`settled`). The call
+    /// returns.
+    ///
+    /// # Examples
+    /// ```
+    /// use spin::{RwLock, RwLockReadGuard, RwLockWriteGuard};
+    ///
+    /// let limit: RwLock<u64> = RwLock::new(3);
+    /// *limit.write(&rt) = 4;
+    /// RwLockReadGuard::leak(limit.read(&rt));
+    /// assert_eq!(rt; limit.try_into_history().ok().expect(&rt, "nobody writes").0, 4);
+    /// let other: RwLock<u64> = RwLock::new(3);
+    /// *RwLockWriteGuard::leak(other.write(&rt)) = 6;
+    /// assert!(rt; other.try_into_history().is_err());
+    /// ```
+    pub fn try_into_history(self) -> Result<(T, History<T>), (T, History<T>)>
+        ensures settled { IfOk result (Settles (opening self)) }
+        ensures held { IfErr result (Ends (IsRw (opening self)) (ways_of rw_meaning (opening self))) }
+    {
+        let (word, value, history) = self.cell.into_parts();
+        if rw::writers(word as usize) == 0 {
+            Ok((value, history))
+        } else {
+            Err((value, history))
         }
     }
 
@@ -267,6 +300,48 @@ impl<T, R> RwLock<T, R> {
         self.pass().writer_count().0
     }
 
+    /// Returns `true` if any thread holds the lock at some moment during this call, as a reader or as the writer.
+    ///
+    /// It makes one load. By the time the caller reads the answer it may be out of date.
+    ///
+    /// # Contract
+    /// Only that the call returns. [`Pass::is_locked`] promises more.
+    ///
+    /// # Examples
+    /// ```
+    /// use spin::RwLock;
+    ///
+    /// let limit: RwLock<u64> = RwLock::new(3);
+    /// let reader = limit.read(&rt);
+    /// assert_eq!(rt; (limit.is_locked(), limit.is_locked_exclusive()), (true, false));
+    /// drop(reader);
+    /// assert!(rt; !limit.is_locked());
+    /// ```
+    pub fn is_locked(&self) -> bool {
+        self.pass().is_locked().0
+    }
+
+    /// Returns `true` if a writer holds the lock at some moment during this call.
+    ///
+    /// It makes one load. By the time the caller reads the answer it may be out of date.
+    ///
+    /// # Contract
+    /// Only that the call returns. [`Pass::writer_count`] promises more.
+    ///
+    /// # Examples
+    /// ```
+    /// use spin::RwLock;
+    ///
+    /// let limit: RwLock<u64> = RwLock::new(3);
+    /// let writer = limit.write(&rt);
+    /// assert!(rt; limit.is_locked_exclusive());
+    /// drop(writer);
+    /// assert!(rt; !limit.is_locked_exclusive());
+    /// ```
+    pub fn is_locked_exclusive(&self) -> bool {
+        self.writer_count() == 1
+    }
+
     /// Releases the shared access that the hold keeps.
     ///
     /// A hold releases its access at most once, since the call consumes it.
@@ -386,6 +461,8 @@ impl<T, R: RelaxStrategy> RwLock<T, R> {
 
 /// Creates an unlocked lock that holds the default value.
 impl<T: Default, R> Default for RwLock<T, R> {
+    ghost is_default = { λ lock. (value : T) × T.is_default value × OpensWith value (opening lock) };
+
     fn default() -> Self {
         Self::new(T::default())
     }
@@ -393,8 +470,46 @@ impl<T: Default, R> Default for RwLock<T, R> {
 
 /// Creates an unlocked lock that holds the value.
 impl<T, R> From<T> for RwLock<T, R> {
+    ghost from_gives = { λ value lock. OpensWith value (opening lock) };
+
     fn from(value: T) -> Self {
         Self::new(value)
+    }
+}
+
+impl<'a, T: 'a, R: RelaxStrategy + 'a> Acquire<'a> for RwLock<T, R> {
+    type Guard = RwLockWriteGuard<'a, T, R>;
+
+    type Relax = R;
+
+    ghost grants = { λ lock guard. Grants Write (new_in (opening lock)) guard };
+
+    ghost tries = { λ lock guard. Grants TryWrite (new_in (opening lock)) guard };
+
+    fn acquire<W: Wait>(&'a self, rt: &W) -> RwLockWriteGuard<'a, T, R> {
+        self.write(rt)
+    }
+
+    fn try_acquire(&'a self) -> Option<RwLockWriteGuard<'a, T, R>> {
+        self.try_write()
+    }
+}
+
+impl<'a, T: 'a, R: RelaxStrategy + 'a> AcquireShared<'a> for RwLock<T, R> {
+    type Shared = RwLockReadGuard<'a, T, R>;
+
+    type Relax = R;
+
+    ghost lends = { λ lock guard. Lends Read Granted (new_in (opening lock)) guard };
+
+    ghost tries = { λ lock guard. Lends TryRead Granted (new_in (opening lock)) guard };
+
+    fn acquire_shared<W: Wait>(&'a self, rt: &W) -> RwLockReadGuard<'a, T, R> {
+        self.read(rt)
+    }
+
+    fn try_acquire_shared<W: Wait>(&'a self, rt: &W) -> Option<RwLockReadGuard<'a, T, R>> {
+        self.try_read(rt)
     }
 }
 
@@ -418,6 +533,16 @@ impl<T, R: RelaxStrategy> SharedLock<T> for RwLock<T, R> {
             Some(guard) => Ok(by(&*guard)),
             None => Err(by),
         }
+    }
+}
+
+impl<'a, T: 'a, R: RelaxStrategy + 'a> Reserve<'a> for RwLock<T, R> {
+    type Place = RwLockUpgradableGuard<'a, T, R>;
+
+    ghost has = { λ lock reader. Lends UpgradeableRead Granted (new_in (opening lock)) reader };
+
+    fn reserve<W: Wait>(&'a self, rt: &W) -> Option<RwLockUpgradableGuard<'a, T, R>> {
+        Some(self.upgradeable_read(rt))
     }
 }
 

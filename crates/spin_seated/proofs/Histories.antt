@@ -15,7 +15,7 @@ module _ {X : Type 0} where
   pub begins_longer : (xs ys zs : List X) → BeginsWith xs ys → BeginsWith (xs ++ zs) ys
   begins_longer xs ys zs b = record { rest = b.rest ++ zs; is = ap (λ (l : List X). l ++ zs) b.is ∙ append_assoc ys b.rest zs }
 
-  nothing_more : (xs ys : List X) → xs ++ ys ≡ xs → ys ≡ []
+  pub nothing_more : (xs ys : List X) → xs ++ ys ≡ xs → ys ≡ []
   nothing_more xs ys same = append_cancel_left xs ys [] (same ∙ sym (append-nil xs))
 
 module _ {C A : Type 0} where

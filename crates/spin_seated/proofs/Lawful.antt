@@ -44,7 +44,7 @@ next : (r w : Option ℕ) (v : ℕ) (more seen : List ℕ) → ReadsValue r w v 
 next r w v more seen is rest = grind (arith, goes_on, looks)
 
 module _ {C H : Type 0} (m : PlainObject Opening Locked C Answer H) (written : C → Option ℕ) (writes : (p : ℕ) (c : C) (s : Locked) → (m.next p c s).value ≡ unwrap_or (written c) s.value) where
-  value_is : (s : Locked) (log : List (Entry C Answer)) → (after m s log).value ≡ value_after written s.value log
+  pub value_is : (s : Locked) (log : List (Entry C Answer)) → (after m s log).value ≡ value_after written s.value log
   value_is s [] = refl
   value_is s (e ∷ es) = value_is (m.next e.pass e.call s) es ∙ ap (λ (v : ℕ). value_after written v es) (writes e.pass e.call s)
 

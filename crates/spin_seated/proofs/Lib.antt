@@ -1,3 +1,4 @@
+pub mod Closing
 pub mod Debts
 pub mod Histories
 pub mod Holders

@@ -134,6 +134,11 @@ module _ {K S C A H : Type 0} (m : PlainObject K S C A H) where
     pub fit : (id : ℕ) (v : List (Known K C A)) → get_elem? table.views id ≡ some v → AllFit k log v
     pub once : (p : ℕ) → total (names p) table.views ≤ 1
 
+  -- The lock is closed with these passes, and then has this value. All calls form one legal history, with which what
+  -- each of the passes knows agrees; the lock has the value after this history.
+  abbrev pub Closes : K → List (Known K C A) → ℕ → Type 0
+  Closes k all value = (log : List (Entry C A)) × IsLegal k log × AllFit k log all × (slice_index (m.words (state k log)) 1 ≡ value)
+
   -- the view of the first seat: all passes, before any call
   abbrev pub all_passes : K → List (Known K C A)
   all_passes k = map (newcomer k) (range_with_len 0 (m.passes k))

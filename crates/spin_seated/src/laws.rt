@@ -8,7 +8,7 @@ ghost use Rattle.spin_seated.specs.declared.mutex.Call.{Call};
 ghost use Rattle.spin_seated.specs.declared.mutex.Call.TheVariants.{TryLock, IsLocked, Read};
 ghost use Rattle.spin_seated.specs.declared.lock.Answer.{Answer};
 ghost use Rattle.spin_seated.specs.declared.lock.Answer.TheVariants.{Truth, Value};
-ghost use Rattle.spin_seated.specs.Histories.{BeginsWith, entry, calls_by, IsLegal, holds, Met};
+ghost use Rattle.spin_seated.specs.Histories.{BeginsWith, entry, calls_by, Closes, IsLegal, holds, Met};
 ghost use Rattle.spin_seated.specs.Mutex.{mutex};
 ghost use Rattle.spin_seated.specs.Locked.{value_after, all_written, all_read, InOrderOf};
 ghost use Rattle.spin_seated.specs.Lawful.{History, holders_after, holds_by, MayCall, written, read_by};
@@ -42,6 +42,18 @@ pub fn a_refused_try_found_a_holder()
 #[tactic(auto, using(crate::proofs::Lawful::read))]
 pub fn a_read_gives_the_last_write()
     ensures { (k : Opening) (before after : History) (p v : ℕ) → IsLegal mutex k (before ++ entry p Read (Value v) ∷ after) → v ≡ value_after written k.value before }
+{}
+
+/// States that a mutex that is closed with its only pass has the value that this pass wrote last, or else the opening
+/// value.
+pub fn a_mutex_closed_with_its_only_pass_has_the_last_write()
+    ensures { (k : Opening) (x : KnownOf Call) (v : ℕ) → k.passes ≡ 1 → Closes mutex k (x ∷ []) v → v ≡ value_after written k.value x.seen }
+{}
+
+/// States that a mutex that is closed with its two passes, which have met, has the value that one of them wrote last, or
+/// else the opening value.
+pub fn a_mutex_closed_with_its_two_passes_has_the_last_write()
+    ensures { (k : Opening) (x y : KnownOf Call) (v : ℕ) → k.passes ≡ 2 → x.pass ≡ 0 → y.pass ≡ 1 → y.seen ≡ x.seen → Closes mutex k (x ∷ y ∷ []) v → v ≡ value_after written k.value x.seen }
 {}
 
 /// States, for either lock, that a pass reads values in the order in which they were written, beginning with

@@ -9,6 +9,7 @@ use atomic_table::{Table, TableRule};
 use std::alloc::{Allocator, Global};
 use std::marker::PhantomData;
 
+mod closing;
 mod making;
 mod pass;
 mod steps;
@@ -77,4 +78,5 @@ impl<C: Calls> TableRule<u64, View<Opening, C, Answer>, Opening> for Law<C> {
 pub struct SeatedLock<C: Calls, A: Allocator = Global> {
     table: Table<u64, View<Opening, C, Answer>, Opening, Law<C>, A>,
     ghost two_words: { table.shared.table_id.words ≡ 2 },
+    ghost no_slots: { table.shared.table_id.slots ≡ 0 },
 }

@@ -7,7 +7,7 @@ use Rattle.spin_step.specs.declared.answer.Answer.{Answer}
 use Rattle.spin_session.specs.Turns as turns
 use Rattle.spin_session.specs.Turns.{SeatSpot}
 pub use Rattle.spin_session.specs.Ending.{Includes, Recalls}
-pub use Rattle.spin_session.specs.Passes.{◌⨾◌, After, history, lock_of, new_in, opening_of, party}
+pub use Rattle.spin_session.specs.Passes.{◌⨾◌, After, history, lock_of, new_in, opening_of, party, OpensWith, Learns}
 use Rattle.spin_seats.specs.Rule.{Done, IsSeats, View, seats_tables}
 use Rattle.spin_seats.specs.declared.calls.SeatsCall.{SeatsCall}
 use Rattle.spin_seats.specs.declared.calls.SeatsPoint.{SeatsPoint}

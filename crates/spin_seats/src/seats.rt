@@ -4,7 +4,7 @@ ghost use Rattle.spin_core.specs.Logs.{OneIsPrefix};
 ghost use Rattle.spin_step.specs.declared.answer.Answer.TheVariants.{Granted, Refused, Count as Counted, Done as Left};
 ghost use Rattle.spin_step.specs.declared.place.Hold.TheVariants.{Read};
 ghost use Rattle.spin_session.specs.Turns.{Stands, history, lock_of, spot_of};
-ghost use Rattle.spin_seats.specs.Passes.{After, Calls, Ends, Recalls, SeatsSpot, new_in, opening};
+ghost use Rattle.spin_seats.specs.Passes.{Calls, Ends, OpensWith, Recalls, SeatsSpot, new_in, opening, Learns};
 ghost use Rattle.spin_seats.specs.Seats.{seats};
 ghost use Rattle.spin_seats.specs.declared.calls.SeatsCall.TheVariants.{TryEnter, TryEnterWeak, Enter, Count, Leave};
 
@@ -12,12 +12,15 @@ use crate::calls::SeatsCall;
 pub use crate::rule::{Entry, History};
 use crate::rule::{Party, SeatsRule};
 use spin_core::cell::Cell;
+use spin_core::lock::Acquire;
 use spin_core::relax::{Spin, Strategy};
 use spin_core::tie::Opening;
-use spin_core::trace::{Trace, Watch};
+use spin_core::trace::{Knows, Trace, Watch};
 use spin_session::calls::{SessionOf, after, ask, enter, finish};
 use spin_session_more::calls::{attempt, make, try_for, wait_for};
 use spin_step::{Answer, Hold};
+use std::fmt;
+use std::fmt::{Debug, Formatter};
 use std::marker::Model;
 use std::sync::Wait;
 
@@ -95,7 +98,12 @@ impl<'a, const N: usize> Model for Pass<'a, N> {
 
 impl<const N: usize> Seats<N> {
     /// Creates a lock whose seats are all free.
-    pub const fn new() -> Self {
+    ///
+    /// # Contract
+    /// The lock's word opens with 0 (`opens`). The call returns.
+    pub const fn new() -> Self
+        ensures opens { OpensWith tt (opening result) }
+    {
         let trace = Trace::new(());
         let opening = Opening::of(&trace, &());
         let cell = Cell::new((), 0, trace, &opening);
@@ -287,7 +295,7 @@ impl<'a, const N: usize> Pass<'a, N> {
     /// So the next call of this pass comes after the calls of the other that are known by now.
     ///
     /// # Contract
-    /// The history that the returned pass knows is the longer of the two, of which the other is a prefix (`After`).
+    /// The history that the returned pass knows is the longer of the two, of which the other is a prefix (`Learns`).
     ///
     /// # Examples
     /// ```
@@ -300,13 +308,13 @@ impl<'a, const N: usize> Pass<'a, N> {
     /// drop(pass);
     /// drop(earlier);
     /// ```
-    pub fn after(self, earlier: &Pass<'_, N>) -> Pass<'a, N>
-        requires { lock_of self ≡ lock_of earlier.now }
-        ensures { After earlier.now self.entry result }
+    pub fn after<K: Knows<Entry>>(self, earlier: &K) -> Pass<'a, N>
+        requires { lock_of self ≡ K.of earlier.now }
+        ensures { Learns (K.entries earlier.now) self.entry result }
     {
         let Self { session } = self;
         Pass {
-            session: after(session, &earlier.session),
+            session: after(session, &earlier.known()),
         }
     }
 
@@ -351,6 +359,8 @@ impl<'a, const N: usize> SeatGuard<'a, N> {
 
 /// Creates a lock whose seats are all free.
 impl<const N: usize> Default for Seats<N> {
+    ghost is_default = { λ lock. OpensWith tt (opening lock) };
+
     fn default() -> Self {
         Self::new()
     }
@@ -362,9 +372,58 @@ impl<const N: usize> Drop for SeatGuard<'_, N> {
     }
 }
 
+impl<const N: usize> Knows<Entry> for Pass<'_, N> {
+    ghost of = { λ pass. lock_of pass };
+
+    ghost entries = { λ pass. history pass };
+
+    fn known(&self) -> Watch<Entry> {
+        self.session.seen.copy()
+    }
+}
+
 impl<const N: usize> Drop for Pass<'_, N> {
     fn drop(self) {
         let Self { session } = self;
         let _left = finish(session);
+    }
+}
+
+impl<'a, const N: usize> Acquire<'a> for Seats<N> {
+    type Guard = SeatGuard<'a, N>;
+
+    type Relax = Spin;
+
+    ghost grants = { λ lock guard. Calls N Enter Granted (new_in (opening lock)) guard };
+
+    ghost tries = { λ lock guard. Calls N TryEnterWeak Granted (new_in (opening lock)) guard };
+
+    fn acquire<W: Wait>(&'a self, rt: &W) -> SeatGuard<'a, N> {
+        self.enter(rt)
+    }
+
+    fn try_acquire(&'a self) -> Option<SeatGuard<'a, N>> {
+        self.try_enter_weak()
+    }
+}
+
+/// Prints `Seats { .. }`.
+impl<const N: usize> Debug for Seats<N> {
+    fn fmt<W: fmt::Write>(&self, f: &mut Formatter<W>) -> fmt::Result {
+        f.debug_struct("Seats").finish_non_exhaustive()
+    }
+}
+
+/// Prints `SeatGuard { .. }`.
+impl<const N: usize> Debug for SeatGuard<'_, N> {
+    fn fmt<W: fmt::Write>(&self, f: &mut Formatter<W>) -> fmt::Result {
+        f.debug_struct("SeatGuard").finish_non_exhaustive()
+    }
+}
+
+/// Prints `Pass { .. }`.
+impl<const N: usize> Debug for Pass<'_, N> {
+    fn fmt<W: fmt::Write>(&self, f: &mut Formatter<W>) -> fmt::Result {
+        f.debug_struct("Pass").finish_non_exhaustive()
     }
 }

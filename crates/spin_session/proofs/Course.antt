@@ -1,6 +1,6 @@
 -- The steps of a call of a session, one after another.
 use Rattle.std.specs.Option.{IfSome}
-use Rattle.std.proofs.Common.{◌≡◌, ℕ, zero, suc, true, false, Option, Some, None, refl, sym, ap, ◌∙◌, subst, inl, inr, arith}
+use Rattle.std.proofs.Common.{◌≡◌, ℕ, zero, suc, Bool, true, false, Option, Some, None, refl, sym, ap, ◌∙◌, subst, inl, inr, arith}
 use Rattle.spin_core.specs.Cell.{writes, use_of}
 use Rattle.spin_core.specs.Own.{Numbered, what}
 use Rattle.spin_core.specs.Spots.{IsIn, HasCalled, Since, Stepped}
@@ -123,9 +123,9 @@ module _ {W V C L : Type 0} (t : ℕ → V → Table W V C L (Answer V)) (s : Me
     pub settled_at_once : Knows s q → (a : Answer (Unit {0})) (k : Option Hold) → next ≡ Answers a k → StandsAt after q × HasCalled (model_at t) c (with_value answer None) p q
     settled_at_once knows a k is = settled p q knows a k (ended p q next came a k is) answer after only
 
-    pub settled_in_time : (r : SeatSpot V C L) (l : L) → next ≡ Continue l → Knows s r
-        → ((x : SeatSpot V C L) → Under t s c x q → (a : Answer (Unit {0})) × (k : Option Hold) × Ended t s c h a k x r) → StandsAt after r × HasCalled (model_at t) c (with_value answer None) p r
-    settled_in_time r l is knows waited = let (a, k, end) = waited p (under p q next came l is) in settled p r knows a k end answer after only
+    pub settled_in_time : {b : Bool} (r : SeatSpot V C L) (l : L) → next ≡ Continue l → Knows s r
+        → ((x : SeatSpot V C L) → Under t s c x q → (a : Answer (Unit {0})) × (k : Option Hold) × Ended t s c h a k x r × (is_granted a ≡ b)) → StandsAt after r × HasCalled (model_at t) c (with_value answer None) p r
+    settled_in_time r l is knows waited = let (a, k, end, same) = waited p (under p q next came l is) in settled p r knows a k end answer after only
 
   -- the first step of a call that leaves what the party holds
   pub looked : (key : Opening V) → IsLook t c h key → (n : ℕ) (next : Next L (Answer (Unit {0}))) → GoesBy t s c ((table_at t key).start c h) h n next key → (a : Answer (Unit {0})) (k : Option Hold) → next ≡ Answers a k → (k ≡ h) × Tells t s c h a key

@@ -18,7 +18,7 @@ executes_on k t s d = record {
   turns = λ key view shown c l h o is at rests quiet. refining.operates k (table_at t key) s (d key.start key.value) key view shown c l h o is at rests quiet;
   gives = λ key view x c h o is at may able held. refining.operates_giving k (table_at t key) s (d key.start key.value) key view x c h at may able held o is;
   leaps = λ key view shown c h last old new fuses is may quiet. leaping.leaps k (table_at t key) s (d key.start key.value) key fuses.0 c h last old new fuses may view shown is quiet;
-  peeks = λ key view shown. refining.keeps_peek k (table_at t key) s (d key.start key.value) key view shown;
+  peeks = λ second key view shown. refining.keeps_peek k (table_at t key) s (d key.start key.value) key view shown;
   sees = λ key view view' before after kept uses. sees_on (use_of (use_of_party s) view') before after (λ e. uses (tie.same_use (use_at s) view' ∙ e)) kept.0;
   lasts = λ key view view' before after seen kept known stops.
       let u = use_of (use_of_party s) view in let u' = use_of (use_of_party s) view' in

@@ -9,3 +9,4 @@ pub mod Freed
 pub mod Leaping
 pub mod Granted
 pub mod Ending
+pub mod Apart

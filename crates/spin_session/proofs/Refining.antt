@@ -137,6 +137,7 @@ module _ {S : Type 0} (k : Beside S) where
     operated (suc j) o (inl first) may so stored = absurd (cc (first))
     operated (suc j) op.Load (inr (e, keeps)) may so stored = (keeps, so)
     operated (suc j) (op.Store to) (inr (e, keeps)) may so stored = (keeps, stored to refl)
+    operated (suc j) (op.Add by) (inr (e, keeps)) may so stored = (keeps, so)
     operated (suc j) o there may so stored = absurd may
 
 -- a cell of one word makes no operation at place 1
@@ -144,6 +145,7 @@ pub no_second : {X V E : Type 0} (holds : ℕ → Trace E (Unit {0}) → List V 
     → Operates just_one holds all_ways view shown 1 o told → ⊥
 no_second holds all_ways view shown told op.Load so = absurd (let at : 0 ≡ 1 = so.0 0 1 in cc)
 no_second holds all_ways view shown told (op.Store to) so = absurd (let at : 0 ≡ 1 = so.0 0 1 in cc)
+no_second holds all_ways view shown told (op.Add by) so = absurd (let at : 0 ≡ 1 = so.0 0 1 in cc)
 no_second holds all_ways view shown told o so = so
 
 -- The moves of a step.
@@ -405,7 +407,7 @@ module _ {W V C L S : Type 0} (k : Beside S) (t : Table W V C L (Answer V)) (s :
       let has : HasPart plain p (part_of s seat) = subst (HasPart plain p) (part_now view) (own_part (part_of s) id view vs plain at is) in
       let is' = lock_after (part_of s) id view vs seat plain None at order is tt (ap (entries_of_part p) (part_now view)) has.1 in
       rw (k.kept (n, m))
-      (seat, going_of s.shares _ (use_at s seat) _ _ (((plain, room, order, is', n_is, m_is), meets.0.1), d.fits (after_views id view vs seat) plain room order is'), (refl, (plain, p, order, has, λ i. k.number (n_is i, m_is i))))
+      (seat, going_of s.shares _ (use_at s seat) _ _ (((plain, room, order, is', n_is, m_is), meets.0.1), d.fits (after_views id view vs seat) plain room order is'), (refl, (plain, p, room, order, has, λ i. k.number (n_is i, m_is i))))
 
   pub keeps_peek : (view : Option (Numbered (Seat C L))) (shown : Option V) → Keeps view shown peeks_at (peeks t s k (seat_now (what view)))
   keeps_peek view shown =

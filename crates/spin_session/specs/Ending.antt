@@ -22,6 +22,11 @@ Ends {C = C} {L = L} t s k opening end =
     (word : ℕ) × (parties : List (Numbered (Seat C L))) × RunsOn t s k opening word end.1 parties
     × (writers_of (use_of_party s) parties ≡ 0 → IsLast opening end.1.entries end.0)
 
+-- The same where no party still writes the value: the value is the one written last.
+abbrev pub Settles : {W V C L S : Type 0} → (ℕ → V → Table W V C L (Answer V)) → Meaning C L → Beside S → Opening V
+    → V × Trace (Entry C V) S → Type 0
+Settles t s k opening end = Ends t s k opening end × IsLast opening end.1.entries end.0
+
 module _ {V C L : Type 0} where
   -- the watch knows of the lock's history what the pass knows
   abbrev pub Recalls : SeatSpot V C L → Watch (Entry C V) → Type 0

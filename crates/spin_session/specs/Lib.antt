@@ -1,5 +1,6 @@
+pub mod Ending
 pub mod Meaning
-pub mod Turns
 pub mod Operating
 pub mod Passes
-pub mod Ending
+pub mod Pausing
+pub mod Turns

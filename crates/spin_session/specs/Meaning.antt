@@ -122,7 +122,7 @@ module _ {C L : Type 0} where
 
 -- the number n is at place 1 of a lock in order in which the party has the part of its seat
 abbrev pub Peeks : {C L S : Type 0} → Beside S → Meaning C L → Seat C L → ℕ → Type 0
-Peeks k s seat n = (plain : Plain) × (p : ℕ) × IsInOrder plain × HasPart plain p (part_of s seat) × (n ≡ k.number (s.word plain, k.of (s.second plain)))
+Peeks k s seat n = (plain : Plain) × (p : ℕ) × (plain.cap ≡ s.cap) × IsInOrder plain × HasPart plain p (part_of s seat) × (n ≡ k.number (s.word plain, k.of (s.second plain)))
 
 -- A step of this shape on the first word makes a step of the plain lock, or none, and its party gets the part `to` of how its call goes on. The
 -- operation of the processor does what the table's does.
@@ -143,11 +143,12 @@ pub record SoundOn {W L A S : Type 0} (k : Beside S) (m : Memory W) (w : W) (i :
   pub same : worked (operation_by act) (number_in k i (words plain)) ≡ performed (operation_by act) (number_in k i (words plain))
   pub bounded : bounds (put_in k i (worked (operation_by act) (number_in k i (words plain))) (words plain)).0
 
--- an operation that a cell makes on its word at this place: on its second word it loads and stores
+-- an operation that a cell makes on its word at this place: on its second word it loads, stores and adds
 abbrev pub IsAccess : ℕ → Operation → Type 0
 IsAccess zero o = Unit {0}
 IsAccess (suc j) op.Load = Unit {0}
 IsAccess (suc j) (op.Store to) = Unit {0}
+IsAccess (suc j) (op.Add by) = Unit {0}
 IsAccess (suc j) o = ⊥
 
 module _ {W V C L A : Type 0} (t : Table W V C L A) where

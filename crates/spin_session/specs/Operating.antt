@@ -33,6 +33,7 @@ module _ {X V E S : Type 0} (k : Beside S) (holds : ℕ → Trace E S → List V
   Operates zero op.SetLowestBit told = Traces holds ways view shown (λ n. bit_or n 1) told
   Operates (suc j) op.Load told = HasSecond k × TracesTo holds ways view shown (on_place k 1 (λ n. n)) told
   Operates (suc j) (op.Store to) told = HasSecond k × TracesTo holds ways view shown (on_place k 1 (λ n. to)) (λ log es n. told log es 0)
+  Operates (suc j) (op.Add by) told = HasSecond k × TracesTo holds ways view shown (on_place k 1 (λ n. (n + by) % 2 ^ 64)) told
   Operates (suc j) o told = ⊥
 
 -- what generic code knows of a rule whose cell runs this table; its words open with the number `start` of the cell's opening
@@ -52,8 +53,8 @@ pub record Executes {W V C L S : Type 0} (k : Beside S) (t : ℕ → V → Table
   pub leaps : (key : Opening V) (view : Option (Numbered (Seat C L))) (shown : Option V) (c : ℕ → C) (h : Option Hold) (last : ℕ → Option (L × ℕ)) (old new : ℕ)
       → FusesBy (table_at t key) s c h last old new → seat_now (what view) ≡ resting h → ((n : ℕ) → ((table_at t key).asks (c n) h).begins h ≡ true) → Quiet s (what view)
       → Operates k (holds key) (ways key) view shown 0 (op.Exchange old new) (LeapTold t s (λ n. Some (c n)) last key view)
-  -- a load at place 1 that is no step
-  pub peeks : (key : Opening V) (view : Option (Numbered (Seat C L))) (shown : Option V) → TracesTo (holds key) (ways key) view shown (on_place k 1 (λ n. n)) (PeekTold t k s key view)
+  -- a load at place 1 of a cell with a second word, which is no step
+  pub peeks : HasSecond k → (key : Opening V) (view : Option (Numbered (Seat C L))) (shown : Option V) → TracesTo (holds key) (ways key) view shown (on_place k 1 (λ n. n)) (PeekTold t k s key view)
   -- a party that uses the value after a step sees it, and still sees the one that it saw before
   pub sees : (key : Opening V) (view view' : Option (Numbered (Seat C L))) (before after : Option V) → Keeps (ways key) view view' before after
       → use_of (use_at s) (what view') ≢ off → (after ≢ None) × (before ≢ None → after ≡ before)

@@ -1,11 +1,10 @@
 -- What a pass of a lock knows, and what its calls do. A pass in a contract is its spot: the opening of its lock, its party, and all moves in the
 -- lock up to the party's last step.
-use Rattle.std.specs.Prelude.{◌≡◌, ◌≤◌, ℕ, true, Option, Some, length}
-use Rattle.spin_core.specs.Guard.{IsHolder, guard_view, guard_key, guard_seen, guard_value}
+use Rattle.std.specs.Prelude.{◌≡◌, ◌≢◌, ◌≤◌, ℕ, true, Option, length}
+use Rattle.spin_core.specs.Guard.{IsHolder, guard_key, guard_seen, guard_value}
 use Rattle.spin_core.specs.Cell.{writes, use_of}
-use Rattle.spin_core.specs.Logs.{KnowsBoth}
 use Rattle.spin_core.specs.Own.{Numbered, what}
-use Rattle.spin_core.specs.Passes.{IsCall, WritesSome, own_mark}
+use Rattle.spin_core.specs.Passes.{HasNumber, IsCall, WritesSome, own_mark}
 use Rattle.spin_core.specs.Spots.{Since}
 use Rattle.spin_core.specs.Values.{IsLast}
 use Rattle.spin_core.specs.declared.guard.Guard.{Guard}
@@ -17,11 +16,17 @@ use Rattle.spin_step.specs.declared.answer.Answer.TheVariants.{Granted, Done}
 use Rattle.spin_step.specs.declared.place.Seat.{Seat}
 use Rattle.spin_session.specs.Meaning.{Meaning, model_at, use_at, use_of_party}
 use Rattle.spin_session.specs.Turns.{SeatSpot, Calls}
+pub use Rattle.spin_core.specs.Guard.{Holds, guard_spot}
+pub use Rattle.spin_core.specs.Spots.{Learns}
 pub use Rattle.spin_session.specs.Turns.{history, lock_of, new_in}
 
--- the lock's history begins with this value, and tells each value that the lock has
+-- the lock's history begins with this value, and tells each value that the lock has; the lock's words open with this number
+abbrev pub OpensAt : {V : Type 0} → V → ℕ → Opening V → Type 0
+OpensAt x first opening = (opening.value ≡ x) × (opening.told ≡ true) × (opening.start ≡ first)
+
+-- the same of a lock whose words open with 0
 abbrev pub OpensWith : {V : Type 0} → V → Opening V → Type 0
-OpensWith x opening = (opening.value ≡ x) × (opening.told ≡ true)
+OpensWith x = OpensAt x 0
 
 infixr 20 ◌⨾◌
 -- what a pass has done from `before` to `now`: first `P`, and then `Q`
@@ -39,16 +44,11 @@ module _ {V C L : Type 0} where
 
   -- The pass at `now` is the one at `before`. It also knows what the pass at `earlier` knows: the longer of the two histories.
   abbrev pub After : SeatSpot V C L → SeatSpot V C L → SeatSpot V C L → Type 0
-  After earlier before now = (now.0 ≡ before.0) × (now.1 ≡ before.1) × (lock_of now ≡ lock_of before) × KnowsBoth (history before) (history earlier) (history now)
+  After earlier = Learns (history earlier)
 
-  module _ {P R S : Type 0} where
-    -- the spot of a guard's party
-    abbrev pub guard_spot : Guard V (Numbered (Seat C L)) (Entry C V) P R (Opening V) S → SeatSpot V C L
-    guard_spot guard = (guard_key guard, Some (guard_view guard), guard_seen guard)
-
-    -- the guard knows the history of its lock, at least up to the last step of its party
-    abbrev pub Holds : Guard V (Numbered (Seat C L)) (Entry C V) P R (Opening V) S → Type 0
-    Holds guard = ((guard_key guard).name ≡ (guard_seen guard).name) × ((guard_view guard).2 ≤ length (guard_seen guard).entries)
+  -- the passes are two parties of their lock
+  abbrev pub AreTwo : SeatSpot V C L → SeatSpot V C L → Type 0
+  AreTwo one other = (p q : ℕ) → HasNumber p (party one) → HasNumber q (party other) → p ≢ q
 
 -- the party writes the value, and knows its lock's trace, at least up to its last step
 abbrev pub Writes : {V C L : Type 0} → Meaning C L → SeatSpot V C L → Type 0
@@ -63,6 +63,10 @@ module _ {W V C L : Type 0} (t : ℕ → V → Table W V C L (Answer V)) where
   -- from `before` to `now` the pass has written some value, and has then made this call
   abbrev pub WroteSome : C → SeatSpot V C L → SeatSpot V C L → Type 0
   WroteSome call = Since (model_at t) (WritesSome (λ y. Unit {0}) (IsCall call Done))
+
+  -- From `before` to `now` the pass has acquired the lock by this call, and has found this value: the one written last.
+  abbrev pub FoundBy : C → V → SeatSpot V C L → SeatSpot V C L → Type 0
+  FoundBy call x before now = Calls t call Granted before now × IsLast (opening_of now) (history now) x
 
   module _ {P R S : Type 0} where
     -- By this call the party at `before` has acquired the guard, whose value is the one written last.

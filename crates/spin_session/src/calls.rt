@@ -16,7 +16,7 @@ ghost use Rattle.spin_step.specs.declared.place.Hold.{Hold as AHold};
 ghost use Rattle.spin_step.specs.declared.table.Operation.TheVariants.{Exchange};
 ghost use Rattle.spin_session.specs.Meaning.{seat_now, table_at, use_at, model_at};
 ghost use Rattle.spin_session.specs.Operating.{Operates};
-ghost use Rattle.spin_session.specs.Passes.{After, Grants, Writes, lock_of};
+ghost use Rattle.spin_session.specs.Passes.{Grants, Learns, Writes, lock_of};
 ghost use Rattle.spin_session.specs.Turns.{Follows, IsMade, SeesLast, SeesOn, EndsWith, IsAt, Knows, StaysQuiet, Stands, MayBegin, Ended, Comes, GoesOn, Under, IsAnswered, Acquires, TriesToAcquire, IsLook, Tells, Calls, SeatSpot, new_in, spot_of, is_granted};
 
 use crate::second::Word;
@@ -24,7 +24,7 @@ use crate::session::Session;
 use crate::table::{Ahead, Entry, Party, Runs};
 use spin_core::cell::{Cell, Left, Permit, Play, WritePermit};
 use spin_core::guard::{Guard, Release};
-use spin_core::relax::RelaxStrategy;
+use spin_core::relax::{BACK_OFF_STEP, RelaxStrategy};
 use spin_core::tie::Opening;
 use spin_core::trace::Watch;
 use spin_step::{Answer, Hold, Next, Operation};
@@ -49,6 +49,9 @@ pub type GuardOf<'a, T, P, R> = Guard<
     P,
     R,
 >;
+
+/// The permit of a party that has left such a lock.
+pub type LeftOf<'a, T, P> = Left<'a, T, Party<<P as Runs<T>>::Call, <P as Runs<T>>::Point>, P>;
 
 /// What a party has made of a call: how the call goes on, the point of its last step, the number that this step found, and
 /// the party.
@@ -168,7 +171,7 @@ pub fn acquire<'a, T, P: Runs<T> + Release<T, Party<P::Call, P::Point>>, R: Rela
     let (next, point, found, session) = begin(session, call, holds);
     match next {
         Next::Answers(_, _) => guarded(session),
-        Next::Continue(_) => guarded(wait::<T, P, R, W>(session, call, point, holds, found, rt)),
+        Next::Continue(_) => guarded(wait::<T, P, R, W>(session, call, point, holds, found, rt).0),
     }
 }
 
@@ -197,20 +200,21 @@ pub fn try_to_acquire<'a, T, P: Runs<T> + Release<T, Party<P::Call, P::Point>>, 
     }
 }
 
-/// Returns the session of a party that also knows what an earlier one knows.
+/// Returns the session of a party that also knows what an earlier watch knows.
 ///
 /// # Contract
 /// The party is the same, and makes no step. Of the two histories it knows the longer (`after`).
 pub fn after<'a, T, P: Runs<T>>(
     session: SessionOf<'a, T, P>,
-    earlier: &SessionOf<'_, T, P>,
+    earlier: &Watch<Entry<P::Call, T>>,
 ) -> SessionOf<'a, T, P>
-    requires { lock_of (spot_of session) ≡ lock_of (spot_of earlier.now) }
-    ensures after { After (spot_of earlier.now) (spot_of session.entry) (spot_of result) }
+    requires { lock_of (spot_of session) ≡ earlier.now.name }
+    ensures after { Learns earlier.now.entries (spot_of session.entry) (spot_of result) }
     ensures stands { (h : Option AHold) → Stands h session.entry → Stands h result }
+    ensures same { result.permit ≡ session.entry.permit }
 {
     let Session { permit, seen } = session;
-    let known = seen.later(&earlier.seen);
+    let known = seen.later(earlier);
     seen.end();
     Session {
         permit,
@@ -219,8 +223,12 @@ pub fn after<'a, T, P: Runs<T>>(
 }
 
 /// Ends the session of a party that is in no call, and holds nothing.
-pub fn finish<T, P: Runs<T>>(session: SessionOf<'_, T, P>) -> Left
+///
+/// # Contract
+/// What is returned names the cell and the party.
+pub fn finish<'a, T, P: Runs<T>>(session: SessionOf<'a, T, P>) -> LeftOf<'a, T, P>
     requires { IsOut Idle (what session.permit.view) }
+    ensures { result ≡ (session.entry.permit.key, session.entry.permit.view) }
 {
     P::laws();
     let Session { permit, seen } = session;
@@ -251,7 +259,7 @@ pub fn point_of<'a, T, P: Runs<T>>(
 }
 
 /// Goes on with a call that waits from where [`begin`] left it. It makes the call's steps, and pauses between them as
-/// [`Runs::hints`] says, until the call is answered.
+/// [`Runs::hints`] says, until the call is answered. Returns the party, and whether the call was granted.
 ///
 /// The call's last step was at `point`, and found this number: so a caller whose call is answered at once does not
 /// compute how it would go on.
@@ -267,17 +275,17 @@ pub fn wait<'a, T, P: Runs<T>, R: RelaxStrategy, W: Wait>(
     holds: Option<Hold>,
     found: u64,
     rt: &W,
-) -> SessionOf<'a, T, P>
+) -> (SessionOf<'a, T, P>, bool)
     requires knows { Knows P.meaning (spot_of session) }
     requires goes { GoesOn P.tables call point holds found session.permit.key (what session.permit.view) }
     requires quiet { StaysQuiet P.meaning call holds }
-    ensures knows { Knows P.meaning (spot_of result) }
-    ensures ended { (p : SeatSpot T P.Call P.Point) → Under P.tables P.meaning call p (spot_of session.entry) → (a : AnAnswer (Unit {0})) × (after : Option AHold) × Ended P.tables P.meaning call holds a after p (spot_of result) }
-    ensures last { SeesLast result }
-    ensures sees { (v : Option T) → SeesOn P.meaning call holds v session.entry → SeesOn P.meaning call holds v result }
+    ensures knows { Knows P.meaning (spot_of result.0) }
+    ensures ended { (p : SeatSpot T P.Call P.Point) → Under P.tables P.meaning call p (spot_of session.entry) → (a : AnAnswer (Unit {0})) × (after : Option AHold) × Ended P.tables P.meaning call holds a after p (spot_of result.0) × (is_granted a ≡ result.1) }
+    ensures last { SeesLast result.0 }
+    ensures sees { (v : Option T) → SeesOn P.meaning call holds v session.entry → SeesOn P.meaning call holds v result.0 }
 {
     let mut pace = Pace {
-        due: 1,
+        due: BACK_OFF_STEP,
         given: 0,
         has_paused: false,
     };
@@ -289,7 +297,7 @@ pub fn wait<'a, T, P: Runs<T>, R: RelaxStrategy, W: Wait>(
         pace = pause::<T, P, R, W>(rt, pace, call, from, at, holds, number);
         let (next, found, session) = step(party, call, at, holds);
         match next {
-            Next::Answers(_, _) => return session,
+            Next::Answers(answer, _) => return (session, is_granted(answer)),
             Next::Continue(to) => {
                 from = at;
                 number = found;
@@ -336,7 +344,7 @@ fn pause<T, P: Runs<T>, R: RelaxStrategy, W: Wait>(
     }
     let hints = P::hints(call, from, to, holds, found, due);
     Pace {
-        due: hints.saturating_mul(2),
+        due: hints.saturating_mul(BACK_OFF_STEP),
         given: R::bounded_pause(rt, hints, given),
         has_paused: true,
     }

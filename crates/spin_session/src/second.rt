@@ -61,6 +61,7 @@ impl Word for u64 {
                 let (permit, seen) = permit.store_second::<M>(to, seen);
                 (0, permit, seen)
             }
+            Operation::Add(by) => permit.add_second::<M>(by, seen),
             _ => unreachable!(),
         }
     }

@@ -5,6 +5,7 @@ ghost use Rattle.spin_step.specs.Operations.{wrapped};
 ghost use Rattle.spin_step.specs.declared.answer.Answer.{Answer as AnAnswer};
 ghost use Rattle.spin_session.specs.Meaning.{Meaning};
 ghost use Rattle.spin_session.specs.Operating.{Executes};
+ghost use Rattle.spin_session.specs.Pausing.{PausesBetweenLooks, is_load};
 ghost use Rattle.spin_session.specs.Turns.{PeekTold};
 
 use crate::second::Word;
@@ -87,10 +88,14 @@ pub trait Runs<T>: Rule<
         ensures { (first : ℕ) (value : T) → filled None result ≡ next_of (tables first value) call point holds found };
 
     /// Returns how many hints a waiting call gives before its next step, at the point `to`, or 0 if it makes this step at
-    /// once. Its last step, at the point `from`, found this number. A call that backs off gives `due` hints: twice as many
-    /// as in its last pause, or 1 if it has not paused. After the first step since a pause, or of the call, `due` is 0.
+    /// once. Its last step, at the point `from`, found this number. A call that backs off gives `due` hints: as
+    /// [`back_off`](spin_core::relax::RelaxStrategy::back_off) after its last pause. After the first step since a pause,
+    /// or of the call, `due` is 0.
     ///
     /// By default a call does not pause after a load if its next step is none. Otherwise it backs off.
+    ///
+    /// # Contract
+    /// A call that waits pauses between two looks (`pauses`).
     fn hints(
         call: Self::Call,
         from: Self::Point,
@@ -98,7 +103,9 @@ pub trait Runs<T>: Rule<
         holds: Option<Hold>,
         found: u64,
         due: u32,
-    ) -> u32 {
+    ) -> u32
+        ensures pauses { (first : ℕ) (value : T) → PausesBetweenLooks (tables first value) call from to holds found result }
+    {
         let _ = found;
         let looked = is_load(Self::operation(call, from, holds).1);
         if looked && !is_load(Self::operation(call, to, holds).1) {
@@ -122,6 +129,8 @@ impl<T, P: Runs<T>> Play<Opening<T>, Party<P::Call, P::Point>, Entry<P::Call, T>
     ghost told = { λ key before. PeekTold P.tables P.Word.words P.meaning key before };
 }
 
-fn is_load(operation: Operation) -> bool {
+fn is_load(operation: Operation) -> bool
+    ensures { result ≡ is_load operation }
+{
     matches!(operation, Operation::Load)
 }

@@ -1,14 +1,16 @@
 //! Calls that only the larger locks make. Begin with [`wait_for`].
-ghost use Rattle.std.specs.Prelude.{◌≡◌, ◌≢◌, IfOk, IfErr};
+ghost use Rattle.std.specs.Prelude.{◌≡◌, ◌≢◌, Option, IfOk, IfErr};
 ghost use Rattle.std.specs.Option.{IfSome};
 ghost use Rattle.spin_core.specs.Cell.{off};
 ghost use Rattle.spin_core.specs.Values.{IsLast};
 ghost use Rattle.spin_step.specs.Acts.{next_of};
 ghost use Rattle.spin_step.specs.Schedules.{resting};
 ghost use Rattle.spin_step.specs.declared.stepped.Next.TheVariants.{Answers};
+ghost use Rattle.spin_step.specs.declared.answer.Answer.{Answer as AnAnswer};
 ghost use Rattle.spin_step.specs.declared.answer.Answer.TheVariants.{Granted, Refused};
+ghost use Rattle.spin_step.specs.declared.place.Hold.{Hold as AHold};
 ghost use Rattle.spin_session.specs.Meaning.{table_at, use_at};
-ghost use Rattle.spin_session.specs.Turns.{SeesLast, SeesOn, FusesBy, either_call, either_step, Stands, MayBegin, IsAnsweredBy, IsAnswered, IsAnsweredAtOnce, IsTry, IsLook, Calls, spot_of};
+ghost use Rattle.spin_session.specs.Turns.{Ended, Knows, SeesLast, SeesOn, FusesBy, either_call, either_step, Stands, MayBegin, IsAnsweredBy, IsAnswered, IsAnsweredAtOnce, IsTry, IsLook, Calls, is_granted, spot_of};
 
 use crate::leaps::{Leaps, begin_ahead, first_ahead};
 use spin_core::relax::{RelaxStrategy, Strategy};
@@ -42,9 +44,27 @@ pub fn wait_for<'a, T, P: Leaps<T>, R: RelaxStrategy, W: Wait>(
     ensures sees { SeesOn P.meaning call holds session.entry.permit.value result }
 {
     let _ = (answer, after, strategy);
+    answered::<T, P, R, W>(session, call, holds, rt).0
+}
+
+// Makes a call that waits. Returns the party, and whether the call was granted.
+#[inline(always)]
+fn answered<'a, T, P: Leaps<T>, R: RelaxStrategy, W: Wait>(
+    session: SessionOf<'a, T, P>,
+    call: P::Call,
+    holds: Option<Hold>,
+    rt: &W,
+) -> (SessionOf<'a, T, P>, bool)
+    requires stands { Stands holds session }
+    requires may { MayBegin P.tables P.meaning call holds session.permit.key }
+    ensures knows { Knows P.meaning (spot_of result.0) }
+    ensures ended { (a : AnAnswer (Unit {0})) × (after : Option AHold) × Ended P.tables P.meaning call holds a after (spot_of session.entry) (spot_of result.0) × (is_granted a ≡ result.1) }
+    ensures last { SeesLast result.0 }
+    ensures sees { SeesOn P.meaning call holds session.entry.permit.value result.0 }
+{
     let (next, point, found, session) = begin_ahead(session, call, holds);
     match next {
-        Next::Answers(_, _) => session,
+        Next::Answers(answer, _) => (session, is_granted(answer)),
         Next::Continue(_) => wait::<T, P, R, W>(session, call, point, holds, found, rt),
     }
 }
@@ -89,6 +109,31 @@ pub fn try_for<'a, T, P: Leaps<T>, W: Wait>(
         }
     }
     unreachable!()
+}
+
+/// Makes a call that waits, and then gets a hold or is refused. It pauses between its steps as [`Runs::hints`] says.
+///
+/// # Contract
+/// Like that of [`try_for`].
+pub fn wait_or_refuse<'a, T, P: Leaps<T>, R: RelaxStrategy, W: Wait>(
+    session: SessionOf<'a, T, P>,
+    call: P::Call,
+    holds: Option<Hold>,
+    after: Option<Hold>,
+    strategy: Strategy<R>,
+    rt: &W,
+) -> Result<SessionOf<'a, T, P>, SessionOf<'a, T, P>>
+    requires stands { Stands holds session }
+    requires may { MayBegin P.tables P.meaning call holds session.permit.key }
+    requires tries { IsTry P.tables P.meaning call holds after session.permit.key }
+    ensures granted { IfOk result (λ now. Stands after now × SeesLast now × Calls P.tables call Granted (spot_of session.entry) (spot_of now)) }
+    ensures refused { IfErr result (λ now. Stands holds now × Calls P.tables call Refused (spot_of session.entry) (spot_of now)) }
+    ensures sees { IfOk result (SeesOn P.meaning call holds session.entry.permit.value) }
+    ensures still { IfErr result (SeesOn P.meaning call holds session.entry.permit.value) }
+{
+    let _ = (after, strategy);
+    let (session, granted) = answered::<T, P, R, W>(session, call, holds, rt);
+    if granted { Ok(session) } else { Err(session) }
 }
 
 /// Makes a call that either gets a hold or is refused, in at most three steps.

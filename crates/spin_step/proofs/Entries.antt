@@ -2,7 +2,7 @@
 use Rattle.std.proofs.Common.{◌≡◌, ℕ, ◌==◌, ◌&&◌, Bool, true, cond, if◌then◌else◌, Option, Some, List, [], ◌∷◌, ◌++◌, filter, arith, refl, ne_eqb, eq-eqb}
 use Rattle.std.proofs.lemmas.List.{append-nil}
 use Rattle.std.proofs.lemmas.List.Elements.{filter-append}
-use Rattle.spin_step.specs.Plain.{Plain, Kind, Holder, holder, same_kind, Change, apply, is_open, without_holder, with_kind, without_starver}
+use Rattle.spin_step.specs.Plain.{Plain, Kind, Holder, Ticket, holder, same_kind, Change, apply, is_open, without_holder, with_kind, without_starver, without_ticket}
 use Rattle.spin_step.specs.Parties.{party_of, apply_some, IsOpenStep, entries, entries_after}
 
 -- one more element at the end of a list
@@ -30,10 +30,14 @@ others-without_starver : (p q : ℕ) (rs : List ℕ) → (p ≡ q → ⊥) → f
 others-without_starver p q [] ne = refl
 others-without_starver p q (r ∷ rs) ne = grind (arith, others-without_starver p q rs)
 
+others-without_ticket : (p q : ℕ) (ts : List Ticket) → (p ≡ q → ⊥) → filter (λ t. t.party == q) (without_ticket p ts) ≡ filter (λ t. t.party == q) ts
+others-without_ticket p q [] ne = refl
+others-without_ticket p q (t ∷ ts) ne = grind (arith, others-without_ticket p q ts ne)
+
 -- an open step of another party does not change the entries of q
 pub entries-others : (s : Plain) (c : Change) (q : ℕ) → (party_of c ≡ q → ⊥) → is_open s c ≡ true → entries q (apply s c) ≡ entries q s
 entries-others s c q ne may =
-    grind (arith, filter-more, others-without_holder, others-with_kind, others-without_starver)
+    grind (arith, filter-more, others-without_holder, others-with_kind, others-without_starver, others-without_ticket)
 
 pub entries-other : (s : Plain) (p q : ℕ) (step : Option Change) → (p ≡ q → ⊥) → IsOpenStep s p step → entries q (apply_some s step) ≡ entries q s
 entries-other s p q step ne may = grind (arith, entries-others)
@@ -56,8 +60,12 @@ own-without_starver : (p : ℕ) (rs : List ℕ) → filter (λ r. r == p) (witho
 own-without_starver p [] = refl
 own-without_starver p (r ∷ rs) = grind (arith, own-without_starver p rs)
 
+own-without_ticket : (p : ℕ) (ts : List Ticket) → filter (λ t. t.party == p) (without_ticket p ts) ≡ without_ticket p (filter (λ t. t.party == p) ts)
+own-without_ticket p [] = refl
+own-without_ticket p (t ∷ ts) = grind (arith, own-without_ticket p ts)
+
 entries-owns : (s : Plain) (c : Change) → is_open s c ≡ true → entries (party_of c) (apply s c) ≡ entries_after s (Some c) (entries (party_of c) s)
-entries-owns s c may = grind (arith, filter-more, own-without_holder, own-with_kind, own-without_starver)
+entries-owns s c may = grind (arith, filter-more, own-without_holder, own-with_kind, own-without_starver, own-without_ticket)
 
 -- an open step of the party p, or none, changes its entries as if it were alone
 pub entries-own : (s : Plain) (p : ℕ) (step : Option Change) → IsOpenStep s p step → entries p (apply_some s step) ≡ entries_after s step (entries p s)

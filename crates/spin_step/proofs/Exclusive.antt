@@ -1,6 +1,6 @@
 -- Open steps keep a lock exclusive: a writer gets no second holder beside it, and there is no second upgrader and no second entered ticket.
-use Rattle.std.proofs.Common.{◌≡◌, ℕ, ◌<◌, ◌⊎◌, inl, inr, true, false, Option, List, [], ◌∷◌, ◌++◌, length, refl, arith, length-append}
-use Rattle.spin_step.specs.Plain.{Plain, Kind, writing, Holder, Ticket, Ask, Effect, comes, becomes, queues, enters, starves, runs, effect, given, Change, gets, releases, turns, apply, is_open, is_open_to, is_holder, is_only, is_first, is_empty, is_nothing, may_turn, may_come, count_against, holder, ticket, ticket_limit, without_holder, with_kind}
+use Rattle.std.proofs.Common.{◌≡◌, ℕ, ◌-◌, ◌<◌, ◌⊎◌, inl, inr, true, false, Option, List, [], ◌∷◌, ◌++◌, length, refl, arith, length-append}
+use Rattle.spin_step.specs.Plain.{Plain, Kind, reading, writing, Holder, Ticket, Ask, Effect, comes, becomes, queues, enters, sits, starves, runs, effect, given, Change, gets, releases, turns, apply, is_open, is_open_to, is_holder, is_only, is_first, is_near, is_empty, is_nothing, may_turn, may_come, count_against, holder, ticket, ticket_limit, without_holder, with_kind, without_ticket}
 use Rattle.spin_step.specs.Parties.{apply_some, IsOpenStep, IsExclusive, none_entered, first_alone_entered}
 use Rattle.spin_step.proofs.Holders.{length-without_holder}
 use Rattle.spin_step.proofs.Sums.{sum_kinds, upgrader, against, one_of, by_kinds, all_kinds, length_by, sum-more, sum-less, sum-turned, length-with_kind}
@@ -17,6 +17,7 @@ Lets s p (comes k) = (is_empty s.holders ≡ true) ⊎ (may_come k s ≡ true)
 Lets s p (becomes j k) = is_only p j s.holders ≡ true
 Lets s p (queues entered) = (s.next < ticket_limit) × (entered ≡ true → is_empty s.tickets ≡ true)
 Lets s p enters = is_first p false s.tickets ≡ true
+Lets s p sits = (count_against reading s.holders ≡ 0) × (is_near p (s.cap - length s.holders) s.tickets ≡ true)
 Lets s p starves = length s.starvers < s.cap
 Lets s p runs = is_nothing s.phase ≡ true
 
@@ -62,16 +63,29 @@ none_entered-more : (ts : List Ticket) (p n : ℕ) → none_entered ts ≡ true 
 none_entered-more [] p n e = refl
 none_entered-more (t ∷ ts) p n e = grind (arith, none_entered-more ts p n)
 
+none_entered-less : (p : ℕ) (ts : List Ticket) → none_entered ts ≡ true → none_entered (without_ticket p ts) ≡ true
+none_entered-less p [] e = refl
+none_entered-less p (t ∷ ts) e = grind (arith, none_entered-less p ts)
+
+none-alone : (ts : List Ticket) → none_entered ts ≡ true → first_alone_entered ts ≡ true
+none-alone [] e = refl
+none-alone (t ∷ ts) e = grind arith
+
+alone-less : (p : ℕ) (ts : List Ticket) → first_alone_entered ts ≡ true → first_alone_entered (without_ticket p ts) ≡ true
+alone-less p [] e = refl
+alone-less p (t ∷ ts) e = grind (arith, none_entered-less p ts, none-alone ts)
+
 -- after an open step too, only the first ticket may have entered
 tickets-kept : (s : Plain) (c : Change) → IsExclusive s → is_open s c ≡ true
     → first_alone_entered (apply s c).tickets ≡ true
-tickets-kept s c x may = grind (arith, x.one_entered, none_entered-more)
+tickets-kept s c x may = grind (arith, x.one_entered, none_entered-more, alone-less)
 
 exclusive-given : (s : Plain) (p : ℕ) (e : Effect) → IsExclusive s → Lets s p e
     → first_alone_entered (given s p e).tickets ≡ true → IsExclusive (given s p e)
 exclusive-given s p (comes k) x (inl none) one = alone s (s.holders ++ holder p k ∷ []) x (grind (arith, length-append))
 exclusive-given s p (comes k) x (inr may) one = come s k p x (room_to_come k s may).0
 exclusive-given s p (becomes j k) x only one = alone s (with_kind p j k s.holders) x (grind (arith, length-with_kind))
+exclusive-given s p sits x near one = exclusive-like (record s { holders = s.holders ++ holder p reading ∷ [] }) (given s p sits) (λ f. refl) one (come s reading p x near.0)
 exclusive-given s p e x let_in one = exclusive-like s (given s p e) (λ f. refl) one x
 
 exclusive-applied : (s : Plain) (c : Change) → IsExclusive s → is_open s c ≡ true → IsExclusive (apply s c)

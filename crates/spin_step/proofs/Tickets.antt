@@ -1,10 +1,10 @@
 -- The queue of tickets, whose numbers are consecutive.
-use Rattle.std.proofs.Common.{◌≡◌, ℕ, suc, ◌+◌, ◌-◌, ◌<◌, ◌≤◌, ◌==◌, Bool, true, false, cond, List, [], ◌∷◌, ◌++◌, length, filter, refl, arith, length-append}
+use Rattle.std.proofs.Common.{◌≡◌, ℕ, zero, suc, sym, ◌∙◌, ◌+◌, ◌-◌, ◌<◌, ◌≤◌, ◌==◌, Bool, true, false, cond, List, [], ◌∷◌, ◌++◌, length, filter, refl, arith, length-append}
 use Rattle.std.specs.Prelude.{◌⊎◌, sum_by}
 use Rattle.std.proofs.lemmas.List.Sums.{sum_by-cons}
-use Rattle.spin_step.specs.Plain.{Plain, Ticket, ticket, is_first, is_empty, serving_word, Effect, given, Change, serves, apply, is_open, with_first_entered, without_first}
+use Rattle.spin_step.specs.Plain.{Plain, Ticket, ticket, is_first, is_near, is_empty, serving_word, Effect, sits, effect, given, Change, gets, to_sit, serves, apply, is_open, with_first_entered, without_first, without_ticket}
 use Rattle.spin_step.specs.Parties.{none_entered, first_alone_entered}
-use Rattle.spin_step.specs.Tickets.{numbered_from, HasTicketNumbers, gone}
+use Rattle.spin_step.specs.Tickets.{numbered_from, HasTicketNumbers, KeepsNumbers, gone}
 
 abbrev own : ℕ → List Ticket → List Ticket
 own p ts = filter (λ t. t.party == p) ts
@@ -58,23 +58,68 @@ serving-entered s = grind arith
 pub serving-gone : (n : ℕ) (ts : List Ticket) → length ts ≤ n → is_empty ts ≡ false → n - length (without_first ts) ≡ (n - length ts) + 1
 serving-gone n ts within some = grind arith
 
-pub numbered-given : (s : Plain) (p : ℕ) (e : Effect) → HasTicketNumbers s → HasTicketNumbers (given s p e)
+-- what holds of the numbers after this effect: where one sits they may have gaps
+abbrev pub IsNumberedBy : Plain → ℕ → Effect → Type 0
+IsNumberedBy s p sits = Unit {0}
+IsNumberedBy s p e = HasTicketNumbers (given s p e)
+
+pub numbered-given : (s : Plain) (p : ℕ) (e : Effect) → HasTicketNumbers s → IsNumberedBy s p e
 numbered-given s p e numbered =
     grind (arith, length-append, serving-taken s p, numbered-more (serving_word s) s.tickets p s.next)
 
 pub numbered-serves : (s : Plain) (p : ℕ) → HasTicketNumbers s → HasTicketNumbers (apply s (serves p))
 numbered-serves s p numbered = grind arith
 
+-- Where a party sits.
+
+pub near-room : (p k : ℕ) (ts : List Ticket) → is_near p k ts ≡ true → 1 ≤ k
+near-room p k [] e = absurd (cc (e))
+near-room p zero (t ∷ ts) e = absurd (cc (e))
+near-room p (suc k) (t ∷ ts) e = omega arith
+
+pub length-without_ticket : (p k : ℕ) (ts : List Ticket) → is_near p k ts ≡ true → suc (length (without_ticket p ts)) ≡ length ts
+length-without_ticket p k [] e = absurd (cc (e))
+length-without_ticket p zero (t ∷ ts) e = absurd (cc (e))
+length-without_ticket p (suc k) (t ∷ ts) e = grind (arith, length-without_ticket p k ts)
+
+pub serving-sat : (n p k : ℕ) (ts : List Ticket) → length ts ≤ n → is_near p k ts ≡ true → n - length (without_ticket p ts) ≡ (n - length ts) + 1
+serving-sat n p k ts within near = omega (arith, within, length-without_ticket p k ts near)
+
+pub serving-grown : (n p : ℕ) (b : Bool) (ts : List Ticket) → length ts ≤ n → (n + 1) - length (ts ++ ticket p n b ∷ []) ≡ n - length ts
+serving-grown n p b ts within = omega (arith, length-append ts (ticket p n b ∷ []), within)
+
 -- the served number grows by one with each ticket that leaves; no other step changes it
+pub serving-steps : (s : Plain) (c : Change) → length s.tickets ≤ s.next → is_open s c ≡ true → serving_word (apply s c) ≡ serving_word s + gone c
+serving-steps s c within may = grind (arith, serving-grown s.next, serving-gone, serving-sat s.next)
+
+nobody_sits : (s : Plain) (p : ℕ) → s.cap ≡ 0 → is_open s (gets p to_sit) ≡ true → ⊥
+nobody_sits s p none may = let near : is_near p (s.cap - length s.holders) s.tickets ≡ true = grind (arith, may) in omega (arith, none, near-room p (s.cap - length s.holders) s.tickets near)
+
+consecutive : (s : Plain) (c : Change) → s.cap ≡ 0 → HasTicketNumbers s → is_open s c ≡ true → HasTicketNumbers (apply s c)
+consecutive s (gets p to_sit) none h may = absurd (nobody_sits s p none may)
+consecutive s (gets p ask) none h may = numbered-given s p (effect ask) h
+consecutive s (serves p) none h may = numbered-serves s p h
+consecutive s c none h may = h
+
+same_cap : (s : Plain) (c : Change) → (apply s c).cap ≡ s.cap
+same_cap s c = grind arith
+
+-- every open step keeps the numbers of a queue; where the cap is 0 nobody sits
+pub numbers-kept : (s : Plain) (c : Change) → KeepsNumbers s → is_open s c ≡ true → KeepsNumbers (apply s c)
+numbers-kept s c keeps may = (grind (arith, length-append, keeps.0, length-without_ticket), λ none. let here : s.cap ≡ 0 = sym (same_cap s c) ∙ none in (consecutive s c here (keeps.0, keeps.1 here) may).1)
+
 pub serving-moves : (s : Plain) (c : Change) → HasTicketNumbers s → is_open s c ≡ true → serving_word (apply s c) ≡ serving_word s + gone c
-serving-moves s c numbered may = grind (arith, serving-taken s, serving-gone)
+serving-moves s c numbered may = serving-steps s c numbered.0 may
+
+near-some : (p k : ℕ) (ts : List Ticket) → is_near p k ts ≡ true → is_empty ts ≡ false
+near-some p k ts e = grind arith
 
 -- the served number stays the same; or it grows by one, and somebody has a ticket before the step
 abbrev pub Advances : Plain → Change → Type 0
 Advances s c = (serving_word (apply s c) ≡ serving_word s) ⊎ ((is_empty s.tickets ≡ false) × (serving_word (apply s c) ≡ serving_word s + 1))
 
 pub serving-advances : (s : Plain) (c : Change) → HasTicketNumbers s → is_open s c ≡ true → Advances s c
-serving-advances s c numbered may = grind (arith, serving-taken s, serving-gone)
+serving-advances s c numbered may = grind (arith, serving-taken s, serving-gone, serving-sat s.next, near-some)
 
 -- Whether anybody has a ticket.
 

@@ -141,7 +141,7 @@ spins_to_write = record waits_to_write { undisturbed_steps = 1 }
 
 -- a starver waits for the lock; the call begins with an exchange that sets the flag, not with a look
 abbrev pub waits_starving : Asked
-waits_starving = record (waits to_lock_starving) { goes_for = goes_first_for to_lock_starving; undisturbed_steps = 4 }
+waits_starving = record (waits to_lock_starving) { goes_for = goes_first_for to_lock_starving; undisturbed_steps = 3 }
 
 -- A call that has made no plain step asks the first. After a plain step it asks the second, until it has got it.
 abbrev pub opens_in_turn : Ask → Ask → (ℕ → Plain → Bool) → Bool → ℕ → ℕ → Plain → Bool
@@ -268,6 +268,7 @@ initializes = record a_call {
   answers = λ said. elim said [ gives_value ↦ gave (λ p. (gets p to_begin ∷ completes p ∷ []) ∷ [] ∷ []) | _ ↦ never ];
   limit = λ words. unlimited;
   is_open_next = λ first k p s. not first || (is_nothing s.phase || is_complete s.phase);
+  undisturbed_steps = 3;
 }
 
 -- like `initializes`, for a call whose own closure fails
@@ -285,6 +286,7 @@ abbrev pub waits_for_value : Asked
 waits_for_value = record initializes {
   answers = λ said. elim said [ gives_value ↦ gave (λ p. [] ∷ []) | _ ↦ never ];
   is_open_next = λ first k p s. is_complete s.phase;
+  undisturbed_steps = 1;
 }
 
 -- the answer is the value, or that there is none; the second is right at a moment when `none` holds of the plain lock
@@ -319,4 +321,5 @@ meets = record a_call {
   ];
   limit = λ words. changes_within 1;
   is_open_next = λ first k p s. not first && (may_leave_at s k || is_leading s k);
+  undisturbed_steps = 1;
 }

@@ -3,7 +3,7 @@
 use Rattle.std.specs.Prelude.{◌≡◌, ℕ, suc, ◌⊎◌, ◌==◌, ◌&&◌, ◌||◌, Bool, true, false, not, Option, Some, None, List, [], ◌∷◌, length, map}
 use Rattle.std.specs.List.{list_any}
 use Rattle.std.specs.Option.{option_map_or}
-use Rattle.spin_step.specs.Plain.{Plain, upgradable, asking, Ask, to_read, to_read_upgradable, to_write, to_upgrade, to_upgrade_asked, to_take_ticket, to_enter, to_take_and_enter, to_lock_unregistered, to_lock_starving, to_lock_starving_alone, to_starve, to_begin, Change, gets, stops_starving, turns, completes, writing, is_open_to, is_empty, count_kind, reader_count}
+use Rattle.spin_step.specs.Plain.{Plain, upgradable, asking, Ask, to_read, to_read_upgradable, to_write, to_upgrade, to_upgrade_asked, to_take_ticket, to_enter, to_take_and_enter, to_sit, to_lock_unregistered, to_lock_starving, to_lock_starving_alone, to_starve, to_begin, Change, gets, stops_starving, turns, completes, writing, is_open_to, is_empty, count_kind, reader_count}
 use Rattle.spin_step.specs.Parties.{party_of}
 use Rattle.spin_step.specs.declared.answer.Answer.{Answer}
 use Rattle.spin_step.specs.declared.answer.Answer.TheVariants.{Granted, Refused, Locked, Starved, Done, Is, Count, Value, NoValue, Failed, Leader, Follower}
@@ -93,6 +93,7 @@ pub data Limit : Type 0 where
 abbrev pub grant : ℕ → Ask → List Change
 grant p to_upgrade_asked = turns p upgradable asking ∷ gets p to_upgrade_asked ∷ []
 grant p to_enter = gets p to_take_ticket ∷ gets p to_enter ∷ []
+grant p to_sit = gets p to_take_ticket ∷ gets p to_sit ∷ []
 grant p to_lock_starving = gets p to_lock_starving ∷ stops_starving p ∷ []
 grant p to_lock_starving_alone = gets p to_lock_starving_alone ∷ stops_starving p ∷ []
 grant p ask = gets p ask ∷ []
@@ -106,6 +107,7 @@ same_ask to_upgrade_asked to_upgrade_asked = true
 same_ask to_take_ticket to_take_ticket = true
 same_ask to_enter to_enter = true
 same_ask to_take_and_enter to_take_and_enter = true
+same_ask to_sit to_sit = true
 same_ask to_lock_unregistered to_lock_unregistered = true
 same_ask to_lock_starving to_lock_starving = true
 same_ask to_lock_starving_alone to_lock_starving_alone = true

@@ -1,6 +1,6 @@
 -- The plain lock: lists of numbered parties and a few numbers, without a word, a bit or a loop. One record serves every lock. Each lock
 -- uses the fields that it needs, and never changes the others.
-use Rattle.std.specs.Prelude.{ℕ, ◌+◌, ◌-◌, ◌*◌, ◌/◌, ◌%◌, ◌^◌, Bool, true, false, not, ◌&&◌, ◌||◌, if◌then◌else◌, List, [], ◌∷◌, ◌++◌, length, max, nat_lt, ◌==◌, count_by, sum_by}
+use Rattle.std.specs.Prelude.{ℕ, zero, suc, ◌+◌, ◌-◌, ◌*◌, ◌/◌, ◌%◌, ◌^◌, Bool, true, false, not, ◌&&◌, ◌||◌, if◌then◌else◌, List, [], ◌∷◌, ◌++◌, length, max, nat_lt, ◌==◌, count_by, sum_by}
 
 -- how a holder holds the lock
 pub data Kind : Type 0 where
@@ -54,6 +54,7 @@ pub data Ask : Type 0 where
   to_take_ticket : Ask
   to_enter : Ask
   to_take_and_enter : Ask  -- the `try_lock` of a ticket lock
+  to_sit : Ask  -- to read in its turn: in place of its ticket the party becomes a reader
   to_lock_unregistered : Ask  -- the lock, for a party that is no starver
   to_lock_starving : Ask  -- the lock, for a starver
   to_lock_starving_alone : Ask  -- the lock, for a starver, if nobody else starves
@@ -90,6 +91,12 @@ is_starver p (q ∷ qs) = (q == p) || is_starver p qs
 abbrev pub is_first : ℕ → Bool → List Ticket → Bool
 is_first p entered [] = false
 is_first p entered (t ∷ ts) = (t.party == p) && (if entered then t.entered else not t.entered)
+
+-- a ticket of the party is among the first k
+abbrev pub is_near : ℕ → ℕ → List Ticket → Bool
+is_near p k [] = false
+is_near p zero (t ∷ ts) = false
+is_near p (suc k) (t ∷ ts) = (t.party == p) || is_near p k ts
 
 abbrev pub is_nothing : Phase → Bool
 is_nothing phase = elim phase [ nothing ↦ true | _ ↦ false ]
@@ -138,6 +145,7 @@ is_open_to s p to_upgrade_asked = is_only p asking s.holders
 is_open_to s p to_take_ticket = nat_lt s.next ticket_limit
 is_open_to s p to_enter = is_first p false s.tickets
 is_open_to s p to_take_and_enter = is_empty s.tickets && nat_lt s.next ticket_limit
+is_open_to s p to_sit = (count_against reading s.holders == 0) && is_near p (s.cap - length s.holders) s.tickets
 is_open_to s p to_lock_unregistered = is_empty s.holders && is_empty s.starvers
 is_open_to s p to_lock_starving = is_starver p s.starvers && is_empty s.holders
 is_open_to s p to_lock_starving_alone = is_starver p s.starvers && (length s.starvers == 1) && is_empty s.holders
@@ -200,12 +208,17 @@ with_first_entered ts = elim ts [ [] ↦ [] | t ∷ rest ↦ ticket t.party t.nu
 abbrev pub without_first : List Ticket → List Ticket
 without_first ts = elim ts [ [] ↦ [] | t ∷ rest ↦ rest ]
 
+abbrev pub without_ticket : ℕ → List Ticket → List Ticket
+without_ticket p [] = []
+without_ticket p (t ∷ ts) = if t.party == p then ts else t ∷ without_ticket p ts
+
 -- what changes for a party when it gets what it asks
 pub data Effect : Type 0 where
   comes : Kind → Effect  -- it becomes a holder of this kind
   becomes : Kind → Kind → Effect  -- its hold changes from the first kind to the second
   queues : Bool → Effect  -- it takes the next ticket; if the Bool is true, it also enters with this ticket
   enters : Effect
+  sits : Effect  -- it leaves the queue, and is a reader
   starves : Effect
   runs : Effect  -- its closure runs
 
@@ -218,6 +231,7 @@ effect to_upgrade_asked = becomes asking writing
 effect to_take_ticket = queues false
 effect to_enter = enters
 effect to_take_and_enter = queues true
+effect to_sit = sits
 effect to_lock_unregistered = comes writing
 effect to_lock_starving = comes writing
 effect to_lock_starving_alone = comes writing
@@ -229,6 +243,7 @@ given s p (comes k) = record s { holders = s.holders ++ holder p k ∷ [] }
 given s p (becomes j k) = record s { holders = with_kind p j k s.holders }
 given s p (queues entered) = record s { tickets = s.tickets ++ ticket p s.next entered ∷ []; next = s.next + 1 }
 given s p enters = record s { tickets = with_first_entered s.tickets }
+given s p sits = record s { holders = s.holders ++ holder p reading ∷ []; tickets = without_ticket p s.tickets }
 given s p starves = record s { starvers = s.starvers ++ p ∷ [] }
 given s p runs = record s { phase = running p }
 

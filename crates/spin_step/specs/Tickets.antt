@@ -1,6 +1,6 @@
 -- The queue of tickets, whose numbers are consecutive up to the next number.
 use Rattle.std.specs.Prelude.{◌≡◌, ℕ, suc, ◌≤◌, ◌+◌, ◌==◌, Bool, false, Option, Some, None, List, [], ◌∷◌, length, filter, if◌then◌else◌, nat_lt}
-use Rattle.spin_step.specs.Plain.{Plain, Ticket, ticket, ticket_limit, Change, gets, serves, to_enter, is_open, serving_word}
+use Rattle.spin_step.specs.Plain.{Plain, Ticket, ticket, ticket_limit, Change, gets, serves, to_enter, to_sit, is_open, serving_word}
 
 abbrev pub numbered_from : ℕ → List Ticket → Type 0
 numbered_from k [] = Unit {0}
@@ -9,6 +9,10 @@ numbered_from k (t ∷ ts) = (t.number ≡ k) × numbered_from (suc k) ts
 -- the tickets have the numbers from the served one to the last one taken, in order and without gaps
 abbrev pub HasTicketNumbers : Plain → Type 0
 HasTicketNumbers s = (length s.tickets ≤ s.next) × numbered_from (serving_word s) s.tickets
+
+-- the same where the cap is 0; with a cap a party may leave the queue out of turn
+abbrev pub KeepsNumbers : Plain → Type 0
+KeepsNumbers s = (length s.tickets ≤ s.next) × (s.cap ≡ 0 → numbered_from (serving_word s) s.tickets)
 
 -- Take a party whose one ticket has this number and has not entered. While `serving` is the served number, `turn` says
 -- whether the plain lock lets this party enter.
@@ -26,4 +30,6 @@ served number = number + 1
 
 -- how many tickets a plain step removes
 abbrev pub gone : Change → ℕ
-gone c = elim c [ serves p ↦ 1 | _ ↦ 0 ]
+gone (serves p) = 1
+gone (gets p to_sit) = 1
+gone _ = 0

@@ -41,4 +41,4 @@ pub ruleset grants = (read-word, upgradable_read-word, only_upgradable-word, onl
 
 pub ruleset gives = (rw_release-gives, rw_turn-gives)
 
-pub ruleset counts = (readers-word, writers-word)
+pub ruleset counts = (readers-word, writers-word, empty-word)

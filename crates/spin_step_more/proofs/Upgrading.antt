@@ -1,7 +1,7 @@
 -- While a reader asks to upgrade, the other readers only release. The reader is alone when all others have released.
 use Rattle.std.proofs.Common.{◌≡◌, ℕ, ◌+◌, ◌↔◌, true, false, cond, List, [], ◌∷◌, Some, refl, arith}
 use Rattle.std.proofs.lemmas.List.Sums.{sum_by-cons}
-use Rattle.spin_step.specs.Plain.{Plain, Kind, reading, upgradable, asking, writing, Effect, comes, becomes, effect, given, Change, gets, releases, turns, to_write, to_upgrade_asked, apply, is_open, is_open_to, is_holder, is_only, count_kind, with_kind}
+use Rattle.spin_step.specs.Plain.{Plain, Kind, reading, upgradable, asking, writing, Effect, comes, becomes, sits, effect, given, Change, gets, releases, turns, to_write, to_upgrade_asked, apply, is_open, is_open_to, is_holder, is_only, count_kind, with_kind}
 use Rattle.spin_step.specs.Parties.{party_of, IsExclusive}
 use Rattle.spin_step.specs.Steps.{bit}
 use Rattle.spin_step_more.specs.Readers.{reader_goes}
@@ -18,6 +18,8 @@ readers_stay s p q (comes k) alone found let_in stays =
 readers_stay s p q (becomes j k) alone found let_in stays = let after = with_kind q j k s.holders in
     let fewer = sum-less (one_of asking) p asking after stays in
     grind (arith, all_kinds s.holders, beside_asking s p alone found, length-with_kind q j k s.holders, all_kinds after)
+readers_stay s p q sits alone found let_in stays =
+    grind (arith, beside_asking s p alone found, all_kinds s.holders, by_kinds (against reading) s.holders)
 readers_stay s p q _ alone found let_in stays = omega arith
 
 -- as long as the asking reader asks, each step is a release by a reader or does not change the number of readers

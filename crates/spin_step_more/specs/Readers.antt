@@ -19,6 +19,10 @@ readers_in word = word / weight reading + (word % (weight asking - weight upgrad
 abbrev pub writers_in : ℕ → ℕ
 writers_in word = word % weight upgradable
 
+-- some party holds
+abbrev pub is_held_word : ℕ → Bool
+is_held_word word = not (word == 0)
+
 -- the word shows a holder of this kind
 abbrev pub tells : Kind → ℕ → Bool
 tells reading word = not (nat_lt word (weight reading))

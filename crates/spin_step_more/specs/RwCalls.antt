@@ -1,19 +1,19 @@
 -- The calls of the read-write lock, step by step, and what each step is in the plain lock.
 use Rattle.std.specs.Prelude.{ℕ, ◌-◌, ◌/◌, ◌==◌, ◌&&◌, Option, Some, None, nat_lt, min}
 use Rattle.spin_step.specs.Plain.{reading, upgradable, asking, writing, weight, Ask, to_read, to_read_upgradable, to_write, to_upgrade, to_upgrade_asked, gets, releases, turns}
-use Rattle.spin_step_more.specs.Readers.{reader_limit, readers_in, writers_in, tells, read, read_upgradable, write, upgrade, upgrade_asked}
+use Rattle.spin_step_more.specs.Readers.{reader_limit, readers_in, writers_in, is_held_word, tells, read, read_upgradable, write, upgrade, upgrade_asked}
 use Rattle.spin_step.specs.declared.place.Hold.{Hold}
 use Rattle.spin_step.specs.declared.place.Hold.TheVariants as hold
 use Rattle.spin_step.specs.declared.stepped.Next.{Next}
 use Rattle.spin_step.specs.declared.stepped.Next.TheVariants.{Continue, Answers}
 use Rattle.spin_step.specs.declared.answer.Answer.{Answer}
-use Rattle.spin_step.specs.declared.answer.Answer.TheVariants.{Granted, Refused, Done, Count}
+use Rattle.spin_step.specs.declared.answer.Answer.TheVariants.{Granted, Refused, Done, Count, Is}
 use Rattle.spin_step_more.specs.declared.rw_calls.RwCall.{RwCall}
-use Rattle.spin_step_more.specs.declared.rw_calls.RwCall.TheVariants.{TryRead, Read, TryUpgradeableRead, UpgradeableRead, TryWrite, TryWriteWeak, Write, ReaderCount, WriterCount, TryUpgrade, TryUpgradeWeak, Upgrade, Downgrade, DowngradeToUpgradeable, Release}
+use Rattle.spin_step_more.specs.declared.rw_calls.RwCall.TheVariants.{TryRead, Read, TryUpgradeableRead, UpgradeableRead, TryWrite, TryWriteWeak, Write, ReaderCount, WriterCount, IsLocked, TryUpgrade, TryUpgradeWeak, Upgrade, Downgrade, DowngradeToUpgradeable, Release}
 use Rattle.spin_step_more.specs.declared.rw_calls.RwPoint.{RwPoint}
 use Rattle.spin_step_more.specs.declared.rw_calls.RwPoint.TheVariants.{First, Exchange, Asking}
 use Rattle.spin_step.specs.Calls.{Asked}
-use Rattle.spin_step.specs.Asks.{is_above_read, is_held_some, is_write, looks_and_tries, spins_to_write, waits_to_upgrade, waits, tries, tries_weakly, counts_readers, counts_writers, turns_to, gives_back}
+use Rattle.spin_step.specs.Asks.{is_above_read, is_held_some, is_write, looks_and_tries, spins_to_write, waits_to_upgrade, waits, tries, tries_weakly, counts_readers, counts_writers, looks, turns_to, gives_back}
 use Rattle.spin_step_more.specs.RwKind.{rw}
 use Rattle.spin_step.specs.Machines.{Machine}
 use Rattle.spin_step.specs.Acts.{one_number, either, Act, load, load_for, exchange, weak_exchange, retry, store, swap, Table, machine_of}
@@ -49,6 +49,7 @@ act_of cap TryWriteWeak l h = weak_exchange 0 write (λ p. gets p to_write) (gra
 act_of cap Write l h = weak_exchange 0 write (λ p. gets p to_write) (granted hold.Write) (Continue First)
 act_of cap ReaderCount l h = load (λ w. Answers (Count (readers_in w)) h)
 act_of cap WriterCount l h = load (λ w. Answers (Count (writers_in w)) h)
+act_of cap IsLocked l h = load (λ w. Answers (Is (is_held_word w)) h)
 act_of cap TryUpgrade l h = exchange (swap (weight upgradable) upgrade) (λ p. gets p to_upgrade) (granted hold.Write) (λ w. Answers Refused h)
 act_of cap TryUpgradeWeak l h = weak_exchange (weight upgradable) upgrade (λ p. gets p to_upgrade) (granted hold.Write) (Answers Refused h)
 act_of cap Upgrade Asking h = weak_exchange (weight asking) upgrade_asked (λ p. gets p to_upgrade_asked) (granted hold.Write) (Continue Asking)
@@ -70,6 +71,7 @@ asks_of TryWriteWeak h = tries_weakly to_write
 asks_of Write h = spins_to_write
 asks_of ReaderCount h = counts_readers
 asks_of WriterCount h = counts_writers
+asks_of IsLocked h = looks
 asks_of TryUpgrade h = tries to_upgrade
 asks_of TryUpgradeWeak h = tries_weakly to_upgrade
 asks_of Upgrade h = waits_to_upgrade

@@ -16,10 +16,11 @@
 //! assert_eq!(rt; rw::write_to_upgradable(WRITER), UPGRADABLE);
 //! assert_eq!(rt; rw::readers(READER + UPGRADABLE), 2);
 //! ```
-ghost use Rattle.std.specs.Prelude.{◌≡◌, ◌<◌, ◌≤◌, ◌/◌, ◌%◌, ℕ, true, min};
+ghost use Rattle.std.specs.Prelude.{◌≡◌, ◌<◌, ◌≤◌, ◌/◌, ◌%◌, ℕ, [], true, min};
 ghost use Rattle.spin_step.specs.Plain.{Plain, reading, upgradable, asking, writing, weight, gets, releases, turns, to_read, to_read_upgradable, to_write, to_upgrade, to_upgrade_asked, is_holder, count_kind, reader_count, rw_word};
+ghost use Rattle.spin_step.specs.Parties.{is_held};
 ghost use Rattle.spin_step.specs.Steps.{Decides, GivesWord};
-ghost use Rattle.spin_step_more.specs.Readers.{reader_limit, OneOfEach, readers_in, writers_in, tells, has_room, read, read_upgradable, write, upgrade, upgrade_asked, released, turned};
+ghost use Rattle.spin_step_more.specs.Readers.{reader_limit, OneOfEach, readers_in, writers_in, is_held_word, tells, has_room, read, read_upgradable, write, upgrade, upgrade_asked, released, turned};
 
 /// The weight of each reader in the word.
 pub const READER: usize = 8;
@@ -266,4 +267,16 @@ pub fn writers(word: usize) -> usize
     ensures plain { (s : Plain) → OneOfEach s → rw_word s ≡ word → result ≡ count_kind writing s.holders }
 {
     word % UPGRADABLE
+}
+
+/// Returns `true` if any thread holds the lock.
+///
+/// # Contract
+/// The answer is that of the plain lock.
+#[tactic(auto, using(crate::proofs::ReaderSteps::counts))]
+pub fn is_locked(word: usize) -> bool
+    ensures exact { result ≡ is_held_word word }
+    ensures plain { (s : Plain) → s.tickets ≡ [] → rw_word s ≡ word → is_held s ≡ result }
+{
+    word != 0
 }

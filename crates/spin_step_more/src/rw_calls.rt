@@ -35,6 +35,8 @@ pub enum RwCall {
     ReaderCount,
     /// Counts the writers.
     WriterCount,
+    /// Answers whether a party holds the lock.
+    IsLocked,
     /// Tries to turn the upgradable reader into the writer. It fails if another party reads; then the party
     /// stays upgradable.
     TryUpgrade,
@@ -109,7 +111,8 @@ impl<T> Steps<T, RwCall, RwPoint> for RwTable {
                 | RwCall::TryWriteWeak
                 | RwCall::Write
                 | RwCall::ReaderCount
-                | RwCall::WriterCount,
+                | RwCall::WriterCount
+                | RwCall::IsLocked,
                 None,
             )
             | (
@@ -199,6 +202,7 @@ impl<T> Steps<T, RwCall, RwPoint> for RwTable {
             RwCall::Write => exchanges(word, 0, again),
             RwCall::ReaderCount => Next::Answers(Answer::Count(rw::readers(word)), holds),
             RwCall::WriterCount => Next::Answers(Answer::Count(rw::writers(word)), holds),
+            RwCall::IsLocked => Next::Answers(Answer::Is(rw::is_locked(word)), holds),
             RwCall::TryUpgrade | RwCall::TryUpgradeWeak => {
                 exchanges(word, rw::UPGRADABLE, refused)
             }

@@ -56,6 +56,7 @@ module _ (cap : ℕ) where
       record {
         computes = grind arith;
         calls = λ c h. (number_of c, grind arith);
+        promises = record { begins = λ c. grind arith; limited = λ c h words. grind arith; tries = λ c h ask. grind arith; sections = λ d. grind arith };
         others = λ p q c l h s step r span ne shape may belongs knows. tt;
         owes = owes;
         soon = λ p c l h s w span. grind arith;

@@ -29,6 +29,7 @@ seats_pays =
     record {
       computes = grind arith;
       calls = λ c h. (0, grind arith);
+      promises = record { begins = λ c. grind arith; limited = λ c h words. grind arith; tries = λ c h ask. grind arith; sections = λ d. grind arith };
       others = λ p q c l h s step r span ne shape may belongs knows. tt;
       owes = λ p c l h s w span. grind (arith, enter_means 2 p s w, leave_means 2 p s w, sits 2 p s, each_reads s.holders);
       -- if nobody disturbs the call, its exchange succeeds on a word with a free seat, at once or after a look

@@ -1,6 +1,6 @@
 -- A lock of two seats of which some promises say too little. `enter` looks for ever, both tries wait where they should
 -- be refused, and `count` answers 7.
-use Rattle.std.specs.Prelude.{ℕ, true, false, Option, List, [], ◌∷◌}
+use Rattle.std.specs.Prelude.{ℕ, true, false, Option, None, List, [], ◌∷◌}
 use Rattle.spin_step.specs.Plain.{to_read}
 use Rattle.spin_step.specs.declared.place.Hold.{Hold}
 use Rattle.spin_step.specs.declared.stepped.Next.TheVariants.{Continue, Answers}
@@ -20,9 +20,9 @@ use Rattle.spin_seats.specs.Table.{TableOfSeats, SeatsMachine, seats_table, act_
 abbrev pub enters_never : Asked
 enters_never = record (waits to_read) { is_open_next = λ first k p s. false }
 
--- a try that may wait
+-- a try whose promise says that it waits
 abbrev pub tries_by_waiting : Asked
-tries_by_waiting = record (tries to_read) { waits = true; limit = λ words. unlimited }
+tries_by_waiting = record (tries to_read) { waits = true; tries = None; limit = λ words. unlimited }
 
 -- a count of anything
 abbrev pub counts_anything : Asked

@@ -7,9 +7,9 @@ use Rattle.spin_step.specs.declared.place.Hold.{Hold}
 use Rattle.spin_step.specs.declared.place.Hold.TheVariants as hold
 use Rattle.spin_step.specs.declared.stepped.Next.TheVariants.{Continue, Answers}
 use Rattle.spin_step.specs.declared.answer.Answer.{Answer}
-use Rattle.spin_step.specs.declared.answer.Answer.TheVariants.{Refused, Done, Count}
+use Rattle.spin_step.specs.declared.answer.Answer.TheVariants.{Refused, Done, Count, Is}
 use Rattle.spin_step_more.specs.declared.rw_calls.RwCall.{RwCall}
-use Rattle.spin_step_more.specs.declared.rw_calls.RwCall.TheVariants.{TryRead, Read, TryUpgradeableRead, TryWrite, TryWriteWeak, Write, ReaderCount, WriterCount, TryUpgrade, Upgrade, Downgrade, Release, DowngradeToUpgradeable}
+use Rattle.spin_step_more.specs.declared.rw_calls.RwCall.TheVariants.{TryRead, Read, TryUpgradeableRead, TryWrite, TryWriteWeak, Write, ReaderCount, WriterCount, IsLocked, TryUpgrade, Upgrade, Downgrade, Release, DowngradeToUpgradeable}
 use Rattle.spin_step_more.specs.declared.rw_calls.RwPoint.{RwPoint}
 use Rattle.spin_step_more.specs.declared.rw_calls.RwPoint.TheVariants.{First, Exchange, Asking}
 use Rattle.spin_step.specs.Machines.{Machine}
@@ -28,7 +28,7 @@ pub data Mistake : Type 0 where
   upgrades_at_once upgrades_unasked upgrades_plainly asks_twice upgrades_anew asks_anew upgrades_by_looks : Mistake
   upgrades_strongly upgrades_by_chance upgrades_any_reader : Mistake
   downgrades_asking downgrades_in_two ends_reading never_releases : Mistake
-  counts_without_upgradable counts_without_asking counts_asking_as_writing : Mistake
+  counts_without_upgradable counts_without_asking counts_asking_as_writing looks_for_a_writer : Mistake
   opens_written forgets_its_value has_no_owner : Mistake
 
 -- the cap of the lock
@@ -156,6 +156,8 @@ module _ {V : Type 0} (v : V) where
       counts h (λ w. if tells upgradable w then suc (w / weight reading) else w / weight reading)
   -- `writer_count` counts a reader that asks to upgrade
   acts counts_asking_as_writing WriterCount l h = counts h (λ w. if tells asking w then 1 else writers_in w)
+  -- `is_locked` does not tell of readers
+  acts looks_for_a_writer IsLocked l h = load (λ w. Answers (Is (tells writing w)) h)
   acts m c l h = act_of (cap_of m) c l h
 
   -- the lock with the wrong steps

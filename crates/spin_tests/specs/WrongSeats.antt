@@ -11,7 +11,7 @@ use Rattle.spin_seats.specs.declared.calls.SeatsCall.{SeatsCall}
 use Rattle.spin_seats.specs.declared.calls.SeatsCall.TheVariants as call
 use Rattle.spin_seats.specs.declared.calls.SeatsPoint.{SeatsPoint}
 use Rattle.spin_seats.specs.declared.calls.SeatsPoint.TheVariants.{First, Exchange}
-use Rattle.spin_step.specs.Calls.{Asked}
+use Rattle.spin_step.specs.Calls.{Asked, unlimited}
 use Rattle.spin_step.specs.Acts.{Act, load, exchange, retry, store, section, machine_of}
 use Rattle.spin_step.specs.declared.table.Operation.TheVariants as op
 use Rattle.spin_seats.specs.Table.{granted, goes_for, enters_by, act_of, asks_of, seats_table, SeatsMachine, seats_machine}
@@ -20,6 +20,7 @@ use Rattle.spin_step.specs.Asks.{waits, gives_back}
 pub data Mistake : Type 0 where
   seats_one_too_many tries_for_ever enters_in_one enters_by_chance looks_twice enters_by_a_guess enters_anew : Mistake
   enters_or_not looks_on leaves_for_two nobody_leaves keeps_all counts_free opens_taken seats_one_on_none : Mistake
+  counts_without_a_limit tries_and_waits sits_in_sections : Mistake
 
 -- how many seats the lock has
 abbrev seats_of : Mistake → ℕ
@@ -66,6 +67,10 @@ promises enters_or_not call.Enter h = asks_of call.TryEnter h
 promises looks_on call.Enter h = slow_enter
 -- by the promise of `leave`, no party may begin this call
 promises keeps_all call.Leave h = gives_back (λ hold. false) h
+-- `count` may look for ever
+promises counts_without_a_limit call.Count h = record (asks_of call.Count h) { limit = λ words. unlimited }
+-- `try_enter` may wait
+promises tries_and_waits call.TryEnter h = record (asks_of call.TryEnter h) { waits = true; limit = λ words. unlimited }
 promises m c h = asks_of c h
 
 -- the lock with this mistake
@@ -79,4 +84,8 @@ wrong nobody_leaves =
     record m { begin = λ c h. elim c [ call.Leave ↦ None | other ↦ m.begin other h ] }
 -- the word says at first that a seat is taken, but no party has a seat
 wrong opens_taken = machine_of (record (seats_table 2) { words = 1 })
+-- each step may be a section, so `try_enter` may check and take at once
+wrong sits_in_sections =
+    let m : SeatsMachine = seats_machine 2 in
+    record m { lock_kind = record m.lock_kind { steps_in_sections = true } }
 wrong m = machine_of (record (seats_table (seats_of m)) { act = acts m; asks = promises m })

@@ -18,6 +18,8 @@ mod cache;
 #[cfg(test)]
 pub mod careless;
 #[cfg(test)]
+mod channels;
+#[cfg(test)]
 mod comments;
 #[cfg(test)]
 mod counter;
@@ -34,6 +36,8 @@ mod explorer;
 mod granted;
 #[cfg(test)]
 mod guide;
+#[cfg(test)]
+mod in_order;
 #[cfg(test)]
 mod ledger;
 #[cfg(test)]

@@ -22,14 +22,15 @@ const ROWS: &[Row] = &[
         &[],
         "flag 5 1",
         0,
-        "outcome 1\nend: 0 value 5\n\nstates 1, outcomes 1, stuck 0\n",
+        "in order: the lock\noutcome 1\nend: 0 value 5\n\nstates 1, outcomes 1, stuck 0\n",
         "",
     ),
     (
         &[],
         LOOK,
         0,
-        "outcome 1\n0 begin lock: granted\n0 read: value 5\nend: 1 value 5\n\nstates 5, outcomes 1, stuck 0\n",
+        "thread 0 ends with the lock\n\
+         outcome 1\n0 begin lock: granted\n0 read: value 5\nend: 1 value 5\n\nstates 5, outcomes 1, stuck 0\n",
         "",
     ),
     (
@@ -43,7 +44,7 @@ const ROWS: &[Row] = &[
         &[],
         "lock a flag 5\nlock b once\n0 b begin get\n0 a read\n",
         0,
-        "outcome 1\n0 b begin get: none\n0 a read: passed over\nend a: 0 value 5\nend b: 0 value none\n\n\
+        "in order: a < b\noutcome 1\n0 b begin get: none\n0 a read: passed over\nend a: 0 value 5\nend b: 0 value none\n\n\
          states 4, outcomes 1, stuck 0\n",
         "",
     ),
@@ -58,7 +59,8 @@ const ROWS: &[Row] = &[
         &[],
         "barrier 2 1\n0 begin wait\n",
         3,
-        "deadlock 1\n0 begin wait: pending\nend: 1 0 value none\nschedule\n0 begin wait\n0 step\n\n\
+        "line 2: thread 0 waits for other threads at the lock\n\
+         deadlock 1\n0 begin wait: pending\nend: 1 0 value none\nschedule\n0 begin wait\n0 step\n\n\
          states 3, outcomes 0, stuck 3\n",
         "",
     ),
@@ -66,7 +68,8 @@ const ROWS: &[Row] = &[
         &[],
         "fair 5 8 0 2\n0 begin starve\n1 begin lock\n1 begin release\n",
         3,
-        "outcome 1\n0 begin starve: granted\n1 begin lock: granted\n1 begin release: done\nend: 2 value 5\n\n\
+        "thread 0 ends with the lock\n\
+         outcome 1\n0 begin starve: granted\n1 begin lock: granted\n1 begin release: done\nend: 2 value 5\n\n\
          stuck 1\n0 begin starve: granted\n1 begin lock: pending\n1 begin release: pending\nend: 2 value 5\n\
          schedule\n0 begin starve\n0 step\n0 step\n\nstates 27, outcomes 1, stuck 3\n",
         "",
@@ -76,16 +79,26 @@ const ROWS: &[Row] = &[
         &[],
         "flag 5 2\n0 begin lock\n0 leak\n1 owner get\n",
         0,
-        "outcome 1\n0 begin lock: granted\n0 leak: leaked\n1 owner get: value 5\nend: 1 value 5\n\n\
+        "line 3: thread 0 never releases the lock\n\
+         outcome 1\n0 begin lock: granted\n0 leak: leaked\n1 owner get: value 5\nend: 1 value 5\n\n\
          outcome 2\n0 begin lock: granted\n0 leak: leaked\n1 owner get: passed over\nend: 1 value 5\n\n\
          states 15, outcomes 2, stuck 0\n",
+        "",
+    ),
+    // As many threads as a text may have.
+    (
+        &[],
+        "flag 5 1000\n999 begin lock\n",
+        0,
+        "thread 999 ends with the lock\n\
+         outcome 1\n999 begin lock: granted\nend: 1 value 5\n\nstates 4, outcomes 1, stuck 0\n",
         "",
     ),
     (
         &["--limit", "5"],
         "flag 5 1",
         0,
-        "outcome 1\nend: 0 value 5\n\nstates 1, outcomes 1, stuck 0\n",
+        "in order: the lock\noutcome 1\nend: 0 value 5\n\nstates 1, outcomes 1, stuck 0\n",
         "",
     ),
     (
@@ -127,7 +140,7 @@ fn texts_and_what_comes_of_them(rt: HostRuntime) {
 
 #[test]
 fn streams_that_fail(rt: HostRuntime) {
-    let told = "outcome 1\nend: 0 value 5\n\nstates 1, outcomes 1, stuck 0\n";
+    let told = "in order: the lock\noutcome 1\nend: 0 value 5\n\nstates 1, outcomes 1, stuck 0\n";
     for room in 0..told.len().saturating_add(1) {
         let mut input = Tape::new(b"flag 5 1\n");
         let mut output = Paper::new(rt.alloc(), usize::MAX, room);

@@ -70,8 +70,8 @@ pub const WITHIN: &[(&str, &str)] = &[
         "1 0 value none: 0\n2 0 value none: 0\nend: 0 value none\n",
     ),
     (
-        "rw 5 1 15\n0 begin try_read\n1 begin read\n2 begin try_upgradeable_read\n3 begin upgradeable_read\n4 begin try_write\n5 begin try_write_weak\n6 begin write\n7 begin reader_count\n8 begin writer_count\n9 begin try_upgrade\n10 begin try_upgrade_weak\n11 begin upgrade\n12 begin downgrade\n13 begin downgrade_to_upgradeable\n14 begin release\n",
-        "1 0 begun: 0\n2 1 begun: 0\n3 2 begun: 0\n4 3 begun: 0\n5 4 begun: 0\n6 5 begun: 0\n7 6 begun: 0\n8 7 begun: 0\n9 8 begun: 0\n10 9 passed over: 0\n11 10 passed over: 0\n12 11 passed over: 0\n13 12 passed over: 0\n14 13 passed over: 0\n15 14 passed over: 0\nend: 0 value 5\n",
+        "rw 5 1 16\n0 begin try_read\n1 begin read\n2 begin try_upgradeable_read\n3 begin upgradeable_read\n4 begin try_write\n5 begin try_write_weak\n6 begin write\n7 begin reader_count\n8 begin writer_count\n9 begin try_upgrade\n10 begin try_upgrade_weak\n11 begin upgrade\n12 begin downgrade\n13 begin downgrade_to_upgradeable\n14 begin release\n15 begin is_locked\n",
+        "1 0 begun: 0\n2 1 begun: 0\n3 2 begun: 0\n4 3 begun: 0\n5 4 begun: 0\n6 5 begun: 0\n7 6 begun: 0\n8 7 begun: 0\n9 8 begun: 0\n10 9 passed over: 0\n11 10 passed over: 0\n12 11 passed over: 0\n13 12 passed over: 0\n14 13 passed over: 0\n15 14 passed over: 0\n16 15 begun: 0\nend: 0 value 5\n",
     ),
     (
         "fair 5 1 0 10\n0 begin lock\n1 begin try_lock\n2 begin try_lock_starver\n3 begin is_locked\n4 begin starve\n5 begin starver_try_lock_fair\n6 begin starver_try_lock\n7 begin starver_lock\n8 begin starver_drop\n9 begin release\n",

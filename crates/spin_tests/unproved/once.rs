@@ -4,6 +4,7 @@ use spin_core::relax::Loop;
 use spin_once::once::Once;
 use std::cell::Cell;
 use std::sync::Wait;
+use std::thread;
 
 // Calls `call_once` with a closure that counts its runs and gives the value.
 fn make<R: Wait>(rt: &R, once: &Once<u64>, runs: &Cell<u32>, value: u64) -> u64 {
@@ -68,6 +69,41 @@ fn with_a_value_from_the_start_or_without(rt: HostRuntime) {
     let once: Once = Once::new();
     once.call_once(&rt, || ());
     equal(&rt, once.is_completed(), true);
+}
+
+#[test]
+fn one_of_two_threads_stores_its_value(rt: HostRuntime) {
+    let port: Once<u16> = Once::new();
+    let (first, second) = thread::join(&rt, || port.set(&rt, 80), || port.set(&rt, 81));
+    equal(&rt, first.is_ok() != second.is_ok(), true);
+    let won = if first.is_ok() { 80 } else { 81 };
+    equal(&rt, port.get().copied(), Some(won));
+    equal(&rt, port.set(&rt, 82), Err(82));
+}
+
+#[test]
+fn a_value_that_is_there_stays(rt: HostRuntime) {
+    let port: Once<u16> = Once::new();
+    equal(&rt, port.try_insert(&rt, 80).ok().copied(), Some(80));
+    let (there, back) = port.try_insert(&rt, 81).err().expect(&rt, "there is one");
+    equal(&rt, (*there, back), (80, 81));
+    equal(&rt, *port.call_once(&rt, || 82), 80);
+    let made: Result<&u16, ()> = port.get_or_try_init(&rt, || Err(()));
+    equal(&rt, made.copied(), Ok(80));
+}
+
+#[test]
+fn a_taken_value_leaves_an_empty_once(rt: HostRuntime) {
+    let mut port: Once<u16> = Once::initialized(80);
+    let copy = port.clone().expect(&rt, "memory");
+    equal(&rt, (port.take(), port.take()), (Some(80), None));
+    equal(
+        &rt,
+        port.clone().expect(&rt, "memory").is_completed(),
+        false,
+    );
+    equal(&rt, *port.call_once(&rt, || 81), 81);
+    equal(&rt, copy.get().copied(), Some(80));
 }
 
 // The owner of any `Once` may change its value, even if the value may not be dropped.

@@ -19,13 +19,15 @@ const READ: Granted = [true, true, false];
 // One of the readers is upgradable.
 const READ_UPGRADABLY: Granted = [true, false, false];
 
-// Checks which tries succeed, and then how many threads read and how many write.
+// Checks which tries succeed, then how many threads read and how many write, and whether any holds the lock.
 fn shows<R: Abort + Wait>(rt: &R, lock: &RwLock<u64>, granted: Granted, counts: [usize; 2]) {
     let reads = lock.try_read(rt).is_some();
     let upgrades = lock.try_upgradeable_read(rt).is_some();
     let writes = lock.try_write().is_some();
     let counted = [lock.reader_count(), lock.writer_count()];
     equal(rt, ([reads, upgrades, writes], counted), (granted, counts));
+    let locked = [lock.is_locked(), lock.is_locked_exclusive()];
+    equal(rt, locked, [counts != [0, 0], counts[1] == 1]);
 }
 
 #[test]

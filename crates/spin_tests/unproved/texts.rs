@@ -1,5 +1,6 @@
 //! The texts that `{:?}` and `{}` print, also with options. Printing does not change a lock.
 use crate::equal::equal;
+use spin_barrier::barrier::Barrier;
 use spin_core::relax::Yield;
 use spin_fair::fair::FairMutex;
 use spin_flag::spin::SpinMutex;
@@ -8,6 +9,7 @@ use spin_mutex::ticket::TicketMutex;
 use spin_once::lazylock::LazyLock;
 use spin_once::once::Once;
 use spin_rwlock::rwlock::RwLock;
+use spin_seats::seats::Seats;
 use std::fmt;
 use std::fmt::{Debug, Display, Write};
 use std::process::Abort;
@@ -99,6 +101,35 @@ fn what_is_made_once_shows_its_value_once_it_is_made(rt: HostRuntime) {
     debug_is(&rt, &lazy, "LazyLock(<uninit>)");
     LazyLock::force(&lazy, &rt);
     debug_is(&rt, &lazy, "LazyLock(5)");
+}
+
+#[test]
+fn a_barrier_and_seats_show_their_names(rt: HostRuntime) {
+    let barrier: Barrier = Barrier::new(1);
+    debug_is(&rt, &barrier, "Barrier { .. }");
+    let leader = barrier.wait(&rt);
+    debug_is(&rt, &leader, "BarrierWaitResult { is_leader: true }");
+    let text = format!(in rt.alloc(); "{leader:#?}").expect(&rt, "memory");
+    equal(
+        &rt,
+        text.as_str(),
+        "BarrierWaitResult {\n    is_leader: true,\n}",
+    );
+    let seats: Seats<2> = Seats::new();
+    debug_is(&rt, &seats, "Seats { .. }");
+    debug_is(&rt, &seats.enter(&rt), "SeatGuard { .. }");
+    debug_is(&rt, &seats.pass(), "Pass { .. }");
+}
+
+#[test]
+fn a_pass_shows_its_name(rt: HostRuntime) {
+    debug_is(&rt, &SpinMutex::<u64>::new(5).pass(), "Pass { .. }");
+    debug_is(&rt, &TicketMutex::<u64>::new(5).pass(), "Pass { .. }");
+    debug_is(&rt, &FairMutex::<u64>::new(5).pass(), "Pass { .. }");
+    debug_is(&rt, &RwLock::<u64>::new(5).pass(), "Pass { .. }");
+    debug_is(&rt, &Once::<u64>::new().pass(), "Pass { .. }");
+    let lazy: LazyLock<u64, _> = LazyLock::new(|| 5);
+    debug_is(&rt, &LazyLock::pass(&lazy), "Pass { .. }");
 }
 
 #[test]

@@ -95,7 +95,7 @@ impl Spelled for Ticket<u64> {
 }
 
 /// The calls of a read-write lock, each with its word, in the order of the variants.
-pub const RW_CALLS: [(&[u8], RwCall); 15] = [
+pub const RW_CALLS: [(&[u8], RwCall); 16] = [
     (b"try_read", RwCall::TryRead),
     (b"read", RwCall::Read),
     (b"try_upgradeable_read", RwCall::TryUpgradeableRead),
@@ -105,6 +105,7 @@ pub const RW_CALLS: [(&[u8], RwCall); 15] = [
     (b"write", RwCall::Write),
     (b"reader_count", RwCall::ReaderCount),
     (b"writer_count", RwCall::WriterCount),
+    (b"is_locked", RwCall::IsLocked),
     (b"try_upgrade", RwCall::TryUpgrade),
     (b"try_upgrade_weak", RwCall::TryUpgradeWeak),
     (b"upgrade", RwCall::Upgrade),

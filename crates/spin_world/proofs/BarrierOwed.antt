@@ -80,6 +80,7 @@ module _ (n : ℕ) where
   barrier_facts = plays_of (record {
     computes = grind arith;
     calls = λ c h. (0, grind arith);
+    promises = record { begins = λ c. grind arith; limited = λ c h words. grind arith; tries = λ c h ask. grind arith; sections = λ d. grind arith };
     others = λ p q c l h s step r span ne of may belongs knows.
         let on = λ (g : ℕ). waits-on g p q s step r span (grind arith) belongs in grind (arith, on);
     owes = owes;

@@ -132,6 +132,7 @@ module _ {V : Type 0} (v : V) (cap patience : ℕ) where
   fair_facts = plays_of (record {
     computes = grind (arith, no_split);
     calls = λ c h. (patience, grind arith);
+    promises = record { begins = λ c. grind arith; limited = λ c h words. grind arith; tries = λ c h ask. grind arith; sections = λ d. grind arith };
     others = λ p q c l h s step r span ne shape may belongs knows. others p q c l s step r span ne knows;
     owes = owes;
     -- If nobody disturbs the call, its exchange acquires a free lock, at once or after a look. A party that has begun to

@@ -21,6 +21,7 @@ module _ {V : Type 0} (v : V) where
     computes = grind arith;
     -- an exchange that fails finds the flag set, and leaves it set
     calls = λ c h. (0, grind arith);
+    promises = record { begins = λ c. grind arith; limited = λ c h words. grind arith; tries = λ c h ask. grind arith; sections = λ d. grind arith };
     others = λ p q c l h s step r span ne shape may belongs knows. tt;
     owes = λ p c l h s w span.
         let found = is_holder-from_entries p writing s.holders in

@@ -37,6 +37,7 @@ module _ {V : Type 0} (value : Option V) where
     pays = record {
       computes = grind arith;
       calls = λ c h. (0, grind arith);
+      promises = record { begins = λ c. grind arith; limited = λ c h words. grind arith; tries = λ c h ask. grind arith; sections = λ d. grind arith };
       others = λ p q c l h s step r span ne free may belongs knows. grind (arith, runs-others s p q step ne may);
       owes = grind arith;
       soon = grind arith;

@@ -4,6 +4,8 @@ use Rattle.spin_world_core.specs.Runs.{state_at}
 use Rattle.spin_world_core.specs.Users.{seen_at}
 use Rattle.spin_world_core.specs.Runs.{Schedule}
 use Rattle.spin_world.proofs.TicketNames.{◌≡◌, ℕ, ◌+◌, Option, Some, ◌∷◌, ◌++◌, slice_get, arith, Plain, Change, serving_word, apply_some, IsOpenStep, bit, HasTicketNumbers, serving-moves, entered_is_served, Holding, TicketCall, TicketPoint, TicketWords, Seen, scene, opening, ticket_machine, seen_after, Plays, passes, serves_one, tickets_gone, TicketsInOrder, InTurn, []}
+use Rattle.spin_step.specs.Calls.{BelongsTo}
+use Rattle.spin_step.specs.TicketKind.{ticket}
 use Rattle.spin_step.specs.declared.place.Hold.TheVariants as hold
 use Rattle.spin_world.proofs.TicketOwed.{ticket_notes, ticket_facts}
 use Rattle.spin_world_core.proofs.Preserved.{Invariant}
@@ -11,8 +13,8 @@ use Rattle.spin_world_core.proofs.Every.{kept}
 use Rattle.spin_world_core.proofs.Guards.{seen_after-append}
 use Rattle.spin_world_core.proofs.Reached.{good, numbers_are, stands, calls}
 
-moves_some : (s : Plain) (p : ℕ) (step : Option Change) → HasTicketNumbers s → IsOpenStep s p step → serving_word (apply_some s step) ≡ serving_word s + bit (passes serves_one step)
-moves_some s p step numbered may = grind (arith, λ (c : Change). serving-moves s c numbered)
+moves_some : (s : Plain) (p : ℕ) (step : Option Change) → HasTicketNumbers s → IsOpenStep s p step → BelongsTo ticket step → serving_word (apply_some s step) ≡ serving_word s + bit (passes serves_one step)
+moves_some s p step numbered may belongs = grind (arith, λ (c : Change). serving-moves s c numbered)
 
 module _ {V : Type 0} (v : V) (first : ℕ) where
   abbrev m : TicketMachine V

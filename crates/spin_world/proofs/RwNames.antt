@@ -11,7 +11,7 @@ pub use Rattle.spin_step_more.proofs.Readers.{one_of_each, read-word, upgradable
 pub use Rattle.spin_step.specs.declared.answer.Answer.{Answer}
 pub use Rattle.spin_step.specs.declared.place.Hold.{Hold}
 pub use Rattle.spin_step_more.specs.declared.rw_calls.RwCall.{RwCall}
-pub use Rattle.spin_step_more.specs.declared.rw_calls.RwCall.TheVariants.{TryRead, Read, TryUpgradeableRead, UpgradeableRead, TryWrite, TryWriteWeak, Write, ReaderCount, WriterCount, TryUpgrade, TryUpgradeWeak, Upgrade, Downgrade, DowngradeToUpgradeable, Release}
+pub use Rattle.spin_step_more.specs.declared.rw_calls.RwCall.TheVariants.{TryRead, Read, TryUpgradeableRead, UpgradeableRead, TryWrite, TryWriteWeak, Write, ReaderCount, WriterCount, IsLocked, TryUpgrade, TryUpgradeWeak, Upgrade, Downgrade, DowngradeToUpgradeable, Release}
 pub use Rattle.spin_step_more.specs.declared.rw_calls.RwPoint.{RwPoint}
 pub use Rattle.spin_step_more.specs.declared.rw_calls.RwPoint.TheVariants.{First, Exchange, Asking}
 pub use Rattle.spin_step.specs.Acts.{begin_of}

@@ -1,5 +1,5 @@
 -- What has to be shown of the table of the read-write lock.
-use Rattle.spin_world.proofs.RwNames.{◌≡◌, ℕ, ◌≤◌, true, Option, Some, None, ◌∷◌, length, refl, ap, sym, ◌∙◌, arith, eq-eqb, length-append, Plain, Kind, upgradable, asking, weight, to_read, to_read_upgradable, to_write, to_upgrade, to_upgrade_asked, Change, gets, releases, turns, is_holder, may_turn, rw_word, entries, IsExclusive, reader_limit, tells, read, read_upgradable, write, upgrade, upgrade_asked, released, is_holder-from_entries, is_holder-own, length-without_holder, empty_is, room_to_come, one_of_each, read-word, upgradable_read-word, upgradable-word, tells-holder, readers-word, writers-word, only_upgradable-word, only_asking-word, empty-word, Hold, RwCall, TryRead, Read, TryUpgradeableRead, UpgradeableRead, ReaderCount, WriterCount, Upgrade, Downgrade, DowngradeToUpgradeable, Release, RwPoint, First, Exchange, Asking, holds, entries_at, Notes, Means, OwesAll, SoonAll, [], turned_to}
+use Rattle.spin_world.proofs.RwNames.{◌≡◌, ℕ, ◌≤◌, true, Option, Some, None, ◌∷◌, length, refl, ap, sym, ◌∙◌, arith, eq-eqb, length-append, Plain, Kind, upgradable, asking, weight, to_read, to_read_upgradable, to_write, to_upgrade, to_upgrade_asked, Change, gets, releases, turns, is_holder, may_turn, rw_word, entries, IsExclusive, reader_limit, tells, read, read_upgradable, write, upgrade, upgrade_asked, released, is_holder-from_entries, is_holder-own, length-without_holder, empty_is, room_to_come, one_of_each, read-word, upgradable_read-word, upgradable-word, tells-holder, readers-word, writers-word, only_upgradable-word, only_asking-word, empty-word, Hold, RwCall, TryRead, Read, TryUpgradeableRead, UpgradeableRead, ReaderCount, WriterCount, IsLocked, Upgrade, Downgrade, DowngradeToUpgradeable, Release, RwPoint, First, Exchange, Asking, holds, entries_at, Notes, Means, OwesAll, SoonAll, [], turned_to}
 use Rattle.std.specs.Prelude.{min, max}
 use Rattle.spin_step.proofs.Sums.{length-with_kind}
 use Rattle.spin_step_more.proofs.ReaderSteps.{rw_read-grants, rw_upgradable-grants, rw_write-grants, rw_upgrade-grants, rw_upgrade_asked-grants, rw_release-gives, rw_turn-gives}
@@ -86,6 +86,7 @@ module _ {V : Type 0} (v : V) (cap : ℕ) where
   owes : OwesAll (rw_notes v cap)
   owes p ReaderCount l h s w span = grind (arith, readers-word s w, one_of_each s)
   owes p WriterCount l h s w span = grind (arith, writers-word s w, one_of_each s)
+  owes p IsLocked l h s w span = grind (arith, empty-word s.holders w)
   owes p Upgrade l h s w span = grind (arith, turn_means p s w, upgrade_asked_means p s w)
   owes p Downgrade l h s w span = grind (arith, turn_means p s w, upgradable-word s p, holder_by p)
   owes p DowngradeToUpgradeable l h s w span = grind (arith, turn_means p s w)
@@ -96,6 +97,7 @@ module _ {V : Type 0} (v : V) (cap : ℕ) where
   rw_facts = plays_of (record {
     computes = grind (arith, operates_one (rw_table v cap) refl);
     calls = λ c h. (0, grind arith);
+    promises = record { begins = λ c. grind arith; limited = λ c h words. grind arith; tries = λ c h ask. grind arith; sections = λ d. grind arith };
     others = λ p q c l h s step r span ne shape may belongs knows. tt;
     owes = owes;
     -- if nobody disturbs the call, its exchange succeeds on a word that admits the party, at once or after a look

@@ -43,7 +43,7 @@ module _ {V : Type 0} (v : V) (first : ℕ) where
     take_means = grind (arith, queue, serving-taken s p false queue.numbered, numbered-given s p (effect to_take_ticket) queue.numbered)
 
     enter_means : (t : ℕ) → entries p s ≡ entries_at p (queues t false) → IsMeant p s (gets p to_enter) (λ k. w) (passing (w.serving == t) w.serving)
-    enter_means t mine = grind (arith, enters_in_turn, serving-entered, numbered-given, stands)
+    enter_means t mine = grind (arith, enters_in_turn, serving-entered, numbered-given s p (effect to_enter) queue.numbered, stands)
 
     serve_means : (t u : ℕ) → t ≡ u → first_alone_entered s.tickets ≡ true → entries p s ≡ entries_at p (queues u true)
         → (is_left t ≡ true) × IsMeant p s (serves p) (λ k. record w { serving = k }) (Some (t + 1))
@@ -61,6 +61,7 @@ module _ {V : Type 0} (v : V) (first : ℕ) where
   ticket_facts = plays_of (record {
     computes = grind (arith, eqb_self);
     calls = λ c h. (0, grind arith);
+    promises = record { begins = λ c. grind arith; limited = λ c h words. grind arith; tries = λ c h ask. grind arith; sections = λ d. grind arith };
     others = λ p q c l h s step r span ne queue may belongs knows.
         grind (arith, λ (c : Change). serving-advances s c queue.numbered, ne_eqb q p ne);
     owes = owes;

@@ -8,10 +8,10 @@ use Rattle.spin_step.specs.declared.place.Hold.{Hold}
 use Rattle.spin_step.specs.declared.place.Hold.TheVariants as hold
 use Rattle.spin_step.specs.declared.answer.Answer.{Answer}
 use Rattle.spin_step_more.specs.declared.rw_calls.RwCall.{RwCall}
-use Rattle.spin_step_more.specs.declared.rw_calls.RwCall.TheVariants.{TryRead, Read, TryUpgradeableRead, UpgradeableRead, TryWrite, TryWriteWeak, Write, ReaderCount, WriterCount, TryUpgrade, TryUpgradeWeak, Upgrade, Downgrade, DowngradeToUpgradeable, Release}
+use Rattle.spin_step_more.specs.declared.rw_calls.RwCall.TheVariants.{TryRead, Read, TryUpgradeableRead, UpgradeableRead, TryWrite, TryWriteWeak, Write, ReaderCount, WriterCount, IsLocked, TryUpgrade, TryUpgradeWeak, Upgrade, Downgrade, DowngradeToUpgradeable, Release}
 use Rattle.spin_step_more.specs.declared.rw_calls.RwPoint.{RwPoint}
 use Rattle.spin_step.specs.Calls.{says_of}
-use Rattle.spin_step.specs.Asks.{counts_readers, counts_writers, gives_back, is_above_read, is_held_some, is_write, looks_and_tries, spins_to_write, tries, tries_weakly, turns_to, waits, waits_to_upgrade}
+use Rattle.spin_step.specs.Asks.{counts_readers, counts_writers, gives_back, is_above_read, is_held_some, is_write, looks, looks_and_tries, spins_to_write, tries, tries_weakly, turns_to, waits, waits_to_upgrade}
 use Rattle.spin_step_more.specs.RwKind.{rw}
 use Rattle.spin_step.specs.Machines.{Machine, opening_plain}
 use Rattle.spin_world_core.specs.Kinds.{BeginAt, AnswersIn}
@@ -33,6 +33,7 @@ pub record IsRwMachine {V : Type 0} (given : V) (cap : ℕ) (m : RwMachine V) : 
   pub write : Asks m Write spins_to_write
   pub reader_count : Asks m ReaderCount counts_readers
   pub writer_count : Asks m WriterCount counts_writers
+  pub is_locked : Asks m IsLocked looks
   pub try_upgrade : Asks m TryUpgrade (tries to_upgrade)
   pub try_upgrade_weak : Asks m TryUpgradeWeak (tries_weakly to_upgrade)
   pub upgrade : Asks m Upgrade waits_to_upgrade
@@ -40,7 +41,7 @@ pub record IsRwMachine {V : Type 0} (given : V) (cap : ℕ) (m : RwMachine V) : 
   pub downgrade_to_upgradeable : (h : Option Hold) → m.asks DowngradeToUpgradeable h ≡ turns_to is_write h upgradable
   pub release : (h : Option Hold) → m.asks Release h ≡ gives_back is_held_some h
   pub reads : BeginAt m ((TryRead, None) ∷ (Read, None) ∷ (TryUpgradeableRead, None) ∷ (UpgradeableRead, None) ∷ [])
-  pub writes : BeginAt m ((TryWrite, None) ∷ (TryWriteWeak, None) ∷ (Write, None) ∷ (ReaderCount, None) ∷ (WriterCount, None) ∷ [])
+  pub writes : BeginAt m ((TryWrite, None) ∷ (TryWriteWeak, None) ∷ (Write, None) ∷ (ReaderCount, None) ∷ (WriterCount, None) ∷ (IsLocked, None) ∷ [])
   pub upgrades : BeginAt m ((TryUpgrade, Some hold.Upgradable) ∷ (TryUpgradeWeak, Some hold.Upgradable) ∷ (Upgrade, Some hold.Upgradable) ∷ [])
   pub downgrades : BeginAt m ((Downgrade, Some hold.Upgradable) ∷ (Downgrade, Some hold.Write) ∷ (DowngradeToUpgradeable, Some hold.Write) ∷ [])
   -- every holder may release

@@ -26,3 +26,4 @@ pub mod Otherwise
 pub mod Joined
 pub mod Begins
 pub mod Made
+pub mod Held

@@ -1,5 +1,7 @@
 -- What an object has to show of its table, point by point. All promises of its machine then follow.
 use Rattle.spin_world_core.proofs.Names.{own_steps, tries_of, goes_of, ◌≡◌, ℕ, zero, suc, ◌≤◌, Bool, true, false, ◌||◌, ◌==◌, is_some, Option, Some, None, List, [], ◌∷◌, ◌++◌, option_to_list, Plain, Ask, Change, gets, apply, is_open, is_empty, apply_some, IsOpenStep, IsExclusive, Hold, Next, Continue, Answers, StepKind, plain, again, weak, by_step, Asked, encoded, BelongsTo, Mark, AnyOf, Limit, registers_after, arrivals_after, steps_alone, opening_plain, mark_of, failures, changes, word_number, Act, load, load_if, load_for, enter, exchange, weak_exchange, attempt, retry, store, section, swap, tried, guessed, passing, place_of, step_by, makes_by, look_kind, Table, begin_of, machine_of, performed, limit}
+use Rattle.spin_step.specs.Parties.{none_entered}
+use Rattle.spin_world_core.specs.Lawful.{Promises}
 use Rattle.spin_world_core.proofs.Operating.{fits_act, CallsFit, OwnFits, Operates}
 use Rattle.spin_world_core.proofs.Stands.{stand_of, stand_after}
 use Rattle.spin_world_core.proofs.Rows.{sure_by, Branch, goes, finds_open, loses, misses, MaySpend, MayContinue, OwesRight, OwesEnd, Row, Point, row_at, IsSound, RetryOwes, need_of, FoundBy, NoRetry, BeginsBy, Known}
@@ -177,13 +179,14 @@ module _ {W V C L A : Type 0} {t : Table W V C L A} (n : Notes t) where
     pub operates : Operates t
     pub begins : (p : ℕ) (c : C) (h : Option Hold) (s : Plain) → BeginsAt c h p s (begin_of t c h)
     pub shape_first : n.Shape (opening_plain (machine_of t))
-    pub one_list : (s : Plain) → n.Shape s → (is_empty s.holders || is_empty s.tickets) ≡ true
+    pub one_list : (s : Plain) → n.Shape s → (is_empty s.holders || none_entered s.tickets) ≡ true
 
   -- all that an object has to show of its table
   pub record Pays : Type 0 where
     pub computes : Computes
     pub open computes use *
     pub calls : CallsFit t
+    pub promises : Promises t.lock_kind t.asks
     pub others : (p q : ℕ) (c : C) (l : L) (h : Option Hold) (s : Plain) (step : Option Change) (r : StepKind) (span : List Mark) → (q ≡ p → ⊥) → n.Shape s
         → IsOpenStep s q step → BelongsTo t.lock_kind step
         → n.Knows c l h p s span → n.Knows c l h p (apply_some s step) (mark_of q step r s ∷ span)

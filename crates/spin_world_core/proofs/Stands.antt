@@ -1,6 +1,6 @@
 -- What a party has in the plain lock during a call, and how its own plain steps change this.
 use Rattle.std.proofs.Common.{◌≡◌, ℕ, Bool, true, false, Option, Some, None, [], ◌∷◌, if◌then◌else◌, arith}
-use Rattle.spin_step.specs.Plain.{Plain, Kind, reading, upgradable, writing, holder, same_kind, ticket as queued, Effect, comes, becomes, enters, runs, effect, Change, gets, releases, serves, stops_starving, turns, completes, fails, arrives}
+use Rattle.spin_step.specs.Plain.{Plain, Kind, reading, upgradable, writing, holder, same_kind, ticket as queued, Effect, comes, becomes, enters, sits, runs, effect, Change, gets, releases, serves, stops_starving, turns, completes, fails, arrives}
 use Rattle.spin_step.specs.Parties.{apply_some, IsOpenStep, Entries, entries, no_entries}
 use Rattle.spin_step.proofs.Entries.{entries-own}
 use Rattle.spin_step.specs.declared.place.Hold.{Hold}
@@ -43,6 +43,7 @@ after_getting n (comes k) starves = Some (holds_and_starves k)
 after_getting n (becomes j k) (holds i) = if same_kind j i then Some (holds k) else None
 after_getting n (Effect.queues entered) absent = Some (queues n entered)
 after_getting n enters (queues m false) = Some (queues m true)
+after_getting n sits (queues m false) = Some (holds reading)
 after_getting n Effect.starves absent = Some starves
 after_getting n runs stand = Some stand
 after_getting n _ _ = None

@@ -22,7 +22,7 @@ none_any q (t ∷ ts) none = grind (arith, none_any q ts)
 entered_party : (p q : ℕ) (ts : List Ticket) → first_alone_entered ts ≡ true → list_any (λ t. t.entered) (filter (λ t. t.party == p) ts) ≡ true → list_any (λ t. t.entered) (filter (λ t. t.party == q) ts) ≡ true → q ≡ p
 entered_party p q ts alone here there = grind (arith, none_any p, none_any q)
 
-pub one_toucher : (s : Plain) (p q : ℕ) → IsExclusive s → (is_empty s.holders || is_empty s.tickets) ≡ true → reads_value (entries p s) ≡ true
+pub one_toucher : (s : Plain) (p q : ℕ) → IsExclusive s → (is_empty s.holders || none_entered s.tickets) ≡ true → reads_value (entries p s) ≡ true
     → writes_value (entries q s) ≡ true → q ≡ p
 one_toucher s p q alone lists reads writes =
-    grind (arith, alone.writer, alone.one_entered, writer_counts q s.holders, one_party p q s.holders, entered_party p q s.tickets)
+    grind (arith, alone.writer, alone.one_entered, writer_counts q s.holders, one_party p q s.holders, entered_party p q s.tickets, none_any p s.tickets, none_any q s.tickets)

@@ -4,7 +4,7 @@ use Rattle.spin_step.specs.Schedules.{Entry}
 use Rattle.std.specs.Prelude.{◌≡◌, ℕ, ◌+◌, ◌<◌, ◌≤◌, ◌↔◌, ◌⊎◌, Bool, true, false, not, ◌||◌, Option, Some, None, List, [], ◌∷◌, ◌++◌, is_some, ◌==◌, if◌then◌else◌, slice_get, take}
 use Rattle.std.specs.List.{list_any}
 use Rattle.spin_step.specs.Plain.{Plain, reading, upgradable, writing, same_kind, Change, completes, is_open, holder, ticket, is_empty}
-use Rattle.spin_step.specs.Parties.{apply_some, IsOpenStep, Entries, entries, no_entries, entries_after, is_held, IsExclusive}
+use Rattle.spin_step.specs.Parties.{apply_some, IsOpenStep, Entries, entries, no_entries, entries_after, is_held, none_entered, IsExclusive}
 use Rattle.spin_step.specs.declared.place.Hold.{Hold}
 use Rattle.spin_step.specs.declared.place.Hold.TheVariants as hold
 use Rattle.spin_step.specs.declared.place.Seat.{Seat}
@@ -290,8 +290,8 @@ pub record KeepsPromises {W V C L A : Type 0} (m : Machine W V C L A) (s : Scene
   pub places : (q : ℕ) → StandsFor s.after.plain q (s.after.span q) (seat_of s.after q)
   -- a writer is the only holder, at most one holder may upgrade, and at most one ticket has entered
   pub exclusive : IsExclusive s.after.plain
-  -- the plain lock has no holders, or has no tickets
-  pub one_list : (is_empty s.after.plain.holders || is_empty s.after.plain.tickets) ≡ true
+  -- the plain lock has no holders, or no ticket has entered
+  pub one_list : (is_empty s.after.plain.holders || none_entered s.after.plain.tickets) ≡ true
   -- the value is the one last written
   pub value_is : s.after.state.value ≡ s.after.written
   -- a read finds the value last written

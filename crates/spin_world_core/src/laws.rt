@@ -1,9 +1,14 @@
 //! The laws that users of a lock rely on, each for every schedule. A law is the contract of a function that does
 //! nothing. Begin with [`looks_find_the_last_write`].
-ghost use Rattle.std.specs.Prelude.{ℕ, List};
+ghost use Rattle.std.specs.Prelude.{◌≡◌, ◌==◌, ℕ, List, [], Some};
+ghost use Rattle.std.specs.List.{filter};
+ghost use Rattle.spin_step.specs.Machines.{Machine};
 ghost use Rattle.spin_step.specs.declared.schedule.Move.{Move};
-ghost use Rattle.spin_step.specs.Schedules.{State};
-ghost use Rattle.spin_world_core.specs.Users.{FindsLastWritten, RunsJoin, ReadsAgree};
+ghost use Rattle.spin_step.specs.Schedules.{Entry, State};
+ghost use Rattle.spin_step.specs.declared.place.Hold.{Hold};
+ghost use Rattle.spin_step.specs.declared.place.Seat.TheVariants.{Holding};
+ghost use Rattle.spin_world_core.specs.Runs.{Seen, seat_of};
+ghost use Rattle.spin_world_core.specs.Users.{FindsLastWritten, RunsJoin, ReadsAgree, seen_after};
 ghost use Rattle.spin_world_core.specs.Joined.{RunsAreOne};
 
 use crate::object::Object;
@@ -40,3 +45,9 @@ pub fn looks_under_one_guard_agree<O: Object>()
 {
     O::laws();
 }
+
+/// States that a party that holds still holds after each history in which it makes no move of its own.
+#[tactic(auto, using(crate::proofs::Held::stays))]
+pub fn a_holder_holds_until_it_moves<W, V, C, L, A>()
+    ensures { (m : Machine W V C L A) (p : ℕ) (h : Hold) (es : List (Entry C V)) (seen : Seen W V C L) → seat_of seen p ≡ Some (Holding h) → filter (λ e. e.0 == p) es ≡ [] → seat_of (seen_after m seen es) p ≡ Some (Holding h) }
+{}

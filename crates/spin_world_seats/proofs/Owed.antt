@@ -72,6 +72,7 @@ module _ (n : ℕ) where
       record {
         computes = grind arith;
         calls = λ c h. (0, grind arith);
+        promises = record { begins = λ c. grind arith; limited = λ c h words. grind arith; tries = λ c h ask. grind arith; sections = λ d. grind arith };
         -- a step of another party leaves the word as it is, or hinders the try
         others = λ p q c l h s step r span ne shape may belongs knows. grind (arith, ne, knows);
         owes = λ p c l h s w span. grind (arith, enter_means p s w, leave_means p s w, sits p s, each_reads s.holders);

@@ -26,6 +26,47 @@ impl<L: Lock<u64> + Drop> Case for Adds<L> {
     }
 }
 
+/// How many units of work a call does while it holds the lock, and before the next call.
+#[derive(Clone, Copy)]
+pub struct Work {
+    pub inside: u64,
+    pub between: u64,
+}
+
+/// Like [`Adds`], with work.
+#[derive(Drop)]
+pub struct Works<L>(pub L, pub Work);
+
+/// Does this many units of work on a number. What is made of another number than 0 is not 0.
+fn worked(units: u64, number: u64) -> u64 {
+    let mut worked = number;
+    for _ in 0..units {
+        worked = (worked ^ (worked >> 7)).wrapping_mul(0x9E37_79B9_7F4A_7C15);
+    }
+    worked
+}
+
+impl<L: Lock<u64> + Drop> Case for Works<L> {
+    #[inline(never)]
+    fn repeat<W: Wait>(&self, rt: &W, _worker: usize, calls: u64) -> u64 {
+        let Work { inside, between } = self.1;
+        let mut seen = 0u64;
+        for _ in 0..calls {
+            let held = self.0.with(rt, |sum| -> u64 {
+                *sum = sum.wrapping_add(1);
+                worked(inside, *sum)
+            });
+            seen = seen.wrapping_add((worked(between, held) == 0) as u64);
+        }
+        seen
+    }
+
+    /// Returns the number, or 0 if a call left the lock held.
+    fn added(self) -> u64 {
+        self.0.try_with(|sum| *sum).unwrap_or(0)
+    }
+}
+
 /// Like [`Adds`] of a `SpinMutex`, but each worker calls by a pass.
 #[derive(Drop)]
 pub struct PassAdds(pub SpinMutex<u64>);

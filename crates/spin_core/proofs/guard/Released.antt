@@ -1,6 +1,6 @@
--- An `impl` of `Release` fits its trait: `release` asks and promises nothing, and the rows of the `impl` own what those of the trait own.
+-- An `impl` of `Release` fits its trait: `release` asks nothing and promises the same, and the rows of the `impl` own what those of the trait own.
 -- Assumes `Logic`.
-use Rattle.std.proofs.Common.{[], ◌∷◌}
+use Rattle.std.proofs.Common.{◌≡◌, [], ◌∷◌}
 use seplogic.Ra.Ura.{Ura}
 use mir.Syntax.{Dict, named}
 use base.Logic.{sep, emp, id⊢}
@@ -32,12 +32,12 @@ module _ (Y V K S T : RattleType) (rule : Rule.Ghosts Y.Denot T.Denot V.Denot K.
     lifetimes = 2;
     outlives = record { long = 1; long_ok = tt; short = named 0; short_ok = tt } ∷ [];
     params = plain (λ κs. Permit.the_row (named_lft 2 0 tt κs) (param 0 T) V Y K (param 4 S) rule) ∷ [];
-    result = plain (λ κs. Left.the_row);
+    result = plain (λ κs. Left.the_row (named_lft 2 0 tt κs) (param 0 T) V Y K (param 4 S) rule);
   }
 
   module _ {M : Type 1} {𝓤 : Ura M} (𝓛 : Logic 𝓤) where
     abbrev pub says : Spec 𝓤 own
-    says κs a = record { ghost = Unit {0}; requires = λ g. sep 𝓤 (fact 𝓤 (lft_at 2 1 tt κs ⊑ T.lives)) (emp 𝓤); ensures = λ g r. exits 𝓛 own (no, tt) κs a (λ end. emp 𝓤) }
+    says κs a = record { ghost = Unit {0}; requires = λ g. sep 𝓤 (fact 𝓤 (lft_at 2 1 tt κs ⊑ T.lives)) (emp 𝓤); ensures = λ g r. exits 𝓛 own (no, tt) κs a (λ end. fact 𝓤 (r.0 ≡ a.0.key)) }
 
     module _ (𝓜 : Model 𝓤 𝓛.H) (𝓡 : Running 𝓤 𝓛.H 𝓜) (r : Routine) (release : Release.Ghosts Y.Denot T.Denot V.Denot K.Denot S.Denot) (uses : Uses.Ghosts Y.Denot V.Denot) (release_dict rule_dict uses_dict : Dict) where
       pub released : Meets 𝓛 own (𝓡.run r) says

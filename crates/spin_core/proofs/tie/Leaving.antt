@@ -73,8 +73,7 @@ in_order-up : (k : ℕ) (s : Plain) → IsInOrder s → IsInOrder (moved_up k s)
 in_order-up k s order = record {
   exclusive = exclusive-like s (moved_up k s) (λ f. sum-up k f s.holders)
       (grind (arith, none_entered-up, order.exclusive.one_entered)) order.exclusive;
-  numbered = let numbers = numbered-up k (serving_word s) s.tickets order.numbered.1 in
-      (omega (arith, length-map s.tickets (ticket_up k), order.numbered.0), rw (serving_word-up k s) numbers);
+  numbered = (omega (arith, length-map s.tickets (ticket_up k), order.numbered.0), λ none. rw (serving_word-up k s) (numbered-up k (serving_word s) s.tickets (order.numbered.1 none)));
   within_limit = order.within_limit;
   holders_fit = omega (arith, length-map s.holders (holder_up k), order.holders_fit);
   starvers_fit = omega (arith, length-map s.starvers (up k), order.starvers_fit);

@@ -111,7 +111,7 @@ module _ {V : Type 0} (part : V → Part) where
       → Limits way (readers_of (used_by part) vs) (writers_of (used_by part) vs)
 
   -- if each party that writes is a holder of the kind `writing`, there are at most as many such parties as such holders
-  writers_hold : ((v : V) → IsWriters v) → (vs : List V) (s : Plain) → IsLockOf part vs s → writers_of (used_by part) vs ≤ count_kind writer s.holders
+  pub writers_hold : ((v : V) → IsWriters v) → (vs : List V) (s : Plain) → IsLockOf part vs s → writers_of (used_by part) vs ≤ count_kind writer s.holders
   writers_hold kind vs s is =
       within (λ h. h.party) one_writes part written (λ p x. count_kind writer (entries_of_part p x).holders)
       (λ p v. kind v p) vs s.holders (λ p. ap (λ e. count_kind writer e.holders) (is p).0)
@@ -119,11 +119,17 @@ module _ {V : Type 0} (part : V → Part) where
   pub one_holder : ((v : V) → OfHolders v) → (cap : ℕ) → Within alone cap
   one_holder kind cap vs s room order is = omega (arith, none read (λ v. (kind v).0) vs, one_writer s order.exclusive, writers_hold (λ v. (kind v).1) vs s is)
 
+  entered : ((v : V) → OfTickets v) → (vs : List V) (s : Plain) → IsLockOf part vs s → writers_of (used_by part) vs ≤ sum_by is_entered s.tickets
+  entered kind vs s is =
+      within (λ t. t.party) is_entered part written (λ p x. sum_by is_entered (entries_of_part p x).tickets) (λ p v. (kind v).1 p) vs s.tickets
+      (λ p. ap (λ e. sum_by is_entered e.tickets) (is p).0)
+
+  -- at most as many parties write as there are tickets
+  pub writers_queue : ((v : V) → OfTickets v) → (vs : List V) (s : Plain) → IsLockOf part vs s → writers_of (used_by part) vs ≤ length s.tickets
+  writers_queue kind vs s is = omega (arith, entered kind vs s is, sum_by-le-sum_by is_entered (λ t. 1) s.tickets (λ t. grind arith), ones s.tickets)
+
   pub one_ticket : ((v : V) → OfTickets v) → (cap : ℕ) → Within alone cap
-  one_ticket kind cap vs s room order is =
-      let few = within (λ t. t.party) is_entered part written (λ p x. sum_by is_entered (entries_of_part p x).tickets) (λ p v. (kind v).1 p) vs s.tickets
-      (λ p. ap (λ e. sum_by is_entered e.tickets) (is p).0) in
-      omega (arith, none read (λ v. (kind v).0) vs, one_entered s.tickets order.exclusive.one_entered)
+  one_ticket kind cap vs s room order is = omega (arith, entered kind vs s is, none read (λ v. (kind v).0) vs, one_entered s.tickets order.exclusive.one_entered)
 
   both : (vs : List V) → sum_by (λ v. read v + written v) vs ≡ readers_of (used_by part) vs + writers_of (used_by part) vs
   both [] = refl
@@ -152,6 +158,10 @@ module _ {V : Type 0} (part : V → Part) where
   holds_all vs s is = exactly (λ h. h.party) (λ h. 1) part has (λ p x. length (entries_of_part p x).holders) (λ p v. as_many p (part v)) vs s.holders
       (λ p. ones (filter (λ h. h.party == p) s.holders) ∙ ap (λ e. length e.holders) (is p).0) (λ p. refl) ∙ ones s.holders
 
+  -- if each party that writes holds the lock, at most as many write as hold it
+  pub writers_among : ((v : V) → written v ≤ has v) → (vs : List V) (s : Plain) → IsLockOf part vs s → writers_of (used_by part) vs ≤ length s.holders
+  writers_among each vs s is = omega (arith, sum_by-le-sum_by written has vs each, holds_all vs s is)
+
   -- if parties hold the lock only to write, and the lock is in order (`IsInOrder`), it has at most one holder
   pub one_holds : ((v : V) → Writes (part v)) → (vs : List V) (s : Plain) → IsInOrder s → IsLockOf part vs s → OneHolds s
   one_holds each vs s order is =
@@ -163,4 +173,4 @@ module _ {V : Type 0} (part : V → Part) where
   -- if each party that uses the value holds the lock, to write, then one party at a time uses it
   pub one_user : ((v : V) → Writes (part v) × (read v ≡ 0) × (written v ≤ has v)) → (cap : ℕ) → Within alone cap
   one_user each cap vs s room order is =
-      omega (arith, none read (λ v. (each v).1) vs, sum_by-le-sum_by written has vs (λ v. (each v).2), holds_all vs s is, one_holds (λ v. (each v).0) vs s order is)
+      omega (arith, none read (λ v. (each v).1) vs, writers_among (λ v. (each v).2) vs s is, one_holds (λ v. (each v).0) vs s order is)

@@ -15,10 +15,10 @@ use Rattle.spin_core.specs.Views.{Part, idle, holds, entries_of_part, KnowsServe
 use Rattle.spin_step.specs.Orders.{IsInOrder}
 use Rattle.spin_step.proofs.Entries.{entries-own, entries-other}
 use Rattle.spin_step.proofs.Holders.{same_kind-self}
-use Rattle.spin_step.proofs.Tickets.{serving-moves}
+use Rattle.spin_step.proofs.Tickets.{serving-steps}
 
 knows-kept : (s : Plain) (p : ℕ) (step : Option Change) (x : Part) → IsInOrder s → IsOpenStep s p step → KnowsServed s x → KnowsServed (apply_some s step) x
-knows-kept s p step x order may known = grind (arith, serving-moves)
+knows-kept s p step x order may known = grind (arith, serving-steps, order.numbered.0)
 
 -- What a party's own steps do to its entries.
 

@@ -188,6 +188,27 @@ impl<'a, T, V, E, P: Rule<T, V, Second = Trace<E, u64>>> Permit<'a, T, V, P> {
         )
     }
 
+    /// Adds `by` to the second word, modulo 2^64. Returns the word found.
+    pub fn add_second<M: Play<P::Key, V, E>>(
+        self,
+        by: u64,
+        seen: Watch<E>,
+    ) -> (u64, Permit<'a, T, V, P>, Watch<E>)
+        requires { MayKnow (P.holds self.key) (P.ways self.key) seen × TracesSecond (P.holds self.key) (P.ways self.key) self.view self.value (λ n. (n + by) % 2 ^ 64) (M.told self.key self.view) }
+        ensures { MadeStep P.holds P.ways M.told self.entry seen result.0 result.1 result.2 }
+    {
+        let Permit { cell, marker: _ } = self;
+        let found = unsafe { raw::fetch_add::<Brand>(&raw const (*cell).second.word, by, SeqCst) };
+        (
+            found,
+            Permit {
+                cell,
+                marker: PhantomData,
+            },
+            seen,
+        )
+    }
+
     /// Stores `new` in the second word.
     pub fn store_second<M: Play<P::Key, V, E>>(
         self,

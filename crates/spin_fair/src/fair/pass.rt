@@ -5,19 +5,21 @@ ghost use Rattle.spin_session.specs.Turns.{Stands, history, lock_of, spot_of};
 ghost use Rattle.spin_step.specs.declared.answer.Answer.TheVariants.{Granted, Refused, Is};
 ghost use Rattle.spin_step_more.specs.declared.fair_calls.FairCall.TheVariants.{Lock, TryLock, TryLockStarver, IsLocked, Starve};
 ghost use Rattle.spin_fair.specs.Fair.{reason_answer};
-ghost use Rattle.spin_fair.specs.FairPasses.{After, Calls, FairSpot, Grants, Holds, Recalls, Unlocks, new_in, opening};
+ghost use Rattle.spin_fair.specs.FairPasses.{Calls, FairSpot, Grants, Holds, Learns, Recalls, Unlocks, new_in, opening};
 
 use super::rule::{Entry, FairRule};
 use super::{FairMutex, FairMutexGuard, LockRejectReason, Starvation};
 use spin_core::guard::Guard;
 use spin_core::relax::RelaxStrategy;
-use spin_core::trace::Watch;
+use spin_core::trace::{Knows, Watch};
 use spin_session::calls::{
     SessionOf, acquire, after, ask, enter, finish, give, guarded, in_three, try_to_acquire,
 };
 use spin_session_more::calls::try_for;
 use spin_step::{Answer, Hold};
 use spin_step_more::FairCall;
+use std::fmt;
+use std::fmt::{Debug, Formatter};
 use std::marker::{Model, PhantomData};
 use std::sync::Wait;
 
@@ -193,12 +195,13 @@ impl<'a, T, R> Pass<'a, T, R> {
         }
     }
 
-    /// Returns this pass, which then also knows what the other pass knows. It does nothing when it runs.
+    /// Returns this pass, which then also knows what the other knows: a pass, a guard, or what one has
+    /// [`seen`](Pass::seen). It does nothing when it runs.
     ///
-    /// So the next call of this pass comes after the calls of the other that are known by now.
+    /// So the next call of this pass comes after the calls that the other knows by now.
     ///
     /// # Contract
-    /// The history that the returned pass knows is the longer of the two, of which the other is a prefix (`After`).
+    /// The history that the returned pass knows is the longer of the two, of which the other is a prefix (`Learns`).
     ///
     /// # Examples
     /// ```
@@ -212,13 +215,13 @@ impl<'a, T, R> Pass<'a, T, R> {
     /// assert_eq!(rt; *reader.lock(&rt), 5);
     /// drop(writer);
     /// ```
-    pub fn after(self, earlier: &Pass<'_, T, R>) -> Pass<'a, T, R>
-        requires { lock_of self ≡ lock_of earlier.now }
-        ensures { After earlier.now self.entry result }
+    pub fn after<K: Knows<Entry<T>>>(self, earlier: &K) -> Pass<'a, T, R>
+        requires { lock_of self ≡ K.of earlier.now }
+        ensures { Learns (K.entries earlier.now) self.entry result }
     {
         let Self { session, strategy } = self;
         Pass {
-            session: after(session, &earlier.session),
+            session: after(session, &earlier.known()),
             strategy,
         }
     }
@@ -246,6 +249,16 @@ impl<'a, T, R> Pass<'a, T, R> {
     }
 }
 
+impl<T, R> Knows<Entry<T>> for Pass<'_, T, R> {
+    ghost of = { λ pass. lock_of pass };
+
+    ghost entries = { λ pass. history pass };
+
+    fn known(&self) -> Watch<Entry<T>> {
+        self.session.seen.copy()
+    }
+}
+
 impl<T, R> Drop for Pass<'_, T, R> {
     fn drop(self) {
         let Self {
@@ -253,5 +266,12 @@ impl<T, R> Drop for Pass<'_, T, R> {
             strategy: _,
         } = self;
         let _left = finish(session);
+    }
+}
+
+/// Prints `Pass { .. }`.
+impl<T, R> Debug for Pass<'_, T, R> {
+    fn fmt<W: fmt::Write>(&self, f: &mut Formatter<W>) -> fmt::Result {
+        f.debug_struct("Pass").finish_non_exhaustive()
     }
 }

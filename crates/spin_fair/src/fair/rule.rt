@@ -100,6 +100,7 @@ impl<T> Runs<T> for FairRule {
         let _ = (call, from, holds, found, due);
         match to {
             FairPoint::Look(_) | FairPoint::Await => MAX_BACK_OFF,
+            FairPoint::Load => 1,
             _ => 0,
         }
     }
@@ -146,7 +147,9 @@ impl Uses<Party> for FairRule {
 }
 
 impl<T> guard::Release<T, Party> for FairRule {
-    fn release(writer: WritePermit<'_, T, Party, FairRule>) -> Left {
+    fn release<'a>(writer: WritePermit<'a, T, Party, FairRule>) -> Left<'a, T, Party, FairRule>
+        ensures { result.0 ≡ writer.entry.key }
+    {
         let (seen, release) = (Watch::nothing(), FairCall::Release);
         finish(give::<T, FairRule>(writer, seen, release, Hold::Write, None))
     }

@@ -10,6 +10,7 @@ ghost use Rattle.spin_fair.specs.FairPasses.{Calls, FairSpot, Grants};
 use super::FairMutexGuard;
 use super::pass::Pass;
 use super::rule::FairRule;
+use spin_core::lock::Claim;
 use spin_core::relax::{RelaxStrategy, Spin, Strategy};
 use spin_session::calls::{SessionOf, guarded};
 use spin_session_more::calls::{attempt, make, wait_for};
@@ -161,6 +162,16 @@ impl<'a, T, R: RelaxStrategy> Starvation<'a, T, R> {
             Strategy::<R>::named(),
             rt,
         ))
+    }
+}
+
+impl<'a, T, R: RelaxStrategy> Claim for Starvation<'a, T, R> {
+    type Guard = FairMutexGuard<'a, T, R>;
+
+    ghost claims = { λ starvation guard. Grants StarverLock starvation guard };
+
+    fn claim<W: Wait>(self, rt: &W) -> FairMutexGuard<'a, T, R> {
+        self.lock(rt)
     }
 }
 

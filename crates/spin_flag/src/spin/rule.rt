@@ -1,5 +1,5 @@
 //! The rule of the cell of a `SpinMutex`, which runs the table of a flag. Begin at [`FlagRule`].
-ghost use Rattle.std.specs.Prelude.{refl};
+ghost use Rattle.std.specs.Prelude.{◌≡◌, refl};
 ghost use Rattle.spin_core.specs.Cell.{use_of};
 ghost use Rattle.spin_core.specs.Values.{untold};
 ghost use Rattle.spin_session.specs.Meaning.{use_of_party, ways_of};
@@ -84,7 +84,9 @@ impl Uses<Party> for FlagRule {
 }
 
 impl<T> guard::Release<T, Party> for FlagRule {
-    fn release(writer: WritePermit<'_, T, Party, FlagRule>) -> Left {
+    fn release<'a>(writer: WritePermit<'a, T, Party, FlagRule>) -> Left<'a, T, Party, FlagRule>
+        ensures { result.0 ≡ writer.entry.key }
+    {
         let (seen, release) = (Watch::nothing(), FlagCall::Release);
         finish(give::<T, FlagRule>(writer, seen, release, Hold::Write, None))
     }

@@ -1,6 +1,7 @@
 //! The calls of a log, of a closed log and of a snapshot.
 ghost use Rattle.std.specs.Prelude.{◌≡◌, [], ◌∷◌, ◌++◌};
 ghost use Rattle.spin_core.specs.Logs.{KnowsBoth, OneIsPrefix};
+ghost use Rattle.spin_history.specs.Entries.{WritesOne};
 ghost use Rattle.spin_history.specs.Known.{log_entries, known_to, closed_entries, IsUpdated};
 
 use super::{ClosedLog, History, Log, Snapshot};
@@ -44,6 +45,43 @@ impl<T, H: History> Log<T, H> {
         Snapshot {
             marker: PhantomData,
         }
+    }
+
+    /// Appends an entry, and brings a snapshot up to date.
+    ///
+    /// # Contract
+    /// The snapshot's former entries are a prefix of the log. Afterwards it has the whole log, of which `value` is the last
+    /// entry (`WritesOne`).
+    ///
+    /// # Examples
+    /// ```
+    /// use spin_history::history::{BlankLog, History, Log, Snapshot, Work, open};
+    ///
+    /// #[derive(Drop)]
+    /// struct Sends;
+    ///
+    /// impl Work for Sends {
+    ///     type Answer = u64;
+    ///
+    ///     fn run<H: History + Send + Sync>(self, blank: BlankLog) -> u64 {
+    ///         let mut sent: Log<u64, H> = blank.open();
+    ///         let mut seen: Snapshot<u64, H> = sent.snapshot();
+    ///         let message = 7;
+    ///         sent.append_and_observe(&message, &mut seen);
+    ///         message
+    ///     }
+    /// }
+    ///
+    /// assert_eq!(rt; open(Sends), 7);
+    /// ```
+    pub fn append_and_observe(&mut self, value: &T, snapshot: &mut Snapshot<T, H>)
+        ensures appended { log_entries self.new ≡ log_entries self.old ++ value.now ∷ [] }
+        ensures seen { known_to snapshot.new ≡ log_entries self.new }
+        ensures later { WritesOne (known_to snapshot.old) value.now (known_to snapshot.new) }
+    {
+        self.observe(snapshot);
+        self.append(value);
+        self.observe(snapshot);
     }
 
     /// Compares two references to the log that are held at the same time.
@@ -106,6 +144,18 @@ impl<T, H: History> ClosedLog<T, H> {
 }
 
 impl<T, H: History> Snapshot<T, H> {
+    /// Returns a snapshot that knows nothing, for whoever has seen no entry of the log.
+    ///
+    /// # Contract
+    /// The snapshot has no entry.
+    pub fn nothing() -> Snapshot<T, H>
+        ensures { known_to result ≡ [] }
+    {
+        Snapshot {
+            marker: PhantomData,
+        }
+    }
+
     /// Returns a copy of the snapshot.
     ///
     /// # Contract

@@ -7,11 +7,11 @@ ghost use Rattle.spin_history.specs.Known.{known_to, closed_entries};
 ghost use Rattle.spin_history.specs.Registers.{inside, writes_of, Overwrites};
 
 use super::Register;
-use crate::growing::Order;
+use crate::growing::Preorder;
 use crate::history::{ClosedLog, History, Log, Snapshot};
 use std::marker::PhantomData;
 
-impl<T, H: History, P: Order<T>> Register<T, H, P> {
+impl<T, H: History, P: Preorder<T>> Register<T, H, P> {
     /// Creates a register that holds `value`.
     ///
     /// # Contract
@@ -195,7 +195,7 @@ impl<T, H: History, P: Order<T>> Register<T, H, P> {
     }
 }
 
-impl<T: Drop, H: History, P: Order<T>> Register<T, H, P> {
+impl<T: Drop, H: History, P: Preorder<T>> Register<T, H, P> {
     /// Writes a value.
     ///
     /// # Contract
@@ -251,7 +251,7 @@ impl<T: Drop, H: History, P: Order<T>> Register<T, H, P> {
     }
 }
 
-impl<T: Copy, H: History, P: Order<T>> Register<T, H, P> {
+impl<T: Copy, H: History, P: Preorder<T>> Register<T, H, P> {
     /// Returns a copy of the value.
     ///
     /// # Contract

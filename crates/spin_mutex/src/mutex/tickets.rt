@@ -1,4 +1,6 @@
 //! The ticket numbers of a mutex, by the functions of `spin_mutex::tickets`. Begin at [`next`].
+ghost use Rattle.spin_mutex.specs.Mutex.{OpensAt, opening};
+
 use crate::mutex::Mutex;
 use crate::tickets;
 
@@ -25,7 +27,7 @@ pub fn next<T, R>(mutex: &Mutex<T, R>) -> u64 {
 /// used up.
 ///
 /// # Contract
-/// Only that the call returns.
+/// The mutex's history begins with this value, and its tickets with this number (`opens`). The call returns.
 ///
 /// # Examples
 /// ```
@@ -35,7 +37,9 @@ pub fn next<T, R>(mutex: &Mutex<T, R>) -> u64 {
 /// let mutex: Mutex<u64> = starting_at(5, u64::MAX);
 /// assert!(rt; mutex.try_lock().is_none());
 /// ```
-pub fn starting_at<T, R>(value: T, first: u64) -> Mutex<T, R> {
+pub fn starting_at<T, R>(value: T, first: u64) -> Mutex<T, R>
+    ensures opens { OpensAt value first (opening result) }
+{
     Mutex {
         inner: tickets::starting_at(value, first),
     }

@@ -2,7 +2,7 @@
 ghost use Rattle.std.specs.Prelude.{◌≡◌, None, IfOk, IfErr};
 ghost use Rattle.spin_core.specs.Logs.{OneIsPrefix};
 ghost use Rattle.spin_session.specs.Turns.{Stands, history, lock_of, spot_of};
-ghost use Rattle.spin_mutex.specs.TicketPasses.{After, Calls, TicketSpot, Grants, Holds, Recalls, Unlocks, new_in, opening};
+ghost use Rattle.spin_mutex.specs.TicketPasses.{Calls, Grants, Holds, Learns, Recalls, TicketSpot, Unlocks, new_in, opening};
 ghost use Rattle.spin_mutex.specs.TicketPasses.{Lock, TryLock, IsLocked};
 ghost use Rattle.spin_step.specs.declared.answer.Answer.TheVariants.{Refused, Is};
 
@@ -10,11 +10,13 @@ use super::rule::{Entry, TicketRule, served};
 use super::{TicketMutex, TicketMutexGuard};
 use spin_core::guard::Guard;
 use spin_core::relax::RelaxStrategy;
-use spin_core::trace::Watch;
+use spin_core::trace::{Knows, Watch};
 use spin_session::calls::{
     SessionOf, acquire, after, enter, finish, give, in_three, try_to_acquire,
 };
 use spin_step::{Answer, Hold, TicketCall};
+use std::fmt;
+use std::fmt::{Debug, Formatter};
 use std::marker::{Model, PhantomData};
 use std::sync::Wait;
 
@@ -151,12 +153,13 @@ impl<'a, T, R> Pass<'a, T, R> {
         next
     }
 
-    /// Returns this pass, which then also knows what the other pass knows. It does nothing when it runs.
+    /// Returns this pass, which then also knows what the other knows: a pass, a guard, or what one has
+    /// [`seen`](Pass::seen). It does nothing when it runs.
     ///
-    /// So the next call of this pass comes after the calls of the other that are known by now.
+    /// So the next call of this pass comes after the calls that the other knows by now.
     ///
     /// # Contract
-    /// The history that the returned pass knows is the longer of the two, of which the other is a prefix (`After`).
+    /// The history that the returned pass knows is the longer of the two, of which the other is a prefix (`Learns`).
     ///
     /// # Examples
     /// ```
@@ -170,13 +173,13 @@ impl<'a, T, R> Pass<'a, T, R> {
     /// assert_eq!(rt; *reader.lock(&rt), 5);
     /// drop(writer);
     /// ```
-    pub fn after(self, earlier: &Pass<'_, T, R>) -> Pass<'a, T, R>
-        requires { lock_of self ≡ lock_of earlier.now }
-        ensures { After earlier.now self.entry result }
+    pub fn after<K: Knows<Entry<T>>>(self, earlier: &K) -> Pass<'a, T, R>
+        requires { lock_of self ≡ K.of earlier.now }
+        ensures { Learns (K.entries earlier.now) self.entry result }
     {
         let Self { session, strategy } = self;
         Pass {
-            session: after(session, &earlier.session),
+            session: after(session, &earlier.known()),
             strategy,
         }
     }
@@ -204,6 +207,16 @@ impl<'a, T, R> Pass<'a, T, R> {
     }
 }
 
+impl<T, R> Knows<Entry<T>> for Pass<'_, T, R> {
+    ghost of = { λ pass. lock_of pass };
+
+    ghost entries = { λ pass. history pass };
+
+    fn known(&self) -> Watch<Entry<T>> {
+        self.session.seen.copy()
+    }
+}
+
 impl<T, R> Drop for Pass<'_, T, R> {
     fn drop(self) {
         let Self {
@@ -211,5 +224,12 @@ impl<T, R> Drop for Pass<'_, T, R> {
             strategy: _,
         } = self;
         let _left = finish(session);
+    }
+}
+
+/// Prints `Pass { .. }`.
+impl<T, R> Debug for Pass<'_, T, R> {
+    fn fmt<W: fmt::Write>(&self, f: &mut Formatter<W>) -> fmt::Result {
+        f.debug_struct("Pass").finish_non_exhaustive()
     }
 }

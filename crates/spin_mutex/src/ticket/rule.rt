@@ -8,10 +8,9 @@ ghost use Rattle.spin_core.specs.Values.{untold};
 ghost use Rattle.spin_session.specs.Meaning.{Peeks, use_at, use_of_party, ways_of, with_second};
 ghost use Rattle.spin_mutex.specs.Queue.{IsQueue, model, ticket_meaning, ticket_tables};
 
-use super::HINTS_EACH;
 use spin_core::cell::{Left, Rule, WritePermit};
 use spin_core::guard::{self, Uses};
-use spin_core::relax::MAX_BACK_OFF;
+use spin_core::relax::MAX_HINTS;
 use spin_core::tie::Opening;
 use spin_core::trace::{Trace, Watch};
 use spin_session::calls::{finish, give};
@@ -89,7 +88,8 @@ impl<T> Runs<T> for TicketRule {
     }
 
     // The thread that is next gives one hint. While others wait before it, a thread looks seldom, so that it does not
-    // disturb them. A thread that found no ticket left looks seldom too. An exchange that failed is retried at once.
+    // disturb them: most seldom behind four of them, since there may not be so many processors. So does a thread that found
+    // no ticket left. An exchange that failed is retried at once.
     fn hints(
         call: TicketCall,
         from: TicketPoint,
@@ -101,15 +101,15 @@ impl<T> Runs<T> for TicketRule {
         let _ = (call, holds, due);
         match (from, to) {
             (TicketPoint::Await(_), TicketPoint::Await(ticket)) => {
-                let ahead = ticket.saturating_sub(found);
-                if ahead <= 1 {
-                    1
-                } else {
-                    ahead.saturating_mul(HINTS_EACH).min(MAX_BACK_OFF as u64) as u32
+                match ticket.saturating_sub(found) {
+                    0 | 1 => 1,
+                    2 => 16,
+                    3 => 24,
+                    _ => MAX_HINTS,
                 }
             }
-            (_, TicketPoint::LoadNext) => MAX_BACK_OFF,
-            _ => 0,
+            (_, TicketPoint::Take(_)) | (TicketPoint::Take(_), TicketPoint::Await(_)) => 0,
+            _ => MAX_HINTS,
         }
     }
 
@@ -123,7 +123,9 @@ impl Uses<Party> for TicketRule {
 impl<T> guard::Release<T, Party> for TicketRule {
     // The served number is that of the writer's ticket. A guard does not keep this number. If it did, and the number
     // were tied to the seat, `deref_mut` could not lend the guard's permit.
-    fn release(writer: WritePermit<'_, T, Party, TicketRule>) -> Left {
+    fn release<'a>(writer: WritePermit<'a, T, Party, TicketRule>) -> Left<'a, T, Party, TicketRule>
+        ensures { result.0 ≡ writer.entry.key }
+    {
         let (number, writer, _) = served(writer, Watch::nothing());
         let release = TicketCall::Release;
         let held = Hold::Ticket(number);

@@ -1,5 +1,5 @@
 //! The calls of a [`Once`] by a thread that keeps track of them. Begin at [`Once::pass`].
-ghost use Rattle.std.specs.Prelude.{◌≡◌, Err, IfSome, IfErr};
+ghost use Rattle.std.specs.Prelude.{◌≡◌, Err, IfSome, IfOk, IfErr};
 ghost use Rattle.spin_step.specs.declared.once_calls.OnceCall.TheVariants.{CallOnce, Wait as WaitCall, Poll};
 ghost use Rattle.spin_once.specs.OncePasses.{Calls, Gets, Never, OkGets, Tried, found_or_none, new_in, opening};
 
@@ -87,6 +87,50 @@ impl<'a, T, R: RelaxStrategy> Pass<'a, T, R> {
                 (Ok(value), Pass::of(account))
             }
             Err((error, account)) => (Err(error), Pass::of(account)),
+        }
+    }
+
+    /// Stores `value` if there is none yet, and returns the stored one. Otherwise returns the value that there is, with
+    /// `value`. [`Once::try_insert`] is this call without a pass.
+    ///
+    /// # Contract
+    /// In the history the call counts as one `CallOnce` with the answer `Value`. With `Ok` the value is `value`, and is the
+    /// only one in the history (`stored`). With `Err` the pass has written no value, the value is the only one in the
+    /// history (`there`), and `value` comes back (`back`). Whether and when the call returns is not promised.
+    ///
+    /// # Examples
+    /// ```
+    /// use spin::Once;
+    ///
+    /// let port: Once<u16> = Once::new();
+    /// let (made, pass) = port.pass().try_insert(&rt, 80);
+    /// assert!(rt; made.is_ok());
+    /// let (refused, pass) = pass.try_insert(&rt, 81);
+    /// assert!(rt; refused.is_err());
+    /// drop(pass);
+    /// ```
+    pub fn try_insert<W: Wait>(
+        self,
+        rt: &W,
+        value: T,
+    ) -> (Result<&'a T, (&'a T, T)>, Pass<'a, T, R>)
+        ensures stored { IfOk result.0 (λ made. (made.now ≡ value) × Gets (CallOnce tt) (λ v. v ≡ value) self.entry made.now result.1) }
+        ensures there { IfErr result.0 (λ both. Gets (CallOnce tt) Never self.entry both.0.now result.1) }
+        ensures back { IfErr result.0 (λ both. both.1 ≡ value) }
+    {
+        let found = match self.into_account().come(OnceCall::CallOnce(())) {
+            Ok(found) => Ok(found),
+            Err(account) => account.claim::<R, W>(OnceCall::CallOnce(()), rt),
+        };
+        match found {
+            Ok(found) => {
+                let (there, account) = found.read();
+                (Err((there, value)), Pass::of(account))
+            }
+            Err(permit) => {
+                let (made, account) = permit.complete(value).read();
+                (Ok(made), Pass::of(account))
+            }
         }
     }
 

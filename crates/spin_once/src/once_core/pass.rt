@@ -11,6 +11,8 @@ ghost use Rattle.spin_once.specs.Passes.{After, AreOfOne, Calls, Gets, Has, Neve
 use super::account::Account;
 use super::rule::{Entry, Seed};
 use spin_core::trace::Watch;
+use std::fmt;
+use std::fmt::{Debug, Formatter};
 use std::marker::{Model, PhantomData};
 
 /// A thread's record of its calls of a [`Once`](crate::once::Once) or a [`LazyLock`](crate::lazylock::LazyLock).
@@ -157,5 +159,12 @@ impl<'a, T, S: Seed<T>, R> Pass<'a, T, S, R> {
 impl<T, S: Seed<T>, R> Drop for Pass<'_, T, S, R> {
     fn drop(self) {
         self.into_account().close();
+    }
+}
+
+/// Prints `Pass { .. }`.
+impl<T, S: Seed<T>, R> Debug for Pass<'_, T, S, R> {
+    fn fmt<W: fmt::Write>(&self, f: &mut Formatter<W>) -> fmt::Result {
+        f.debug_struct("Pass").finish_non_exhaustive()
     }
 }

@@ -46,7 +46,8 @@ fn run<I: Source, O: Sink>(
 /// party, in their order, are its program. In place of the header the text may begin with lines `lock NAME HEADER`,
 /// each with a header that lacks the number of parties. In such a text each move names its lock: `PARTY NAME MOVE`.
 ///
-/// It writes each outcome that any interleaving has, and how many states it has seen. It also writes each way to get
+/// It writes a line that says whether the programs use their locks in one order ([`order_of`](spin_explore::order_of)).
+/// Then it writes each outcome that any interleaving has, and how many states it has seen. It also writes each way to get
 /// stuck, and for each of these a schedule that leads there. The words `--schedule NUMBER` ask instead for a schedule
 /// of the outcome with this number. The words `--limit STATES` bound the search. A run that fails writes one line with
 /// the reason to `errors`.
@@ -57,7 +58,7 @@ fn run<I: Source, O: Sink>(
 /// - 0: what was asked for is written (`Does`). No run can get stuck, or a schedule was asked for.
 /// - 3: what was asked for is written (`Does`), and some run can get stuck.
 /// - 1: an allocation, a read or a write failed, schedules lead to more states than the limit (`IsOver`, `HasSeen`), or the
-///   search did not settle.
+///   search did not settle (`DoesNotSettle`).
 ///   Only a failed write leaves a beginning of the text on `output`.
 /// - 2: the words are no command, a line of the text is wrong, or there is no such outcome.
 ///

@@ -4,13 +4,13 @@ ghost use Rattle.spin_core.specs.Logs.{OneIsPrefix};
 ghost use Rattle.spin_core.specs.Calls.{AnswersOf, AnswersOfShared};
 ghost use Rattle.spin_core.specs.Own.{what};
 ghost use Rattle.spin_step.specs.declared.answer.Answer.{Answer as AnAnswer};
-ghost use Rattle.spin_step.specs.declared.answer.Answer.TheVariants.{Granted, Refused, Count, Done};
+ghost use Rattle.spin_step.specs.declared.answer.Answer.TheVariants.{Granted, Refused, Count, Done, Is};
 ghost use Rattle.spin_step.specs.declared.place.Hold.{Hold as AHold};
 ghost use Rattle.spin_step_more.specs.Readers.{reader_limit};
-ghost use Rattle.spin_step_more.specs.declared.rw_calls.RwCall.TheVariants.{TryRead, Read, TryUpgradeableRead, UpgradeableRead, TryWrite, Write, ReaderCount, WriterCount, Release};
-ghost use Rattle.spin_session.specs.Turns.{Ended, GoesOn, Knows, SeesLast, SeesOn, Stands, StaysQuiet, Under, spot_of};
+ghost use Rattle.spin_step_more.specs.declared.rw_calls.RwCall.TheVariants.{TryRead, Read, TryUpgradeableRead, UpgradeableRead, TryWrite, Write, ReaderCount, WriterCount, IsLocked, Release};
+ghost use Rattle.spin_session.specs.Turns.{Ended, GoesOn, Knows, SeesLast, SeesOn, Stands, StaysQuiet, Under, is_granted, spot_of};
 ghost use Rattle.spin_rwlock.specs.Rw.{call_of, rw_meaning, rw_tables};
-ghost use Rattle.spin_rwlock.specs.RwPasses.{◌⨾◌, After, Calls, Grants, KnowsItsSteps, Lends, Recalls, RwSpot, ShowsLast, Unlocks, WroteSome, history, lock_of, new_in, opening, opening_of, shared_spot};
+ghost use Rattle.spin_rwlock.specs.RwPasses.{◌⨾◌, Calls, Grants, KnowsItsSteps, Learns, Lends, Recalls, RwSpot, ShowsLast, Unlocks, WroteSome, history, lock_of, new_in, opening, opening_of, shared_spot};
 
 use super::RwLock;
 use super::reader::{RwLockReadGuard, SharedGuard};
@@ -18,13 +18,15 @@ use super::rule::{Entry, Kind, Party, Reader, RwRule, RwSession, Upgrader, call_
 use super::upgradable::RwLockUpgradableGuard;
 use super::writer::RwLockWriteGuard;
 use spin_core::relax::RelaxStrategy;
-use spin_core::trace::Watch;
+use spin_core::trace::{Knows, Watch};
 use spin_session::calls::{self, after, ask, enter, finish};
 use spin_session::session::Session;
 use spin_session_more::calls::{attempt, try_for};
 use spin_session_more::leaps::begin_ahead;
 use spin_step::{Answer, Hold, Next};
 use spin_step_more::rw_calls::{RwCall, RwPoint};
+use std::fmt;
+use std::fmt::{Debug, Formatter};
 use std::marker::{Model, PhantomData};
 use std::sync::Wait;
 
@@ -331,12 +333,39 @@ impl<'a, T, R> Pass<'a, T, R> {
         }
     }
 
-    /// Returns this pass, which then also knows what the other pass knows. It does nothing when it runs.
-    ///
-    /// So the next call of this pass comes after the calls of the other that are known by now.
+    /// Returns whether any thread holds the lock, as [`RwLock::is_locked`] does.
     ///
     /// # Contract
-    /// The history that the returned pass knows is the longer of the two, of which the other is a prefix (`After`).
+    /// The call is one `IsLocked`, with the returned answer.
+    ///
+    /// # Examples
+    /// ```
+    /// use spin::RwLock;
+    ///
+    /// let limit: RwLock<u64> = RwLock::new(3);
+    /// let reader = limit.read(&rt);
+    /// let (is_locked, pass) = limit.pass().is_locked();
+    /// assert!(rt; is_locked);
+    /// drop(reader);
+    /// assert!(rt; !pass.is_locked().0);
+    /// ```
+    pub fn is_locked(self) -> (bool, Pass<'a, T, R>)
+        ensures { Calls IsLocked (Is result.0) self.entry result.1 }
+    {
+        let Self { session, strategy } = self;
+        match ask(session, RwCall::IsLocked, None) {
+            (Answer::Is(is_locked), session) => (is_locked, Pass { session, strategy }),
+            _ => unreachable!(),
+        }
+    }
+
+    /// Returns this pass, which then also knows what the other knows: a pass, a guard, or what one has
+    /// [`seen`](Pass::seen). It does nothing when it runs.
+    ///
+    /// So the next call of this pass comes after the calls that the other knows by now.
+    ///
+    /// # Contract
+    /// The history that the returned pass knows is the longer of the two, of which the other is a prefix (`Learns`).
     ///
     /// # Examples
     /// ```
@@ -350,13 +379,13 @@ impl<'a, T, R> Pass<'a, T, R> {
     /// assert_eq!(rt; *reader.read(&rt), 4);
     /// drop(writer);
     /// ```
-    pub fn after(self, earlier: &Pass<'_, T, R>) -> Pass<'a, T, R>
-        requires { lock_of self ≡ lock_of earlier.now }
-        ensures { After earlier.now self.entry result }
+    pub fn after<K: Knows<Entry<T>>>(self, earlier: &K) -> Pass<'a, T, R>
+        requires { lock_of self ≡ K.of earlier.now }
+        ensures { Learns (K.entries earlier.now) self.entry result }
     {
         let Self { session, strategy } = self;
         Pass {
-            session: after(session, &earlier.session),
+            session: after(session, &earlier.known()),
             strategy,
         }
     }
@@ -398,7 +427,7 @@ pub(super) fn lend<'a, T, K: Kind, R: RelaxStrategy, W: Wait>(
     let (next, point, found, session) = begin_ahead(session, call, None);
     match next {
         Next::Answers(_, _) => SharedGuard::lent(session),
-        Next::Continue(_) => SharedGuard::lent(wait::<T, R, W>(session, call, point, found, rt)),
+        Next::Continue(_) => SharedGuard::lent(wait::<T, R, W>(session, call, point, found, rt).0),
     }
 }
 
@@ -416,7 +445,7 @@ pub(super) fn grant<'a, T, R: RelaxStrategy, W: Wait>(
     match next {
         Next::Answers(_, _) => RwLockWriteGuard::written(session),
         Next::Continue(_) => {
-            RwLockWriteGuard::written(wait::<T, R, W>(session, call, point, found, rt))
+            RwLockWriteGuard::written(wait::<T, R, W>(session, call, point, found, rt).0)
         }
     }
 }
@@ -431,16 +460,26 @@ fn wait<'a, T, R: RelaxStrategy, W: Wait>(
     point: RwPoint,
     found: u64,
     rt: &W,
-) -> RwSession<'a, T>
+) -> (RwSession<'a, T>, bool)
     requires knows { Knows rw_meaning (spot_of session) }
     requires goes { GoesOn rw_tables call point None found session.permit.key (what session.permit.view) }
     requires quiet { StaysQuiet rw_meaning call None }
-    ensures knows { Knows rw_meaning (spot_of result) }
-    ensures ended { (p : RwSpot T) → Under rw_tables rw_meaning call p (spot_of session.entry) → (a : AnAnswer (Unit {0})) × (after : Option AHold) × Ended rw_tables rw_meaning call None a after p (spot_of result) }
-    ensures last { SeesLast result }
-    ensures sees { (v : Option T) → SeesOn rw_meaning call None v session.entry → SeesOn rw_meaning call None v result }
+    ensures knows { Knows rw_meaning (spot_of result.0) }
+    ensures ended { (p : RwSpot T) → Under rw_tables rw_meaning call p (spot_of session.entry) → (a : AnAnswer (Unit {0})) × (after : Option AHold) × Ended rw_tables rw_meaning call None a after p (spot_of result.0) × (is_granted a ≡ result.1) }
+    ensures last { SeesLast result.0 }
+    ensures sees { (v : Option T) → SeesOn rw_meaning call None v session.entry → SeesOn rw_meaning call None v result.0 }
 {
     calls::wait::<T, RwRule<T>, R, W>(session, call, point, None, found, rt)
+}
+
+impl<T, R> Knows<Entry<T>> for Pass<'_, T, R> {
+    ghost of = { λ pass. lock_of pass };
+
+    ghost entries = { λ pass. history pass };
+
+    fn known(&self) -> Watch<Entry<T>> {
+        self.session.seen.copy()
+    }
 }
 
 impl<T, R> Drop for Pass<'_, T, R> {
@@ -450,5 +489,12 @@ impl<T, R> Drop for Pass<'_, T, R> {
             strategy: _,
         } = self;
         let _left = finish(session);
+    }
+}
+
+/// Prints `Pass { .. }`.
+impl<T, R> Debug for Pass<'_, T, R> {
+    fn fmt<W: fmt::Write>(&self, f: &mut Formatter<W>) -> fmt::Result {
+        f.debug_struct("Pass").finish_non_exhaustive()
     }
 }

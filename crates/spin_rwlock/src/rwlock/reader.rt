@@ -12,7 +12,8 @@ ghost use Rattle.spin_rwlock.specs.Rw.{IsLent, rw_tables};
 
 use super::rule::{Entry, Kind, Party, Reader, RwRule, RwSession};
 use spin_core::relax::Spin;
-use spin_session::calls::finish;
+use spin_core::trace::{Knows, Watch};
+use spin_session::calls::{after, finish};
 use spin_session::session::Session;
 use spin_session_more::calls::make;
 use spin_step::Answer;
@@ -54,9 +55,22 @@ pub struct ReadHeld<'a, T, R = Spin> {
     ghost reading: { IsLent Reads session },
 }
 
+impl<T, K: Kind, R> Knows<Entry<T>> for SharedGuard<'_, T, K, R> {
+    ghost use Rattle.spin_rwlock.specs.Guards.{shared_spot};
+    ghost use Rattle.spin_rwlock.specs.RwPasses.{history, lock_of};
+
+    ghost of = { λ guard. lock_of (shared_spot guard) };
+
+    ghost entries = { λ guard. history (shared_spot guard) };
+
+    fn known(&self) -> Watch<Entry<T>> {
+        self.session.seen.copy()
+    }
+}
+
 impl<'a, T, K: Kind, R> SharedGuard<'a, T, K, R> {
     ghost use Rattle.spin_rwlock.specs.Guards.{RwSpot, shared_value, shared_spot};
-    ghost use Rattle.spin_rwlock.specs.RwPasses.{Lends};
+    ghost use Rattle.spin_rwlock.specs.RwPasses.{Learns, Lends, lock_of};
 
     // Returns the guard of this party. A call by which the party came here has lent it.
     pub(super) fn lent(session: RwSession<'a, T>) -> Self
@@ -92,6 +106,21 @@ impl<'a, T, K: Kind, R> SharedGuard<'a, T, K, R> {
     {
         let Session { permit, seen: _ } = this.into_session();
         permit.see()
+    }
+
+    /// Returns this guard, which then also knows what the other knows. It does nothing when it runs.
+    ///
+    /// So the next call of the guard's party comes after the calls that the other knows by now.
+    ///
+    /// # Contract
+    /// The value stays (`same`). The history that the guard knows is the longer of the two, of which the other is a
+    /// prefix (`learns`).
+    pub fn after<X: Knows<Entry<T>>>(this: Self, earlier: &X) -> Self
+        requires { lock_of (shared_spot this) ≡ X.of earlier.now }
+        ensures same { shared_value result ≡ shared_value this.entry }
+        ensures learns { Learns (X.entries earlier.now) (shared_spot this.entry) (shared_spot result) }
+    {
+        SharedGuard::lent(after(this.into_session(), &earlier.known()))
     }
 
     pub(super) fn into_session(self) -> RwSession<'a, T>

@@ -7,7 +7,7 @@ ghost use Rattle.spin_step.specs.declared.place.Hold.TheVariants as hold;
 ghost use Rattle.spin_rwlock.specs.Rw.{IsRw, Comes, call_of, downgrade_to, rw_meaning, rw_tables};
 
 use spin_core::cell::{Rule, WritePermit};
-use spin_core::relax::{MAX_BACK_OFF, MAX_HINTS};
+use spin_core::relax::MAX_BACK_OFF;
 use spin_core::tie::Opening;
 use spin_core::trace::Trace;
 use spin_session::calls::SessionOf;
@@ -55,6 +55,12 @@ impl<T> Rule<T, Party> for RwRule<T> {
     ghost lent = { untold };
 }
 
+// The longest pause of a reader that is kept out, as a number of spin hints.
+const MAX_READER_BACK_OFF: u32 = 64;
+
+// The pause of a reader that has lost two exchanges.
+const HINTS_AFTER_LOSSES: u32 = 512;
+
 const TABLE: RwTable = RwTable {
     cap: rw::MAX_READERS,
 };
@@ -91,9 +97,9 @@ impl<T> Runs<T> for RwRule<T> {
         Steps::<T, RwCall, RwPoint>::next(&TABLE, call, point, holds, found)
     }
 
-    // A reader that the word found keeps out gives one hint before it looks again. A reader that loses a second
-    // exchange in a round stands back, since readers that try again at once keep each other from succeeding. A writer
-    // backs off.
+    // A writer backs off, and so does a reader that the word found keeps out, but for less, since it does not exchange the
+    // word before it is free. A reader that loses a second exchange in a round stands back, since readers that try again at
+    // once keep each other from succeeding. The reader that waits to upgrade is next, and gives one hint.
     fn hints(
         call: RwCall,
         from: RwPoint,
@@ -106,9 +112,10 @@ impl<T> Runs<T> for RwRule<T> {
         match (call, from, to) {
             (RwCall::Write, _, _) => due.max(1).min(MAX_BACK_OFF),
             (RwCall::Upgrade, RwPoint::First, _) => 0,
-            (_, RwPoint::Exchange(_), RwPoint::Exchange(_)) if due > 0 => MAX_HINTS,
+            (RwCall::Upgrade, _, _) => 1,
+            (_, RwPoint::Exchange(_), RwPoint::Exchange(_)) if due > 0 => HINTS_AFTER_LOSSES,
             (_, _, RwPoint::Exchange(_)) => 0,
-            _ => 1,
+            _ => due.max(1).min(MAX_READER_BACK_OFF),
         }
     }
 

@@ -7,6 +7,7 @@ ghost use Rattle.spin_rwlock.specs.RwPasses.{Grants, Lends};
 use super::reader::{RwLockReadGuard, SharedGuard};
 use super::rule::Upgrader;
 use super::writer::RwLockWriteGuard;
+use spin_core::lock::Claim;
 use spin_core::relax::{RelaxStrategy, Spin, Strategy};
 use spin_session_more::calls::{attempt, make, wait_for};
 use spin_step::{Answer, Hold};
@@ -147,5 +148,18 @@ impl<'a, T, R: RelaxStrategy> SharedGuard<'a, T, Upgrader, R> {
             Strategy::<R>::named(),
             rt,
         ))
+    }
+}
+
+/// The upgradable reader becomes the writer.
+impl<'a, T, R: RelaxStrategy> Claim for SharedGuard<'a, T, Upgrader, R> {
+    ghost use Rattle.spin_rwlock.specs.Guards.{shared_value, write_value, shared_spot};
+
+    type Guard = RwLockWriteGuard<'a, T, R>;
+
+    ghost claims = { λ reader guard. (Some (write_value guard) ≡ shared_value reader) × Grants Upgrade (shared_spot reader) guard };
+
+    fn claim<W: Wait>(self, rt: &W) -> RwLockWriteGuard<'a, T, R> {
+        self.upgrade(rt)
     }
 }

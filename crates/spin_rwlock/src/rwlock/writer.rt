@@ -14,8 +14,9 @@ use super::reader::{RwLockReadGuard, SharedGuard};
 use super::rule::{Entry, Kind, Party, RwRule, RwSession, Writer, downgrade_to};
 use super::upgradable::RwLockUpgradableGuard;
 use spin_core::cell::{Permit, WritePermit};
+use spin_core::lock::Lent;
 use spin_core::relax::Spin;
-use spin_core::trace::Watch;
+use spin_core::trace::{Knows, Watch};
 use spin_session::calls::{finish, give};
 use spin_session::session::Session;
 use spin_step::Hold;
@@ -52,8 +53,8 @@ pub struct WriteHeld<'a, T, R = Spin> {
 }
 
 impl<'a, T, R> RwLockWriteGuard<'a, T, R> {
-    ghost use Rattle.spin_rwlock.specs.Guards.{RwSpot, shared_value, write_value, write_held_value, shared_spot, write_spot, write_held_spot, KnowsItsSteps};
-    ghost use Rattle.spin_rwlock.specs.RwPasses.{Calls, Grants, Lowers, Unlocks};
+    ghost use Rattle.spin_rwlock.specs.Guards.{HasFound, RwSpot, shared_value, write_value, write_held_value, shared_spot, write_spot, write_held_spot, KnowsItsSteps};
+    ghost use Rattle.spin_rwlock.specs.RwPasses.{Calls, Grants, Learns, Lowers, Unlocks, lock_of};
 
     fn new(writer: Writer<'a, T>, seen: Watch<Entry<T>>) -> Self
         ensures { (result.writer ≡ writer.entry) × (result.seen ≡ seen) }
@@ -194,6 +195,41 @@ impl<'a, T, R> RwLockWriteGuard<'a, T, R> {
         }
     }
 
+    /// Returns this guard, which then also knows what the other knows. It does nothing when it runs.
+    ///
+    /// So the next call of the guard's party comes after the calls that the other knows by now.
+    ///
+    /// # Contract
+    /// The party and the value stay (`same`). The history that the guard knows is the longer of the two, of which the
+    /// other is a prefix (`learns`).
+    pub fn after<K: Knows<Entry<T>>>(this: Self, earlier: &K) -> Self
+        requires knows { KnowsItsSteps this }
+        requires one { lock_of (write_spot this) ≡ K.of earlier.now }
+        ensures knows { KnowsItsSteps result }
+        ensures same { write_value result ≡ write_value this.entry }
+        ensures learns { Learns (K.entries earlier.now) (write_spot this.entry) (write_spot result) }
+    {
+        let (writer, seen) = this.into_parts();
+        let known = seen.later(&earlier.known());
+        Self::new(writer, known)
+    }
+
+    /// States that the guard's party found this value. It does nothing when it runs.
+    ///
+    /// A caller calls it before it writes, to tell afterwards what it found.
+    ///
+    /// # Contract
+    /// The guard has to show the value still (`shows`), and to have found the one that it shows (`found`), which each
+    /// call that grants a guard says.
+    pub fn found(this: &Self, value: &T)
+        requires shows { value.now ≡ write_value this.now }
+        requires found { HasFound (write_value this.now) this.now }
+        ensures { HasFound value.now this.now }
+    {
+        let _ = this;
+        let _ = value;
+    }
+
     fn into_parts(self) -> (Writer<'a, T>, Watch<Entry<T>>)
         ensures { (result.0 ≡ self.entry.writer) × (result.1 ≡ self.entry.seen) }
     {
@@ -203,6 +239,19 @@ impl<'a, T, R> RwLockWriteGuard<'a, T, R> {
             strategy: _,
         } = self;
         (writer, seen)
+    }
+}
+
+impl<T, R> Knows<Entry<T>> for RwLockWriteGuard<'_, T, R> {
+    ghost use Rattle.spin_rwlock.specs.Guards.{write_spot};
+    ghost use Rattle.spin_rwlock.specs.RwPasses.{history, lock_of};
+
+    ghost of = { λ guard. lock_of (write_spot guard) };
+
+    ghost entries = { λ guard. history (write_spot guard) };
+
+    fn known(&self) -> Watch<Entry<T>> {
+        self.seen.copy()
     }
 }
 
@@ -266,6 +315,22 @@ impl<T, R> DerefMut for RwLockWriteGuard<'_, T, R> {
         ensures value { result.now ≡ write_value self.old }
     {
         self.writer.get_mut()
+    }
+}
+
+impl<T, R> Lent for RwLockWriteGuard<'_, T, R> {
+    ghost use Rattle.spin_rwlock.specs.Guards.{write_value, write_with};
+
+    ghost shown = { write_value };
+
+    ghost leaving = { write_with };
+
+    fn whole(&self) -> &T {
+        &**self
+    }
+
+    fn whole_mut(&mut self) -> &mut T {
+        &mut **self
     }
 }
 

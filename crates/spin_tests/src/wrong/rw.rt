@@ -5,9 +5,9 @@ ghost use Rattle.spin_step.specs.Operations.{Stepwise};
 ghost use Rattle.spin_world_core.specs.Runs.{KeepsAll, MomentsAll, CountsAll};
 ghost use Rattle.spin_step_more.specs.RwCalls.{rw_machine};
 ghost use Rattle.spin_world.specs.Rw.{IsRwMachine};
-ghost use Rattle.spin_step_more.specs.declared.rw_calls.RwCall.TheVariants.{Downgrade, DowngradeToUpgradeable, Read, ReaderCount, TryRead, TryUpgrade, TryUpgradeableRead, TryWrite, Upgrade, Write, WriterCount};
+ghost use Rattle.spin_step_more.specs.declared.rw_calls.RwCall.TheVariants.{Downgrade, DowngradeToUpgradeable, IsLocked, Read, ReaderCount, TryRead, TryUpgrade, TryUpgradeableRead, TryWrite, Upgrade, Write, WriterCount};
 ghost use Rattle.spin_tests.specs.Schedules.{calls, steps, weak};
-ghost use Rattle.spin_tests.specs.WrongRw.{wrong, upgrades_plainly, upgrades_by_looks, refuses_late, upgrades_at_once, upgrades_unasked, asks_twice, downgrades_asking, counts_without_asking, downgrades_in_two, reads_and_regrets, reads_and_regrets_unseen, reads_by_a_mask, writes_by_chance, upgrades_anew, counts_without_upgradable, looks_for_ever, looks_twice, looks_first, tries_for_ever, reads_in_one, reads_by_a_guess, reads_weakly, writes_strongly, waits_strongly, upgrades_by_chance, never_releases, upgrades_any_reader, writes_by_reading, never_writes, opens_written, forgets_its_value, has_no_owner, comes_beyond_the_cap, ends_reading, reads_anew, upgrades_strongly, counts_asking_as_writing};
+ghost use Rattle.spin_tests.specs.WrongRw.{wrong, upgrades_plainly, upgrades_by_looks, refuses_late, upgrades_at_once, upgrades_unasked, asks_twice, downgrades_asking, counts_without_asking, downgrades_in_two, reads_and_regrets, reads_and_regrets_unseen, reads_by_a_mask, writes_by_chance, upgrades_anew, counts_without_upgradable, looks_for_ever, looks_twice, looks_first, tries_for_ever, reads_in_one, reads_by_a_guess, reads_weakly, writes_strongly, waits_strongly, upgrades_by_chance, never_releases, upgrades_any_reader, writes_by_reading, never_writes, opens_written, forgets_its_value, has_no_owner, comes_beyond_the_cap, ends_reading, reads_anew, upgrades_strongly, counts_asking_as_writing, looks_for_a_writer};
 
 /// A `try_upgrade` that succeeds while another party reads: the plain step is not open.
 pub fn an_upgrade_is_refused_beside_readers<V: Copy>()
@@ -86,6 +86,11 @@ pub fn a_count_tells_the_upgradable_reader<V: Copy>()
 pub fn a_reader_that_asks_is_no_writer<V: Copy>()
     ensures { (value : V) → MomentsAll (wrong value counts_asking_as_writing) 2
         (calls 0 TryUpgradeableRead 2 ++ calls 0 Upgrade 1 ++ calls 1 WriterCount 1) → ⊥ }
+{}
+
+/// An `is_locked` that tells only of a writer. Somebody reads all the time while it answers that nobody holds the lock.
+pub fn a_look_tells_of_readers<V: Copy>()
+    ensures { (value : V) → MomentsAll (wrong value looks_for_a_writer) 2 (calls 0 TryRead 2 ++ calls 1 IsLocked 1) → ⊥ }
 {}
 
 /// A `read` that looks for ever, one that looks twice, and one that loads again when its exchange has failed. If the lock

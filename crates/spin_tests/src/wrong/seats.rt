@@ -2,12 +2,13 @@
 //! what the laws keep out. Begin with [`nobody_sits_beyond_the_seats`].
 ghost use Rattle.std.specs.Prelude.{◌++◌, ◌≡◌, []};
 ghost use Rattle.spin_step.specs.Operations.{Stepwise};
+ghost use Rattle.spin_world_core.specs.Lawful.{Promises};
 ghost use Rattle.spin_world_core.specs.Runs.{KeepsAll, CountsAll, MomentsAll};
 ghost use Rattle.spin_seats.specs.Table.{seats_machine};
 ghost use Rattle.spin_world_seats.specs.Named.{IsSeatsMachine};
 ghost use Rattle.spin_seats.specs.declared.calls.SeatsCall.TheVariants as call;
 ghost use Rattle.spin_tests.specs.Schedules.{calls, steps, weak};
-ghost use Rattle.spin_tests.specs.WrongSeats.{wrong, seats_one_too_many, leaves_for_two, tries_for_ever, looks_twice, enters_in_one, enters_by_a_guess, enters_by_chance, nobody_leaves, enters_or_not, opens_taken, seats_one_on_none, counts_free, looks_on, keeps_all, enters_anew};
+ghost use Rattle.spin_tests.specs.WrongSeats.{wrong, seats_one_too_many, leaves_for_two, tries_for_ever, looks_twice, enters_in_one, enters_by_a_guess, enters_by_chance, nobody_leaves, enters_or_not, opens_taken, seats_one_on_none, counts_free, looks_on, keeps_all, enters_anew, counts_without_a_limit, tries_and_waits, sits_in_sections};
 
 /// A lock of one seat on which two parties sit. The second one's plain step is not open.
 pub fn nobody_sits_beyond_the_seats()
@@ -88,4 +89,13 @@ pub fn a_kind_of_lock_has_four_steps()
 /// Seats whose promise of `leave` lets no party begin this call. `IsSeatsMachine` says what each call promises.
 pub fn a_lock_is_of_its_kind()
     ensures { IsSeatsMachine 2 (wrong keeps_all) → ⊥ }
+{}
+
+/// Seats whose promises leave too much open: a `count` without a limit, a try that waits, a `leave` that no party may
+/// begin, and steps that may be sections.
+pub fn promises_leave_little_open()
+    ensures limited { Promises (wrong counts_without_a_limit).lock_kind (wrong counts_without_a_limit).asks → ⊥ }
+    ensures tries { Promises (wrong tries_and_waits).lock_kind (wrong tries_and_waits).asks → ⊥ }
+    ensures begins { Promises (wrong keeps_all).lock_kind (wrong keeps_all).asks → ⊥ }
+    ensures sections { Promises (wrong sits_in_sections).lock_kind (wrong sits_in_sections).asks → ⊥ }
 {}

@@ -46,6 +46,7 @@ pub enum Call {
     Upgrade,
     Readers,
     Writers,
+    IsLocked,
     Downgrade,
     DowngradeToUpgradable,
     Release,
@@ -147,6 +148,7 @@ impl Object for Rw {
             b"write" => Call::write(0, true, Waits),
             b"reader_count" => Some(Call::Readers),
             b"writer_count" => Some(Call::Writers),
+            b"is_locked" => Some(Call::IsLocked),
             b"try_upgrade" => Call::write(UPGRADABLE, false, Fails),
             b"try_upgrade_weak" => Call::write(UPGRADABLE, true, Fails),
             b"upgrade" => Some(Call::Upgrade),
@@ -159,9 +161,11 @@ impl Object for Rw {
 
     fn begins(call: Call, held: Option<Hold>) -> bool {
         match call {
-            Call::Read { .. } | Call::Write { from: 0, .. } | Call::Readers | Call::Writers => {
-                held.is_none()
-            }
+            Call::Read { .. }
+            | Call::Write { from: 0, .. }
+            | Call::Readers
+            | Call::Writers
+            | Call::IsLocked => held.is_none(),
             Call::Write { .. } | Call::Upgrade => matches!(held, Some(Hold::Upgradable)),
             Call::Downgrade => matches!(held, Some(Hold::Upgradable | Hold::Write)),
             Call::DowngradeToUpgradable => matches!(held, Some(Hold::Write)),
@@ -191,6 +195,7 @@ impl Object for Rw {
             }
             Call::Readers => Next::Answers(Answer::Count(self.readers())),
             Call::Writers => Next::Answers(Answer::Count(self.word % UPGRADABLE)),
+            Call::IsLocked => Next::Answers(Answer::Is(self.word != 0)),
             Call::Downgrade => self.turn(held, Some(Hold::Read)),
             Call::DowngradeToUpgradable => self.turn(held, Some(Hold::Upgradable)),
             Call::Release => self.turn(held, None),

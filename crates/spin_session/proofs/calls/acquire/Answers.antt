@@ -16,11 +16,11 @@ returns-in-Answers g c =
 pub guarded-requires-in-Continue-clause-writes : goal.guarded-requires-in-Continue-clause-writes
 guarded-requires-in-Continue-clause-writes g c =
     let a = c.args in let f = c.begin-next in let w = c.wait in let t = g.P.Runs.tables in let s = g.P.Runs.meaning in let from = spot_of a.session in
-    let (answer, after, end) = w.ensures.ended from (under t s a.call a.holds from (spot_of f.result.3) f.result.0 f.ensures.comes _ c.in-Continue.is) in
-    (acquired t s a.call a.holds from (spot_of w.result) w.ensures.knows answer after end c.requires.acquires).0
+    let (answer, after, end, same) = w.ensures.ended from (under t s a.call a.holds from (spot_of f.result.3) f.result.0 f.ensures.comes _ c.in-Continue.is) in
+    (acquired t s a.call a.holds from (spot_of w.result.0) w.ensures.knows answer after end c.requires.acquires).0
 
 pub returns-in-Continue : goal.returns-in-Continue
 returns-in-Continue g c =
     let a = c.args in let f = c.begin-next in let w = c.wait in let t = g.P.Runs.tables in let s = g.P.Runs.meaning in let from = spot_of a.session in
-    let (answer, after, end) = w.ensures.ended from (under t s a.call a.holds from (spot_of f.result.3) f.result.0 f.ensures.comes _ c.in-Continue.is) in
-    c.guarded-in-Continue.ensures.grants a.call from (acquired t s a.call a.holds from (spot_of w.result) w.ensures.knows answer after end c.requires.acquires).1
+    let (answer, after, end, same) = w.ensures.ended from (under t s a.call a.holds from (spot_of f.result.3) f.result.0 f.ensures.comes _ c.in-Continue.is) in
+    c.guarded-in-Continue.ensures.grants a.call from (acquired t s a.call a.holds from (spot_of w.result.0) w.ensures.knows answer after end c.requires.acquires).1

@@ -1,4 +1,4 @@
-use Rattle.std.proofs.Common.{Some, ap, ◌∙◌}
+use Rattle.std.proofs.Common.{Some, ap, ◌∙◌, sym}
 use Rattle.spin_session.specs.Meaning.{seat_after}
 use Rattle.spin_session.specs.Turns.{spot_of}
 use Rattle.spin_session.proofs.Course.{under, ended, sees_then}
@@ -7,7 +7,7 @@ use Rattle.spin_session.proofs.calls.wait.Goals as goal
 pub returns-in-Answers-clause-ended : goal.returns-in-Answers-clause-ended
 returns-in-Answers-clause-ended g c p on =
     let a = c.args in let x = c.step-next in
-    (_, _, ended g.P.Runs.tables g.P.Runs.meaning a.call a.holds p (spot_of x.result.2) x.result.0 (x.ensures.comes p (c.loop.invariant.4 p on)) _ _ c.in-Answers.is)
+    (_, _, ended g.P.Runs.tables g.P.Runs.meaning a.call a.holds p (spot_of x.result.2) x.result.0 (x.ensures.comes p (c.loop.invariant.4 p on)) _ _ c.in-Answers.is, sym c.is_granted.ensures)
 
 pub returns-in-Answers-clause-sees : goal.returns-in-Answers-clause-sees
 returns-in-Answers-clause-sees g c v on =

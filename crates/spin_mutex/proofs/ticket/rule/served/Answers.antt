@@ -12,7 +12,7 @@ pub operate-number-requires-clause-knows : goal.operate-number-requires-clause-k
 operate-number-requires-clause-knows g c = rw c.into_permit.ensures.key c.requires
 
 pub operate-number-requires-clause-keeps : goal.operate-number-requires-clause-keeps
-operate-number-requires-clause-keeps g c = let p = c.into_permit.result in (λ a b. refl, c.laws.ensures.peeks p.key p.view p.value)
+operate-number-requires-clause-keeps g c = let p = c.into_permit.result in (λ a b. refl, c.laws.ensures.peeks (λ a b. refl) p.key p.view p.value)
 
 pub returns-clause-since : goal.returns-clause-since
 returns-clause-since g c named knew =

@@ -22,10 +22,10 @@ returns-in-Answers g c =
 pub written-requires-in-Continue : goal.written-requires-in-Continue
 written-requires-in-Continue g c =
     let f = c.begin_ahead-next in let w = c.wait in let p = spot_of c.args.session in
-    (settled_in_time rw_tables rw_meaning Write None p (spot_of f.result.3) f.result.0 f.ensures.comes Granted (Some hold.Write) (writes p.0) (spot_of w.result) _ c.in-Continue.is w.ensures.knows w.ensures.ended).0
+    (settled_in_time rw_tables rw_meaning Write None p (spot_of f.result.3) f.result.0 f.ensures.comes Granted (Some hold.Write) (writes p.0) (spot_of w.result.0) _ c.in-Continue.is w.ensures.knows w.ensures.ended).0
 
 pub returns-in-Continue : goal.returns-in-Continue
 returns-in-Continue g c =
     let f = c.begin_ahead-next in let w = c.wait in let p = spot_of c.args.session in
     c.written-in-Continue.ensures.grants w.ensures.last Write p
-    (settled_in_time rw_tables rw_meaning Write None p (spot_of f.result.3) f.result.0 f.ensures.comes Granted (Some hold.Write) (writes p.0) (spot_of w.result) _ c.in-Continue.is w.ensures.knows w.ensures.ended).1
+    (settled_in_time rw_tables rw_meaning Write None p (spot_of f.result.3) f.result.0 f.ensures.comes Granted (Some hold.Write) (writes p.0) (spot_of w.result.0) _ c.in-Continue.is w.ensures.knows w.ensures.ended).1

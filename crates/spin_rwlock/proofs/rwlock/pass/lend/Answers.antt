@@ -23,12 +23,12 @@ pub lent-requires-in-Continue : goal.lent-requires-in-Continue
 lent-requires-in-Continue g c =
     let h = g.K.Kind.hold in let f = rw (c.call_of-call.ensures, c.hold.ensures) at c.begin_ahead-next.ensures in let x = c.begin_ahead-next.result in
     let w = rw (c.call_of-call.ensures, c.hold.ensures) at c.wait.ensures in let p = spot_of c.args.session in
-    let all = settled_in_time rw_tables rw_meaning (call_of h true) None p (spot_of x.3) x.0 f.comes Granted (Some h) (reads p.0 h g.met.K.Kind.comes) (spot_of c.wait.result) _ c.in-Continue.is w.knows w.ended in
+    let all = settled_in_time rw_tables rw_meaning (call_of h true) None p (spot_of x.3) x.0 f.comes Granted (Some h) (reads p.0 h g.met.K.Kind.comes) (spot_of c.wait.result.0) _ c.in-Continue.is w.knows w.ended in
     (all.0, (w.sees c.args.session.permit.value f.sees (λ off. lent_uses h g.met.K.Kind.comes (ap (use_at rw_meaning) (sym all.0.2) ∙ off))).0)
 
 pub returns-in-Continue : goal.returns-in-Continue
 returns-in-Continue g c =
     let h = g.K.Kind.hold in let f = rw (c.call_of-call.ensures, c.hold.ensures) at c.begin_ahead-next.ensures in let x = c.begin_ahead-next.result in
     let w = rw (c.call_of-call.ensures, c.hold.ensures) at c.wait.ensures in let p = spot_of c.args.session in
-    let all = settled_in_time rw_tables rw_meaning (call_of h true) None p (spot_of x.3) x.0 f.comes Granted (Some h) (reads p.0 h g.met.K.Kind.comes) (spot_of c.wait.result) _ c.in-Continue.is w.knows w.ended in
+    let all = settled_in_time rw_tables rw_meaning (call_of h true) None p (spot_of x.3) x.0 f.comes Granted (Some h) (reads p.0 h g.met.K.Kind.comes) (spot_of c.wait.result.0) _ c.in-Continue.is w.knows w.ended in
     c.lent-in-Continue.ensures.lends w.last (call_of h true) Granted p all.1

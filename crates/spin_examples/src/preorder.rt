@@ -1,5 +1,5 @@
 //! An order of a caller's own for the values of a `Growing`.
-use spin_history::growing::Order;
+use spin_history::growing::Preorder;
 
 /// A version of a program, and its size.
 #[derive(Clone, Copy)]
@@ -11,7 +11,7 @@ pub struct Build {
 /// The order in which a build is followed by one of the same version or a later one.
 pub struct ByVersion;
 
-impl Order<Build> for ByVersion {
+impl Preorder<Build> for ByVersion {
     ghost use Rattle.std.specs.Prelude.{◌≤◌};
     ghost use Rattle.std.proofs.Common.{le_refl, le_trans};
     ghost use Rattle.std.proofs.Math.Bridge.{le_prop};

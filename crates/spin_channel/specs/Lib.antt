@@ -1,0 +1,4 @@
+pub mod Calls
+pub mod Errors
+pub mod Kept
+pub mod Queues

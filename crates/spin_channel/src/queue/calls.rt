@@ -1,0 +1,170 @@
+//! The calls of a channel's queue.
+ghost use Rattle.std.specs.Prelude.{◌≡◌, [], true, false, Some, IfOk, IfErr, OnOk, OnErr};
+ghost use Rattle.spin_history.specs.Entries.{WritesOne};
+ghost use Rattle.spin_history.specs.Known.{known_to};
+ghost use Rattle.spin_channel.specs.Calls.{EndsTry};
+ghost use Rattle.spin_channel.specs.Errors.{try_send_message};
+ghost use Rattle.spin_channel.specs.Kept.{all_sent, all_taken, Takes};
+ghost use Rattle.spin_channel.specs.Queues.{is_full, may_send, may_take, Refuses, Lacks};
+
+use super::{Counts, Queue};
+use crate::err::{TryRecvError, TrySendError};
+use crate::kept::{Kept, Logs, Seen};
+use spin_history::history::{History, Snapshot};
+use std::collections::VecDeque;
+
+impl Counts {
+    /// Returns `true` if there are as many messages as the capacity.
+    pub fn is_full(&self) -> bool {
+        match self.capacity {
+            Some(most) => self.messages >= most,
+            None => false,
+        }
+    }
+}
+
+impl<T, S: Kept, R: History> Queue<T, S, R> {
+    // A queue with one sender and one receiver.
+    pub(crate) fn new(
+        waiting: VecDeque<T>,
+        capacity: Option<usize>,
+        logs: Option<Logs<T, S, R>>,
+    ) -> Self
+        requires empty { waiting.items ≡ [] }
+        requires fifo { S.kept ≡ true → all_sent logs false ≡ Some (all_taken logs) }
+    {
+        Queue {
+            waiting,
+            capacity,
+            senders: 1,
+            receivers: 1,
+            closed: false,
+            logs,
+        }
+    }
+
+    pub(crate) fn counts(&self) -> Counts {
+        Counts {
+            messages: self.waiting.len(),
+            capacity: self.capacity,
+            senders: self.senders,
+            receivers: self.receivers,
+        }
+    }
+
+    fn is_full(&self) -> bool
+        ensures { result ≡ is_full self.now }
+    {
+        match self.capacity {
+            Some(most) => self.waiting.len() >= most,
+            None => false,
+        }
+    }
+
+    // Whether a sender need not wait.
+    pub(crate) fn may_send(&self) -> bool
+        ensures { result ≡ may_send self.now }
+    {
+        self.receivers == 0 || !self.is_full()
+    }
+
+    // Whether a receiver need not wait.
+    pub(crate) fn may_take(&self) -> bool
+        ensures { result ≡ may_take self.now }
+    {
+        self.closed || !self.waiting.is_empty()
+    }
+
+    // Puts a message at the end of the queue, if there is a receiver, room, and memory.
+    pub(crate) fn send(
+        &mut self,
+        message: T,
+        seen: &mut Snapshot<T, S>,
+    ) -> Result<(), TrySendError<T>>
+        ensures sent { OnOk result (S.kept ≡ true → WritesOne (known_to seen.old) message (known_to seen.new)) }
+        ensures returned { IfErr result (λ e. try_send_message e ≡ message) }
+        ensures unchanged { OnErr result (seen.new ≡ seen.old) }
+        ensures refuses { IfErr result (Refuses self.old) }
+    {
+        if self.receivers == 0 || self.closed {
+            return Err(TrySendError::Disconnected(message));
+        }
+        if self.is_full() {
+            return Err(TrySendError::Full(message));
+        }
+        let Queue { waiting, logs, .. } = self;
+        if waiting.reserve(1).is_err() {
+            return Err(TrySendError::OutOfMemory(message));
+        }
+        if let Some(logs) = logs {
+            if let Some(sent) = &mut logs.sent {
+                sent.append_and_observe(&message, seen);
+            }
+        }
+        waiting.push_back_reserved(message);
+        Ok(())
+    }
+
+    // Takes the message at the front of the queue.
+    pub(crate) fn take(&mut self, seen: &mut Seen<T, S, R>) -> Result<T, TryRecvError>
+        ensures taken { IfOk result (λ message. S.kept ≡ true → Takes seen.old message seen.new) }
+        ensures ended { IfErr result (λ e. S.kept ≡ true → EndsTry e seen.old seen.new) }
+        ensures lacks { IfErr result (Lacks self.old) }
+    {
+        let Queue {
+            waiting,
+            closed,
+            logs,
+            ..
+        } = self;
+        match waiting.pop_front() {
+            Some(message) => {
+                if let Some(logs) = logs {
+                    logs.taken.append_and_observe(&message, &mut seen.taken);
+                    logs.show_sent(*closed, seen);
+                }
+                Ok(message)
+            }
+            None if !*closed => Err(TryRecvError::Empty),
+            None => {
+                if let Some(logs) = logs {
+                    logs.taken.observe(&mut seen.taken);
+                    logs.show_sent(true, seen);
+                }
+                Err(TryRecvError::Disconnected)
+            }
+        }
+    }
+
+    // A closed channel has no sender that could be cloned.
+    pub(crate) fn add_sender(&mut self) {
+        if !self.closed {
+            self.senders = self.senders.saturating_add(1);
+        }
+    }
+
+    pub(crate) fn add_receiver(&mut self) {
+        self.receivers = self.receivers.saturating_add(1);
+    }
+
+    pub(crate) fn drop_receiver(&mut self) {
+        self.receivers = self.receivers.saturating_sub(1);
+    }
+
+    // The last sender closes the channel.
+    pub(crate) fn drop_sender(&mut self) {
+        let Queue {
+            senders,
+            closed,
+            logs,
+            ..
+        } = self;
+        *senders = senders.saturating_sub(1);
+        if *senders == 0 && !*closed {
+            if let Some(logs) = logs {
+                logs.close();
+            }
+            *closed = true;
+        }
+    }
+}
