@@ -120,6 +120,7 @@ struct Flagged;
 
 struct Queued;
 
+/// For a thread that overtakes others, one that looks before it registers as starving, and a starving one.
 struct Starving;
 
 /// For a writer, a reader that is kept out, one that lost two exchanges, and one that waits to upgrade.
@@ -151,7 +152,7 @@ macro_rules! strict {
 strict! {
     Flagged: [BACK_OFF_STEP, MAX_BACK_OFF];
     Queued: [1, 16, 24, MAX_HINTS];
-    Starving: [MAX_BACK_OFF];
+    Starving: [1, MAX_BACK_OFF];
     Sharing: [1, BACK_OFF_STEP, 64, MAX_BACK_OFF, 512];
     Made: [1];
 }
