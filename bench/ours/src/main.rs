@@ -25,7 +25,6 @@ fn command<R: Threads + Wait + Clock + Print + AllocGlobal + Sync>(
         Some(threads) => report::measure(rt, name, threads, work),
         None if name == "sizes" => size::print(rt),
         None if name == "smoke" => report::try_all(rt),
-        None if name == "channels" => channels::measure(rt),
         None => Err(report::usage()),
     }
 }

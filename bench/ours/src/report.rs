@@ -3,6 +3,7 @@ use crate::case::{
     Adds, Alone, Case, FirstCalls, Floor, Forces, Gets, LateCalls, OneWriter, PassAdds,
     PassReaders, Readers, Rounds, Starvers, Upgrades, Work, Works, complete,
 };
+use crate::channels;
 use crate::team::Team;
 use spin_barrier::barrier::Barrier;
 use spin_core::relax::{Yield, YieldThenSleep};
@@ -21,6 +22,9 @@ const ROUNDS: usize = 3;
 
 /// How long one round is, in milliseconds.
 const ROUND_MILLIS: u64 = 100;
+
+/// How many messages go through a channel in a round.
+const MESSAGES: u64 = 200_000;
 
 /// A block of memory has room for this many cases, but contains only one. The allocator begins so large a block 16
 /// bytes after the beginning of a page. So no lock crosses a cache line. The Rust driver aligns each case to a cache
@@ -56,6 +60,9 @@ const BESIDE: [&str; 15] = [
     "std_mutex",
 ];
 
+/// The channels.
+const CHANNELS: [&str; 2] = ["channel_bounded", "channel_unbounded"];
+
 /// What to do with a case.
 #[derive(Clone, Copy)]
 enum Task {
@@ -70,7 +77,7 @@ enum Task {
 /// Returns the error for words that are no command.
 pub fn usage() -> io::Error {
     io::Error::other(
-        "usage: spin_bench CASE THREADS [INSIDE BETWEEN] | spin_bench sizes | spin_bench smoke | spin_bench channels",
+        "usage: spin_bench CASE THREADS [INSIDE BETWEEN] | spin_bench sizes | spin_bench smoke",
     )
 }
 
@@ -135,6 +142,31 @@ fn on_case<C: Case + Sync, R: Threads + Wait + Clock + Print + AllocGlobal + Syn
     block.push_reserved(case);
     let seen = on_shared(rt, task, threads, &block[0])?;
     Ok(block.remove(0).added().wrapping_add(seen))
+}
+
+/// Does the task on a channel between two halves of the threads: it sends so many messages in each round, or so many calls
+/// in each thread. Returns how many messages were received.
+fn on_channel<R: Threads + Wait + Clock + Print + AllocGlobal + Sync>(
+    rt: &R,
+    task: Task,
+    threads: usize,
+    is_bounded: bool,
+) -> io::Result<u64> {
+    if threads < 2 {
+        return Err(usage());
+    }
+    match task {
+        Task::Measure(_) => {
+            let (share, mut seen) = (MESSAGES / (threads as u64 / 2), 0u64);
+            for _ in 0..ROUNDS {
+                let (received, nanos) = channels::round(rt, is_bounded, threads, share)?;
+                println!(rt; "{received} {nanos} 0 0")?;
+                seen = seen.wrapping_add(received);
+            }
+            Ok(seen)
+        }
+        Task::Try(calls) => Ok(channels::round(rt, is_bounded, threads, calls)?.0),
+    }
 }
 
 /// Does the task on the case of `ALONE` that has this name.
@@ -208,6 +240,8 @@ fn on_name<R: Threads + Wait + Clock + Print + AllocGlobal + Sync>(
         "once_get" => on_case(rt, task, threads, Gets(complete(rt))),
         "std_mutex" => on_case(rt, task, threads, sync::Mutex::new(0u64)),
         "barrier_rounds" => on_case(rt, task, threads, Rounds::new(threads)),
+        "channel_bounded" => on_channel(rt, task, threads, true),
+        "channel_unbounded" => on_channel(rt, task, threads, false),
         _ => on_alone(rt, task, threads, name),
     }
 }
@@ -282,6 +316,9 @@ pub fn try_all<R: Threads + Wait + Clock + Print + AllocGlobal + Sync>(rt: &R) -
         try_each(rt, 100, threads, &BESIDE)?;
         try_each(rt, 10, threads, &["barrier_rounds"])?;
         report(rt, Task::Try(100), threads, "mutex", work("5", "10"))?;
+    }
+    for threads in [2, 8] {
+        try_each(rt, 100, threads, &CHANNELS)?;
     }
     Ok(())
 }

@@ -1,38 +1,73 @@
-//! Measures the channels of the Rust crate flume, in the way in which `channels.rs` of `bench/ours` measures ours.
+//! Measures the channels of the Rust crate flume, in the way in which `bench/ours` measures ours.
+use std::process::ExitCode;
 use std::thread;
 use std::time::Instant;
 
-use flume::{bounded, unbounded};
+use flume::{bounded, unbounded, Receiver, Sender};
 
 const ROUNDS: usize = 3;
 const MESSAGES: u64 = 200_000;
 const CAPACITY: usize = 64;
 
-// A round between so many pairs of threads, of which a line tells how many messages there were, and how many nanoseconds
-// they took.
-fn round(name: &str, capacity: Option<usize>, pairs: u64) {
-    let (sender, receiver) = capacity.map_or_else(unbounded, bounded);
-    let share = MESSAGES / pairs;
+// Half of the threads send as many messages each, and half receive as many. Returns how many were received, and how many
+// nanoseconds that took.
+fn round((sender, receiver): (Sender<u64>, Receiver<u64>), threads: u64) -> (u64, u128) {
+    let share = MESSAGES / (threads / 2);
     let start = Instant::now();
-    let received: u64 = thread::scope(|scope| {
-        let workers: Vec<_> = (0..pairs)
-            .map(|_| {
-                scope.spawn(|| (0..share).for_each(|_| sender.send(1u64).expect("a receiver")));
-                scope.spawn(|| (0..share).map(|_| receiver.recv().expect("a sender")).sum::<u64>())
+    let received = thread::scope(|scope| {
+        let workers: Vec<_> = (0..threads)
+            .map(|worker| {
+                let (sender, receiver) = (&sender, &receiver);
+                scope.spawn(move || {
+                    let mut received = 0;
+                    for _ in 0..share {
+                        if worker % 2 == 0 {
+                            let _ = sender.send(1);
+                        } else {
+                            received += receiver.recv().unwrap_or(0);
+                        }
+                    }
+                    received
+                })
             })
             .collect();
-        workers.into_iter().map(|worker| worker.join().expect("no call panics")).sum()
+        workers
+            .into_iter()
+            .map(|worker| worker.join().expect("no call panics"))
+            .sum()
     });
-    println!("{name}.{} {received} {}", 2 * pairs, start.elapsed().as_nanos());
+    (received, start.elapsed().as_nanos())
 }
 
-fn main() {
-    for pairs in [1, 4] {
-        for _ in 0..ROUNDS {
-            round("channel_bounded", Some(CAPACITY), pairs);
-        }
-        for _ in 0..ROUNDS {
-            round("channel_unbounded", None, pairs);
-        }
+fn measure(name: &str, threads: u64) -> Option<()> {
+    let make = match name {
+        "channel_bounded" => || bounded(CAPACITY),
+        "channel_unbounded" => unbounded,
+        _ => return None,
+    };
+    let mut sum = 0;
+    for _ in 0..ROUNDS {
+        let (received, nanos) = round(make(), threads);
+        println!("{received} {nanos} 0 0");
+        sum += received;
     }
+    println!("{name}.{threads} {sum}");
+    Some(())
+}
+
+fn main() -> ExitCode {
+    let words: Vec<String> = std::env::args().skip(1).collect();
+    let measured = match &words[..] {
+        [name, threads] => threads
+            .parse()
+            .ok()
+            .filter(|it| (2..=128).contains(it))
+            .and_then(|it| measure(name, it)),
+        _ => None,
+    };
+    if measured.is_none() {
+        eprintln!("usage: channel_bounded THREADS | channel_unbounded THREADS");
+        return ExitCode::from(2);
+    }
+    ExitCode::SUCCESS
 }
