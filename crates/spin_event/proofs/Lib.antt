@@ -1,0 +1,6 @@
+pub mod Places
+pub mod Kept
+pub mod Told
+pub mod First
+pub mod Refuted
+pub mod Returning

@@ -1,0 +1,3 @@
+pub mod EventCalls
+pub mod Sleeping
+pub mod Wrong
