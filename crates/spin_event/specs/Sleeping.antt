@@ -81,7 +81,7 @@ RingsWake n past = let s = state_of n past in (p : ℕ) (c : EventCall) (h : Opt
     × (slice_get s.seats p ≡ Some (Calling c Wake h) → AllAreAwake next ⊎ (next.words.woken ≡ s.words.woken + 1))
 
 -- No `NotifyOne` has begun, and no `NotifyAll` is between its ring and its wake. Then a party that sleeps, and has not
--- heard all rings, ends its sleep by its next step. The call that it is in ends by the step after.
+-- heard all rings, ends its sleep by its next step.
 abbrev pub WakesUp : ℕ → EventSchedule → Type 0
 WakesUp n past = let s = state_of n past in list_any is_for_one past ≡ false → how_many wakes_all s.seats ≡ 0
     → (p : ℕ) (c : EventCall) (g t : ℕ) (h : Option Hold) → slice_get s.seats p ≡ Some (Calling c (Asleep g t) h) → is_heard g s.words.rings ≡ false

@@ -1,7 +1,7 @@
 //! `Event`: a count of rings on which threads sleep until the next one.
 //!
-//! Begin at [`Event`], and there at `listen` and `notify_all`. [`EventPoint`] is its table's; the laws say that no
-//! wake-up is lost, beginning with [`a_sleeper_is_awake_or_somebody_rings`].
+//! Begin at [`Event`], and there at `listen` and `notify_all`. Its table begins with [`EventCall`]; the laws of its
+//! schedules, which say that no wake-up is lost, with [`a_sleeper_is_awake_or_somebody_rings`].
 #![tactic(auto)]
 
 mod calls;
