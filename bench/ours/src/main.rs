@@ -3,12 +3,14 @@
 
 mod case;
 mod channels;
+mod orders;
 mod report;
 mod size;
 mod team;
 mod waits;
 
 use case::Work;
+use spin_order::Order;
 use std::sync::Wait;
 use std::thread::Threads;
 use std::time::Clock;
@@ -24,7 +26,6 @@ fn command<R: Threads + Wait + Clock + Print + AllocGlobal + Sync>(
     match threads {
         Some(threads) => report::measure(rt, name, threads, work),
         None if name == "sizes" => size::print(rt),
-        None if name == "smoke" => report::try_all(rt),
         None => Err(report::usage()),
     }
 }
@@ -38,5 +39,14 @@ fn main(rt: HostRuntime) -> io::Result<()> {
         (Some(inside), Some(between)) => report::work(&inside, &between),
         _ => None,
     };
-    command(&rt, name.as_deref().unwrap_or(""), threads.as_deref(), work)
+    let name = name.as_deref().unwrap_or("");
+    let mut mine = rt;
+    match threads.as_deref() {
+        Some("1") if name == "spin_mutex_order" => orders::measure(&rt, Order::new(&mut mine)),
+        None if name == "smoke" => {
+            report::try_all(&rt)?;
+            orders::try_calls(&rt, Order::new(&mut mine), 100)
+        }
+        threads => command(&rt, name, threads, work),
+    }
 }
