@@ -10,6 +10,7 @@ pub mod after;
 pub mod agreed;
 pub mod any_lock;
 pub mod batch;
+pub mod behind;
 pub mod beside;
 pub mod cache;
 pub mod conditions;
