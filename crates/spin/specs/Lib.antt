@@ -14,6 +14,7 @@ pub use Rattle.spin_once.specs.Lazy
 pub use Rattle.spin_once.specs.OncePasses
 pub use Rattle.spin_once.specs.OnceValues
 pub use Rattle.spin_once.specs.LazyPasses
+pub use Rattle.spin_condvar.specs.Waits
 pub use Rattle.spin_core.specs.Retries
 pub use Rattle.spin_core.specs.Calls
 pub use Rattle.spin_step.specs.Plain

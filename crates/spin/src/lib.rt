@@ -1,14 +1,15 @@
 //! Spinning locks that are proved, under the names of the Rust crate `spin`: each change of a lock's word is a public
 //! pure function of [`step`]. A user of the locks names this crate alone.
 //!
-//! Begin at [`Mutex`], then see [`RwLock`], [`Once`], [`LazyLock`] and [`Barrier`]. The module [`mutex`] has the
-//! mutexes [`SpinMutex`](mutex::SpinMutex), [`TicketMutex`](mutex::TicketMutex) and [`FairMutex`](mutex::FairMutex).
+//! Begin at [`Mutex`], then see [`RwLock`], [`Once`], [`LazyLock`], [`Barrier`] and [`Condvar`]. The module [`mutex`] has
+//! the mutexes [`SpinMutex`](mutex::SpinMutex), [`TicketMutex`](mutex::TicketMutex) and [`FairMutex`](mutex::FairMutex).
 #![tactic(auto)]
 
 pub use mutex::MutexGuard;
 pub use relax::{RelaxStrategy, Spin, Yield, YieldThenSleep};
 pub use rwlock::RwLockReadGuard;
 pub use spin_barrier::barrier;
+pub use spin_condvar::{Condvar, WaitTimeoutResult};
 pub use spin_core::{laws, relax};
 pub use spin_once::{lazylock, once};
 pub use spin_order as order;

@@ -19,6 +19,7 @@ pub mod forever;
 pub mod from_rust;
 pub mod guide;
 pub mod in_order;
+pub mod job_queue;
 pub mod ledger;
 pub mod meeting;
 pub mod paired;
