@@ -67,6 +67,8 @@ module _ {W V C L A B : Type 0} {t : Table W V C L B} {by : Machine W V C L A} {
       pub leads : seen ≡ seen_after m start past
       pub known : IsPrefix old past
       pub before : IsPrefix (past ++ (p, Step) ∷ []) new
+      -- the party makes no further move
+      pub quiet : entries_by p before.0 ≡ []
       pub fine : Invariant facts seen
       pub point : L
       pub there : seat_of seen p ≡ Some (Calling c point h)
@@ -94,10 +96,10 @@ module _ {W V C L A B : Type 0} {t : Table W V C L B} {by : Machine W V C L A} {
     count_mine : (a : A) (o : Outcome A V) (mark : Mark) (span : ℕ → List Mark) → mark.party ≡ p → (o ≡ GoingOn) ⊎ (o ≡ Answered a None) → own_count p (span_after o mark span p) ≡ own_count p (span p) + 1
     count_mine a o mark span mine steps = grind (arith, mine, steps, eq-eqb mark.party p mine)
 
-    stays_by : (c : C) (l : L) (h : Option Hold) (o : Outcome A V) (seat now : Option (Seat C L)) → seat ≡ Some (Calling c l h) → o ≡ GoingOn → InItsCall {V = V} {L = L} o Step seat now → (next : L) × (now ≡ Some (Calling c next h))
+    pub stays_by : (c : C) (l : L) (h : Option Hold) (o : Outcome A V) (seat now : Option (Seat C L)) → seat ≡ Some (Calling c l h) → o ≡ GoingOn → InItsCall {V = V} {L = L} o Step seat now → (next : L) × (now ≡ Some (Calling c next h))
     stays_by c l h o seat now there comes in_call = subst (λ r. InItsCall {V = V} {L = L} r Step (Some (Calling c l h)) now) comes (subst (λ y. InItsCall {V = V} {L = L} o Step y now) there in_call)
 
-    begins_by : (c : C) (o : Outcome A V) (seat now : Option (Seat C L)) → o ≡ Begun → InItsCall {V = V} {L = L} o (Begin c) seat now → (l : L) × (now ≡ Some (Calling c l (held_at seat)))
+    pub begins_by : (c : C) (o : Outcome A V) (seat now : Option (Seat C L)) → o ≡ Begun → InItsCall {V = V} {L = L} o (Begin c) seat now → (l : L) × (now ≡ Some (Calling c l (held_at seat)))
     begins_by c o seat now comes in_call = subst (λ r. InItsCall {V = V} {L = L} r (Begin c) seat now) comes in_call
 
     -- the moves that the party still makes in its call: i steps after which it continues, and one that answers it
@@ -158,6 +160,7 @@ module _ {W V C L A B : Type 0} {t : Table W V C L B} {by : Machine W V C L A} {
             leads = at.0;
             known = at.1;
             before = (es, append_assoc xs ((p, Step) ∷ []) es ∙ ap (λ y. xs ++ y ∷ es) (sym x_is) ∙ at.2);
+            quiet = cc (made');
             fine = at.3;
             point = l;
             there = there;
@@ -229,18 +232,24 @@ module _ {W V C L A B : Type 0} {t : Table W V C L B} {by : Machine W V C L A} {
     -- the party's moves are the beginning of the call and its steps
     pub moves : length (entries_by pass.party more) ≡ suc steps
 
-  pub call_of : {X : Type 0} (c : C) (a : A) (view now : Option (Numbered X)) (old new : Schedule) → Made m view old now new (IsCall c a) → Call c a now old new
-  call_of c a view now old new (p, may, is, own, outs, (more, least, new_is, mine, played, came), (rest, comes, own_is, outs_is, (i, rest_is, comes_are))) =
+  -- also in a world of as many parties as `made` says
+  pub call_in : {X : Type 0} (c : C) (a : A) (view now : Option (Numbered X)) (old new : Schedule) (made : Made m view old now new (IsCall c a)) → (call : Call c a now old new) × (call.pass.parties ≡ made.5.1)
+  call_in c a view now old new (p, may, is, own, outs, (more, least, new_is, mine, played, came), (rest, comes, own_is, outs_is, (i, rest_is, comes_are))) =
       let seen = seen_after m (opening m least) old in
       let own_are : own ≡ Begin c ∷ (replicate i Step ++ Step ∷ []) = own_is ∙ ap (λ l. Begin c ∷ l) rest_is in
       let (h, answered) = starts p (opening m least) old new more old seen (refl, ([], append-nil old), sym new_is, good facts least old) c i a (mine ∙ ap (by_party p) own_are)
-      (ap (λ s. outcomes_by m p s more) (state-seen_after m (opening m least) old) ∙ ap (λ n. outcomes_by m p (after m (at_first m n) old) more) (let e : least ≡ least + 0 = omega arith in e) ∙ came 0 ∙ outs_is ∙ ap (λ l. Begun ∷ l) comes_are) in
-      record {
-        pass = record { party = p; is_number = is; parties = least; played = played };
-        held = h;
-        steps = suc i;
-        answered = answered;
-        more = more;
-        grown = new_is;
-        moves = let l = length-map {B = Entry C V} own (λ move. (p, move)) in let e = ap length mine in let b = ap length own_are in let f = length-append {A = Move C V} (replicate i Step) (Step ∷ []) in let r = length-replicate {A = Move C V} i Step in omega (arith, l, e, b, f, r);
-      }
+      (ap (λ s. outcomes_by m p s more) (state-seen_after m (opening m least) old) ∙ ap (λ n. outcomes_by m p (after m (at_first m n) old) more) (let e : least ≡ least + 0 = omega arith in e) ∙ came 0 ∙ outs_is ∙ ap (λ l. Begun ∷ l) comes_are) in (
+        record {
+          pass = record { party = p; is_number = is; parties = least; played = played };
+          held = h;
+          steps = suc i;
+          answered = answered;
+          more = more;
+          grown = new_is;
+          moves = let l = length-map {B = Entry C V} own (λ move. (p, move)) in let e = ap length mine in let b = ap length own_are in let f = length-append {A = Move C V} (replicate i Step) (Step ∷ []) in let r = length-replicate {A = Move C V} i Step in omega (arith, l, e, b, f, r);
+        },
+        refl,
+      )
+
+  pub call_of : {X : Type 0} (c : C) (a : A) (view now : Option (Numbered X)) (old new : Schedule) → Made m view old now new (IsCall c a) → Call c a now old new
+  call_of c a view now old new made = (call_in c a view now old new made).0

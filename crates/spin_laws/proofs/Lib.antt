@@ -27,3 +27,5 @@ pub mod AnyLocks
 pub mod Waits
 pub mod Blockers
 pub mod Joins
+pub mod Holding
+pub mod Behind

@@ -7,6 +7,8 @@ use Rattle.spin_step.specs.Plain.{Plain}
 use Rattle.spin_step.specs.Calls.{HasMoment, Mark, moment}
 use Rattle.spin_step.specs.Calls as meaning
 use Rattle.spin_step.specs.Asks.{same}
+use Rattle.spin_core.specs.Own.{Numbered}
+use Rattle.spin_core.specs.Passes.{IsCall, Made}
 use Rattle.spin_step.specs.declared.place.Hold.{Hold}
 use Rattle.spin_step.specs.declared.schedule.Move.TheVariants.{Step}
 use Rattle.spin_step.specs.Acts.{Table}
@@ -20,8 +22,8 @@ use Rattle.spin_world_core.proofs.Shapes.{InCall}
 use Rattle.spin_world_core.proofs.Preserved.{in_call}
 use Rattle.spin_world_core.proofs.Every.{kept}
 use Rattle.spin_world_core.proofs.Reached.{good}
-use Rattle.spin_laws.specs.Moments.{Found}
-use Rattle.spin_laws.proofs.Calls.{span_of, IsBetween, IsAnswered, call_of}
+use Rattle.spin_laws.specs.Moments.{AtAMoment, Found}
+use Rattle.spin_laws.proofs.Calls.{span_of, IsBetween, IsAnswered, call_in}
 
 pub same_is : (there said : Bool) → same said there ≡ true → there ≡ said
 same_is there said is = grind (arith, is)
@@ -43,16 +45,22 @@ module _ {W V C L A B : Type 0} {t : Table W V C L B} {by : Machine W V C L A} {
     module _ (test : ℕ → Plain → Bool) (says : (h : Option Hold) → (m.asks c h).answers (m.says a) ≡ meaning.found test) {Q : Plain → Type 0}
         (so : (p : ℕ) (l : L) (h : Option Hold) (seen : Seen W V C L) → InCall k p c l h seen.plain seen.state.words (seen.span p)
         → test p seen.plain ≡ true → Q seen.plain) where
-      pub found : {X : Type 0} → Found m X c a Q
-      found view now old new made =
-          let call = call_of facts c a view now old new made in
+      -- also in a world of as many parties as `made` says
+      pub found_in : {X : Type 0} (view now : Option (Numbered X)) (old new : List (Entry C V)) (made : Made m view old now new (IsCall c a)) → (so : AtAMoment m c now old new Q) × (so.pass.parties ≡ made.5.1)
+      found_in view now old new made =
+          let (call, in_so_many) = call_in facts c a view now old new made in
           let it = call.answered in let p = call.pass.party in let h = call.held in let start = opening m call.pass.parties in
-          let (mark, tested, (past, from, to, before, (l, there))) = pick (λ mark. test p mark.before) (IsBetween facts p start old new c h) (span_of facts p it.seen) it.span (subst (λ what. moment what p (span_of facts p it.seen) ≡ true) (says h) (right p start old new h call.steps it)) in
-          record {
-            pass = call.pass;
-            moment = past;
-            behind = from;
-            before = to;
-            in_call = (l, h, there);
-            so = so p l h (seen_after m start past) (in_call facts p (good facts call.pass.parties past) there) (subst (λ s. test p s ≡ true) before tested);
-          }
+          let (mark, tested, (past, from, to, before, (l, there))) = pick (λ mark. test p mark.before) (IsBetween facts p start old new c h) (span_of facts p it.seen) it.span (subst (λ what. moment what p (span_of facts p it.seen) ≡ true) (says h) (right p start old new h call.steps it)) in (
+            record {
+              pass = call.pass;
+              moment = past;
+              behind = from;
+              before = to;
+              in_call = (l, h, there);
+              so = so p l h (seen_after m start past) (in_call facts p (good facts call.pass.parties past) there) (subst (λ s. test p s ≡ true) before tested);
+            },
+            in_so_many,
+          )
+
+      pub found : {X : Type 0} → Found m X c a Q
+      found view now old new made = (found_in view now old new made).0

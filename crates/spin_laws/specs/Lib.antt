@@ -18,3 +18,4 @@ pub mod KeptOut
 pub mod AnyLocks
 pub mod Waits
 pub mod Joins
+pub mod Beside

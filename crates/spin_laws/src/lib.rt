@@ -12,11 +12,14 @@
 //! [`a_refused_try_found_the_spin_mutex_held`]. A call of a pass keeps the limit of steps that it has in the model: see
 //! [`a_call_of_a_ticket_mutex_keeps_its_limit`]. A `Once` and a `LazyLock` have no law about limits.
 //!
+//! A look of a pass is true while another party holds the lock: see [`a_look_beside_a_guard_of_a_spin_mutex_is_true`].
+//!
 //! No exchange of a thread fails spuriously, as one may in the model. So the laws of progress need no alternative: see
 //! [`some_thread_acquires_a_spin_mutex_in_four_rounds`].
 #![tactic(auto)]
 
 mod answers;
+mod beside;
 mod laws;
 mod limits;
 mod order;
@@ -36,6 +39,12 @@ pub use answers::{
     a_refused_try_upgradeable_read_was_kept_out_at_a_moment,
     a_refused_try_write_was_kept_out_at_a_moment, the_reason_for_a_refusal_was_so_at_a_moment,
     there_was_a_value_as_a_once_gave_it,
+};
+pub use beside::{
+    a_look_beside_a_guard_of_a_fair_mutex_is_true, a_look_beside_a_guard_of_a_rwlock_is_true,
+    a_look_beside_a_guard_of_a_spin_mutex_is_true, a_look_beside_a_guard_of_a_ticket_mutex_is_true,
+    a_pass_of_a_rwlock_that_calls_after_another_is_another_party,
+    a_writer_of_a_rwlock_comes_after_the_readers_before_it,
 };
 pub use laws::{
     between_any_two_steps_of_a_fair_mutex, between_any_two_steps_of_a_once,

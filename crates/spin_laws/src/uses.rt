@@ -23,17 +23,20 @@ ghost use Rattle.spin_mutex.specs.TicketPasses as ticket_passes;
 ghost use Rattle.spin_laws.specs.Moments.{AtAMoment, Was};
 ghost use Rattle.spin_laws.specs.Onces.{foretold_till, has_value};
 
+use crate::a_look_beside_a_guard_of_a_spin_mutex_is_true;
 use crate::answers::{
     a_count_of_a_rwlock_was_so_at_a_moment, a_look_at_a_fair_mutex_was_so_at_a_moment,
     a_look_at_a_once_was_so_at_a_moment, a_look_at_a_rwlock_was_so_at_a_moment,
     a_look_at_a_spin_mutex_was_so_at_a_moment,
     a_refused_try_found_the_ticket_mutex_held_or_used_up,
 };
+use spin_core::relax::RelaxStrategy;
 use spin_fair::fair::Pass as FairPass;
-use spin_flag::spin::Pass as SpinPass;
+use spin_flag::spin::{Pass as SpinPass, SpinMutex, SpinMutexGuard};
 use spin_mutex::ticket::{Pass as TicketPass, TicketMutexGuard};
 use spin_once::once::Pass as OncePass;
 use spin_rwlock::rwlock::Pass as RwPass;
+use std::sync::Wait;
 
 /// Asks once whether a `SpinMutex` is held.
 pub fn look_at_a_spin_mutex<T, R>(pass: SpinPass<'_, T, R>) -> (bool, SpinPass<'_, T, R>)
@@ -92,4 +95,19 @@ pub fn look_at_a_once<T, R>(pass: OncePass<'_, T, R>) -> (bool, OncePass<'_, T, 
 {
     a_look_at_a_once_was_so_at_a_moment();
     pass.is_completed()
+}
+
+/// Asks whether a `SpinMutex` is held, beside a guard of it. It is.
+pub fn look_beside_a_guard<'a, T, R: RelaxStrategy, W: Wait>(
+    rt: &W,
+    lock: &'a SpinMutex<T, R>,
+) -> (bool, SpinPass<'a, T, R>)
+    ensures { result.0 ≡ true }
+{
+    a_look_beside_a_guard_of_a_spin_mutex_is_true::<T>();
+    let guard = lock.lock(rt);
+    let looker = lock.pass().after(&guard);
+    let (held, looked) = looker.is_locked();
+    let later = SpinMutexGuard::after(guard, &looked);
+    (held, SpinMutex::unlock(later))
 }
