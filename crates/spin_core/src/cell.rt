@@ -248,7 +248,7 @@ impl<'a, T, V, P: Rule<T, V>> Permit<'a, T, V, P> {
 
     /// Turns the permit of a party that writes the value into a write permit.
     pub fn into_writer(self) -> WritePermit<'a, T, V, P>
-        requires { use_of (P.ways self.key).1 self.view ≡ writes }
+        requires writes { use_of (P.ways self.key).1 self.view ≡ writes }
         ensures same { (Some result.view ≡ self.entry.view) × (Some result.value ≡ self.entry.value) }
         ensures key { result.key ≡ self.entry.key }
     {
@@ -265,7 +265,7 @@ impl<'a, T, V, P: Rule<T, V>> Permit<'a, T, V, P> {
     /// # Contract
     /// What is returned names the cell and the party.
     pub fn leave(self) -> Left<'a, T, V, P>
-        requires { Rests (P.holds self.key) (P.ways self.key).1 self.view }
+        requires rests { Rests (P.holds self.key) (P.ways self.key).1 self.view }
         ensures { result ≡ (self.entry.key, self.entry.view) }
     {
         Left { permit: self }

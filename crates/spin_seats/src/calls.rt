@@ -1,14 +1,13 @@
 //! The calls of a lock of seats, the points between their steps, and the lock's table. Begin with [`SeatsCall`] and
 //! [`SeatsTable`].
-ghost use Rattle.std.specs.Prelude.{◌≡◌, None, ⊤};
+ghost use Rattle.std.specs.Prelude.{◌≡◌, None};
 ghost use Rattle.spin_seats.specs.Table.{seats_table};
 
 use crate::steps;
 use spin_step::{Answer, Hold, Next, Operation, Steps};
-use std::alloc::AllocError;
 
 /// A call of the lock in the model.
-#[derive(Copy)]
+#[derive(Clone, Copy)]
 pub enum SeatsCall {
     /// Tries to take a seat. It fails only if all seats were taken at some moment of the call.
     TryEnter,
@@ -24,32 +23,12 @@ pub enum SeatsCall {
 }
 
 /// The point of a call: its next step. Only a call that takes a seat has a second point.
-#[derive(Copy)]
+#[derive(Clone, Copy)]
 pub enum SeatsPoint {
     /// The first step of any call, and the look of an `Enter` that has found no free seat.
     First,
     /// The exchange that expects this word, which the call has found.
     Exchange(usize),
-}
-
-impl Clone for SeatsCall {
-    ghost is_clone = { λ x y. y ≡ x };
-
-    ghost is_infallible = { λ _. ⊤ };
-
-    fn clone(&self) -> Result<SeatsCall, AllocError> {
-        Ok(*self)
-    }
-}
-
-impl Clone for SeatsPoint {
-    ghost is_clone = { λ x y. y ≡ x };
-
-    ghost is_infallible = { λ _. ⊤ };
-
-    fn clone(&self) -> Result<SeatsPoint, AllocError> {
-        Ok(*self)
-    }
 }
 
 /// The table of a lock of `seats` seats.

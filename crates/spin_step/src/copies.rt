@@ -1,14 +1,12 @@
-//! `Clone` for each type that is `Copy` where its parameters are. A clone is the same value, and cloning
+//! `Clone` for each type with parameters that is `Copy` where they are. A clone is the same value, and cloning
 //! never fails.
 ghost use Rattle.std.specs.Prelude.{◌≡◌, ⊤};
 
 use crate::answer::Answer;
-use crate::flag_calls::{FlagCall, FlagPoint};
-use crate::once_calls::{OnceCall, OncePoint};
-use crate::place::{Hold, Place, Seat};
+use crate::once_calls::OnceCall;
+use crate::place::Seat;
 use crate::schedule::{Event, Move, Outcome};
 use crate::stepped::{Next, Stepped};
-use crate::ticket_calls::{TicketCall, TicketPoint, TicketWords};
 use std::alloc::AllocError;
 
 impl<V: Copy> Clone for Answer<V> {
@@ -81,92 +79,12 @@ impl<W: Copy, V: Copy, L: Copy, A: Copy> Clone for Stepped<W, V, L, A> {
     }
 }
 
-impl Clone for Hold {
-    ghost is_clone = { λ x y. y ≡ x };
-
-    ghost is_infallible = { λ _. ⊤ };
-
-    fn clone(&self) -> Result<Hold, AllocError> {
-        Ok(*self)
-    }
-}
-
-impl Clone for Place {
-    ghost is_clone = { λ x y. y ≡ x };
-
-    ghost is_infallible = { λ _. ⊤ };
-
-    fn clone(&self) -> Result<Place, AllocError> {
-        Ok(*self)
-    }
-}
-
-impl Clone for FlagCall {
-    ghost is_clone = { λ x y. y ≡ x };
-
-    ghost is_infallible = { λ _. ⊤ };
-
-    fn clone(&self) -> Result<FlagCall, AllocError> {
-        Ok(*self)
-    }
-}
-
-impl Clone for FlagPoint {
-    ghost is_clone = { λ x y. y ≡ x };
-
-    ghost is_infallible = { λ _. ⊤ };
-
-    fn clone(&self) -> Result<FlagPoint, AllocError> {
-        Ok(*self)
-    }
-}
-
-impl Clone for TicketWords {
-    ghost is_clone = { λ x y. y ≡ x };
-
-    ghost is_infallible = { λ _. ⊤ };
-
-    fn clone(&self) -> Result<TicketWords, AllocError> {
-        Ok(*self)
-    }
-}
-
-impl Clone for TicketCall {
-    ghost is_clone = { λ x y. y ≡ x };
-
-    ghost is_infallible = { λ _. ⊤ };
-
-    fn clone(&self) -> Result<TicketCall, AllocError> {
-        Ok(*self)
-    }
-}
-
-impl Clone for TicketPoint {
-    ghost is_clone = { λ x y. y ≡ x };
-
-    ghost is_infallible = { λ _. ⊤ };
-
-    fn clone(&self) -> Result<TicketPoint, AllocError> {
-        Ok(*self)
-    }
-}
-
 impl<V: Copy> Clone for OnceCall<V> {
     ghost is_clone = { λ x y. y ≡ x };
 
     ghost is_infallible = { λ _. ⊤ };
 
     fn clone(&self) -> Result<OnceCall<V>, AllocError> {
-        Ok(*self)
-    }
-}
-
-impl Clone for OncePoint {
-    ghost is_clone = { λ x y. y ≡ x };
-
-    ghost is_infallible = { λ _. ⊤ };
-
-    fn clone(&self) -> Result<OncePoint, AllocError> {
         Ok(*self)
     }
 }

@@ -10,7 +10,7 @@ use crate::stepped::Next;
 use crate::table::{Operation, Steps};
 
 /// A call of a `Flag`. `Flag::new` of `spin_world` promises that each call does what its comment says.
-#[derive(Copy)]
+#[derive(Clone, Copy)]
 pub enum FlagCall {
     /// Acquires the lock, in as many steps as it needs.
     Lock,
@@ -25,7 +25,7 @@ pub enum FlagCall {
 }
 
 /// The point of a call: its next step. Only `Lock` has a second point.
-#[derive(Copy)]
+#[derive(Clone, Copy)]
 pub enum FlagPoint {
     /// The first step of any call, and of each further attempt.
     First,

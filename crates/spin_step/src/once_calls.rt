@@ -35,7 +35,7 @@ pub enum OnceCall<V> {
 }
 
 /// The point of a call: its next step.
-#[derive(Copy)]
+#[derive(Clone, Copy)]
 pub enum OncePoint {
     /// The first look of any call, and each further look of `Wait` and `Poll`.
     Look,

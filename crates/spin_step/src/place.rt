@@ -1,6 +1,6 @@
 //! The place of a party, and what it holds. Begin with [`Place`].
 /// What a party holds.
-#[derive(Copy)]
+#[derive(Clone, Copy)]
 pub enum Hold {
     /// Shared access. The party may read the value.
     Read,
@@ -15,7 +15,7 @@ pub enum Hold {
 }
 
 /// The place of a party, as `World::place` returns it.
-#[derive(Copy)]
+#[derive(Clone, Copy)]
 pub enum Place {
     /// The party holds nothing, and is in no call.
     Idle,

@@ -9,7 +9,7 @@ use crate::table::{Operation, Steps};
 use crate::ticket;
 
 /// The two words of a `Ticket`.
-#[derive(Copy)]
+#[derive(Clone, Copy)]
 pub struct TicketWords {
     /// The number of the next ticket.
     pub next: u64,
@@ -18,7 +18,7 @@ pub struct TicketWords {
 }
 
 /// A call of a `Ticket`. `Ticket::new` of `spin_world` promises that each call does what its comment says.
-#[derive(Copy)]
+#[derive(Clone, Copy)]
 pub enum TicketCall {
     /// Takes a ticket, in as many steps as it needs, and then waits until the ticket is served. If no number
     /// is left, it looks for ever.
@@ -33,7 +33,7 @@ pub enum TicketCall {
 }
 
 /// The point of a call: its next step, with the numbers that the party has found or taken so far.
-#[derive(Copy)]
+#[derive(Clone, Copy)]
 pub enum TicketPoint {
     /// `Lock` loads the next number.
     LoadNext,

@@ -1,16 +1,15 @@
 //! The calls of the fair lock, the points between their steps, and its table. Begin with [`FairCall`] and
 //! [`FairTable`].
-ghost use Rattle.std.specs.Prelude.{◌≡◌, ◌≢◌, None, ⊤};
+ghost use Rattle.std.specs.Prelude.{◌≡◌, ◌≢◌, None};
 ghost use Rattle.spin_step.specs.Acts.{filled, one_number, step_at};
 ghost use Rattle.spin_step_more.specs.FairCalls.{act_of_first, fair_table, rejects};
 
 use crate::fair;
 use crate::fair::LockRejectReason;
 use spin_step::{Answer, Hold, Next, Operation, Steps};
-use std::alloc::AllocError;
 
 /// A call of a `Fair`. `Fair::new` of `spin_world` promises that each call does what its comment says.
-#[derive(Copy)]
+#[derive(Clone, Copy)]
 pub enum FairCall {
     /// Acquires the lock, in as many steps as it takes. After too many looks that find the flag set, the call
     /// registers its party as a starver if the cap allows.
@@ -38,7 +37,7 @@ pub enum FairCall {
 }
 
 /// The point of a call: its next step, with what the party has found so far.
-#[derive(Copy)]
+#[derive(Clone, Copy)]
 pub enum FairPoint {
     /// The only step of a one-step call, or the exchange of `StarverTryLockFair`.
     First,
@@ -57,26 +56,6 @@ pub enum FairPoint {
     Await,
     /// A starver that holds the lock ends its registration.
     Unregister,
-}
-
-impl Clone for FairCall {
-    ghost is_clone = { λ x y. y ≡ x };
-
-    ghost is_infallible = { λ _. ⊤ };
-
-    fn clone(&self) -> Result<FairCall, AllocError> {
-        Ok(*self)
-    }
-}
-
-impl Clone for FairPoint {
-    ghost is_clone = { λ x y. y ≡ x };
-
-    ghost is_infallible = { λ _. ⊤ };
-
-    fn clone(&self) -> Result<FairPoint, AllocError> {
-        Ok(*self)
-    }
 }
 
 /// The table of the fair lock. At most `cap` starvers may be registered at a time. `Lock` tries to register when more

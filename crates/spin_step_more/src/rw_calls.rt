@@ -1,19 +1,18 @@
 //! The calls of the read-write lock, the points between their steps, and its table. Begin with [`RwCall`] and
 //! [`RwTable`].
-ghost use Rattle.std.specs.Prelude.{◌≡◌, ◌==◌, None, is_some, ⊤};
+ghost use Rattle.std.specs.Prelude.{◌≡◌, ◌==◌, None, is_some};
 ghost use Rattle.spin_step.specs.Acts.{either};
 ghost use Rattle.spin_step.specs.declared.place.Hold.TheVariants.{Write};
 ghost use Rattle.spin_step_more.specs.RwCalls.{comes, granted, rw_table};
 
 use crate::rw;
 use spin_step::{Answer, Hold, Next, Operation, Steps};
-use std::alloc::AllocError;
 
 /// A call of an `Rw`. `Rw::new` of `spin_world` promises that each call does what its comment says.
 ///
 /// A try fails only if, at some moment of the call, what it asks is not open to the party. A weak try may also
 /// fail spuriously.
-#[derive(Copy)]
+#[derive(Clone, Copy)]
 pub enum RwCall {
     /// Tries to acquire shared access. It fails if a writer holds the lock, if a reader asks to upgrade, or
     /// at the cap.
@@ -54,7 +53,7 @@ pub enum RwCall {
 
 /// The point of a call: its next step. Only a call that acquires shared access, or that waits to upgrade, has
 /// a second point.
-#[derive(Copy)]
+#[derive(Clone, Copy)]
 pub enum RwPoint {
     /// The first step of any call, and of each further attempt.
     First,
@@ -62,26 +61,6 @@ pub enum RwPoint {
     Exchange(usize),
     /// The exchange by which a reader that has asked becomes the writer.
     Asking,
-}
-
-impl Clone for RwCall {
-    ghost is_clone = { λ x y. y ≡ x };
-
-    ghost is_infallible = { λ _. ⊤ };
-
-    fn clone(&self) -> Result<RwCall, AllocError> {
-        Ok(*self)
-    }
-}
-
-impl Clone for RwPoint {
-    ghost is_clone = { λ x y. y ≡ x };
-
-    ghost is_infallible = { λ _. ⊤ };
-
-    fn clone(&self) -> Result<RwPoint, AllocError> {
-        Ok(*self)
-    }
 }
 
 /// The table of the read-write lock that admits at most `cap` readers.

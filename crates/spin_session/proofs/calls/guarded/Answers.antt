@@ -11,4 +11,4 @@ returns g c =
     record { grants = granted g.P.Runs.tables g.P.Runs.meaning (spot_of it) it.permit.value c.new.result same (ap (λ x. Some x.value) new.0 ∙ own.same.1) c.requires.writes c.requires.last }
 
 pub into_writer-requires : goal.into_writer-requires
-into_writer-requires g c = let p = c.args.session.permit in c.laws.ensures.uses p.key p.view ∙ c.requires.writes.2
+into_writer-requires g c = let p = c.args.session.permit in record { writes = c.laws.ensures.uses p.key p.view ∙ c.requires.writes.2 }
