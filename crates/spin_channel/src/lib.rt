@@ -11,6 +11,7 @@ mod kept;
 mod queue;
 mod receiver;
 mod sender;
+mod shared;
 
 pub use err::{
     RecvError, RecvTimeoutError, SendError, SendTimeoutError, TryRecvError, TrySendError,

@@ -6,9 +6,9 @@ ghost use Rattle.spin_channel.specs.Kept.{Takes, TookAll};
 use crate::err::{RecvError, RecvTimeoutError, TryRecvError};
 use crate::iter::{Drain, IntoIter, Iter, TryIter};
 use crate::kept::{Kept, Seen};
-use crate::queue::{Counts, Lock, Queue, acquire_when_for};
+use crate::queue::{Counts, Side};
+use crate::shared::Shared;
 use spin_history::history::History;
-use spin_wait::Patient;
 use std::alloc::{AllocError, Global};
 use std::collections::VecDeque;
 use std::fmt;
@@ -35,13 +35,13 @@ use std::time::{Clock, Duration, Instant};
 /// assert_eq!(rt; receiver.recv(), Err(RecvError::Disconnected));
 /// ```
 pub struct Receiver<T: Drop, W: Wait + Copy, S: Kept = Brand, R: History = Brand> {
-    lock: Arc<Lock<T, S, R>>,
+    shared: Arc<Shared<T, S, R>>,
     rt: W,
 }
 
 impl<T: Drop, W: Wait + Copy, S: Kept, R: History> Receiver<T, W, S, R> {
-    pub(crate) fn new(lock: Arc<Lock<T, S, R>>, rt: W) -> Self {
-        Receiver { lock, rt }
+    pub(crate) fn new(shared: Arc<Shared<T, S, R>>, rt: W) -> Self {
+        Receiver { shared, rt }
     }
 
     /// Receives a message. Waits while the channel is empty, and fails if it is closed and empty.
@@ -71,10 +71,8 @@ impl<T: Drop, W: Wait + Copy, S: Kept, R: History> Receiver<T, W, S, R> {
         ensures taken { IfOk result (λ message. S.kept ≡ true → Takes seen.old message seen.new) }
         ensures ended { OnErr result (S.kept ≡ true → TookAll seen.old seen.new) }
     {
-        let mut queue = self
-            .lock
-            .lock_when(&self.rt, |queue: &Queue<T, S, R>| queue.may_take());
-        match queue.take(seen) {
+        let queue = self.shared.lock_when(&self.rt, Side::Receives);
+        match self.shared.take(queue, seen) {
             Ok(message) => Ok(message),
             Err(TryRecvError::Empty) => unreachable!(),
             Err(TryRecvError::Disconnected) => Err(RecvError::Disconnected),
@@ -89,8 +87,7 @@ impl<T: Drop, W: Wait + Copy, S: Kept, R: History> Receiver<T, W, S, R> {
         ensures taken { IfOk result (λ message. S.kept ≡ true → Takes seen.old message seen.new) }
         ensures ended { IfErr result (λ e. S.kept ≡ true → EndsTry e seen.old seen.new) }
     {
-        let mut queue = self.lock.lock(&self.rt);
-        queue.take(seen)
+        self.shared.take(self.shared.lock(&self.rt), seen)
     }
 
     /// Returns an iterator that receives each message, and ends when the channel is closed and empty.
@@ -110,7 +107,7 @@ impl<T: Drop, W: Wait + Copy, S: Kept, R: History> Receiver<T, W, S, R> {
     pub fn drain(&self, alloc: Global) -> Result<Drain<T>, AllocError> {
         let mut messages = VecDeque::new(alloc);
         let mut seen = Seen::nothing();
-        let mut queue = self.lock.lock(&self.rt);
+        let mut queue = self.shared.lock(&self.rt);
         let there = queue.counts().messages;
         messages.reserve(there)?;
         for _ in 0..there {
@@ -122,6 +119,8 @@ impl<T: Drop, W: Wait + Copy, S: Kept, R: History> Receiver<T, W, S, R> {
                 Err(_) => break,
             }
         }
+        drop(queue);
+        self.shared.call_senders();
         Ok(Drain::new(messages))
     }
 
@@ -131,7 +130,7 @@ impl<T: Drop, W: Wait + Copy, S: Kept, R: History> Receiver<T, W, S, R> {
     /// There are no more messages than the capacity (`within` of [`Counts`]). Whether and when the call returns is not
     /// promised.
     pub fn counts(&self) -> Counts {
-        self.lock.lock(&self.rt).counts()
+        self.shared.counts(&self.rt)
     }
 
     /// Returns `true` if all senders were dropped.
@@ -205,16 +204,10 @@ impl<T: Drop, W: Wait + Clock + Copy, S: Kept, R: History> Receiver<T, W, S, R> 
         ensures taken { IfOk result (λ message. S.kept ≡ true → Takes seen.old message seen.new) }
         ensures ended { IfErr result (λ e. S.kept ≡ true → EndsWait e seen.old seen.new) }
     {
-        let may = acquire_when_for(
-            &self.rt,
-            &*self.lock,
-            time,
-            |queue: &Queue<T, S, R>| queue.may_take(),
-        );
-        let Some(mut queue) = may else {
+        let Some(queue) = self.shared.lock_when_for(&self.rt, Side::Receives, time) else {
             return Err(RecvTimeoutError::Timeout);
         };
-        match queue.take(seen) {
+        match self.shared.take(queue, seen) {
             Ok(message) => Ok(message),
             Err(TryRecvError::Empty) => unreachable!(),
             Err(TryRecvError::Disconnected) => Err(RecvTimeoutError::Disconnected),
@@ -224,17 +217,20 @@ impl<T: Drop, W: Wait + Clock + Copy, S: Kept, R: History> Receiver<T, W, S, R> 
 
 impl<T: Drop, W: Wait + Copy, S: Kept, R: History> Clone for Receiver<T, W, S, R> {
     fn clone(&self) -> Result<Self, AllocError> {
-        let lock = Arc::try_clone(&self.lock)?;
-        lock.lock(&self.rt).add_receiver();
-        Ok(Receiver { lock, rt: self.rt })
+        let shared = Arc::try_clone(&self.shared)?;
+        shared.lock(&self.rt).add_receiver();
+        Ok(Receiver {
+            shared,
+            rt: self.rt,
+        })
     }
 }
 
 /// Lets each sender fail, if it is the last receiver. The messages in the channel stay until its last end is dropped.
 impl<T: Drop, W: Wait + Copy, S: Kept, R: History> Drop for Receiver<T, W, S, R> {
     fn drop(self) {
-        let Self { lock, rt } = self;
-        lock.lock(&rt).drop_receiver();
+        let Self { shared, rt } = self;
+        shared.drop_receiver(&rt);
     }
 }
 

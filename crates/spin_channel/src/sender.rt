@@ -6,11 +6,10 @@ ghost use Rattle.spin_channel.specs.Errors.{send_message, try_send_message, send
 
 use crate::err::{SendError, SendTimeoutError, TrySendError};
 use crate::kept::{Kept, Logs};
-use crate::queue::{Counts, Lock, Queue, acquire_when_for};
+use crate::queue::{Counts, Queue, Side};
 use crate::receiver::Receiver;
-use spin_flag::spin::SpinMutex;
+use crate::shared::Shared;
 use spin_history::history::{History, Log, Snapshot};
-use spin_wait::Patient;
 use std::alloc::{AllocError, Global};
 use std::collections::VecDeque;
 use std::fmt;
@@ -42,7 +41,7 @@ use std::time::{Clock, Duration, Instant};
 /// assert_eq!(rt; sum, 3);
 /// ```
 pub struct Sender<T: Drop, W: Wait + Copy, S: Kept = Brand, R: History = Brand> {
-    lock: Arc<Lock<T, S, R>>,
+    shared: Arc<Shared<T, S, R>>,
     rt: W,
 }
 
@@ -51,11 +50,11 @@ fn ends<T: Drop, W: Wait + Copy, S: Kept, R: History>(
     rt: W,
     queue: Queue<T, S, R>,
 ) -> Result<(Sender<T, W, S, R>, Receiver<T, W, S, R>), AllocError> {
-    let Ok(lock) = Arc::new(alloc, SpinMutex::new(queue)) else {
+    let Ok(shared) = Arc::new(alloc, Shared::new(queue)) else {
         return Err(AllocError);
     };
-    let other = Arc::try_clone(&lock)?;
-    Ok((Sender { lock, rt }, Receiver::new(other, rt)))
+    let other = Arc::try_clone(&shared)?;
+    Ok((Sender { shared, rt }, Receiver::new(other, rt)))
 }
 
 /// Creates a channel for any number of messages. A send allocates if the queue has to grow.
@@ -175,10 +174,8 @@ impl<T: Drop, W: Wait + Copy, S: Kept, R: History> Sender<T, W, S, R> {
         ensures returned { IfErr result (λ e. send_message e ≡ message) }
         ensures unchanged { OnErr result (seen.new ≡ seen.old) }
     {
-        let mut queue = self
-            .lock
-            .lock_when(&self.rt, |queue: &Queue<T, S, R>| queue.may_send());
-        match queue.send(message, seen) {
+        let queue = self.shared.lock_when(&self.rt, Side::Sends);
+        match self.shared.send(queue, message, seen) {
             Ok(()) => Ok(()),
             Err(TrySendError::Full(_)) => unreachable!(),
             Err(TrySendError::Disconnected(message)) => Err(SendError::Disconnected(message)),
@@ -199,8 +196,7 @@ impl<T: Drop, W: Wait + Copy, S: Kept, R: History> Sender<T, W, S, R> {
         ensures returned { IfErr result (λ e. try_send_message e ≡ message) }
         ensures unchanged { OnErr result (seen.new ≡ seen.old) }
     {
-        let mut queue = self.lock.lock(&self.rt);
-        queue.send(message, seen)
+        self.shared.send(self.shared.lock(&self.rt), message, seen)
     }
 
     /// Counts the messages and the ends, all at one moment.
@@ -209,7 +205,7 @@ impl<T: Drop, W: Wait + Copy, S: Kept, R: History> Sender<T, W, S, R> {
     /// There are no more messages than the capacity (`within` of [`Counts`]). Whether and when the call returns is not
     /// promised.
     pub fn counts(&self) -> Counts {
-        self.lock.lock(&self.rt).counts()
+        self.shared.counts(&self.rt)
     }
 
     /// Returns `true` if all receivers were dropped.
@@ -289,16 +285,10 @@ impl<T: Drop, W: Wait + Clock + Copy, S: Kept, R: History> Sender<T, W, S, R> {
         ensures returned { IfErr result (λ e. send_timeout_message e ≡ message) }
         ensures unchanged { OnErr result (seen.new ≡ seen.old) }
     {
-        let may = acquire_when_for(
-            &self.rt,
-            &*self.lock,
-            time,
-            |queue: &Queue<T, S, R>| queue.may_send(),
-        );
-        let Some(mut queue) = may else {
+        let Some(queue) = self.shared.lock_when_for(&self.rt, Side::Sends, time) else {
             return Err(SendTimeoutError::Timeout(message));
         };
-        match queue.send(message, seen) {
+        match self.shared.send(queue, message, seen) {
             Ok(()) => Ok(()),
             Err(TrySendError::Full(_)) => unreachable!(),
             Err(TrySendError::Disconnected(message)) => {
@@ -311,17 +301,20 @@ impl<T: Drop, W: Wait + Clock + Copy, S: Kept, R: History> Sender<T, W, S, R> {
 
 impl<T: Drop, W: Wait + Copy, S: Kept, R: History> Clone for Sender<T, W, S, R> {
     fn clone(&self) -> Result<Self, AllocError> {
-        let lock = Arc::try_clone(&self.lock)?;
-        lock.lock(&self.rt).add_sender();
-        Ok(Sender { lock, rt: self.rt })
+        let shared = Arc::try_clone(&self.shared)?;
+        shared.lock(&self.rt).add_sender();
+        Ok(Sender {
+            shared,
+            rt: self.rt,
+        })
     }
 }
 
 /// Closes the channel, if it is the last sender.
 impl<T: Drop, W: Wait + Copy, S: Kept, R: History> Drop for Sender<T, W, S, R> {
     fn drop(self) {
-        let Self { lock, rt } = self;
-        lock.lock(&rt).drop_sender();
+        let Self { shared, rt } = self;
+        shared.drop_sender(&rt);
     }
 }
 
