@@ -4,16 +4,15 @@ ghost use Rattle.spin_history.specs.Entries.{WritesOne};
 ghost use Rattle.spin_history.specs.Known.{known_to};
 ghost use Rattle.spin_channel.specs.Errors.{send_message, try_send_message, send_timeout_message};
 
+use crate::end::{End, Sends};
 use crate::err::{SendError, SendTimeoutError, TrySendError};
 use crate::kept::{Kept, Logs};
-use crate::queue::{Counts, Queue, Side};
+use crate::queue::{Queue, Side};
 use crate::receiver::Receiver;
 use crate::shared::Shared;
 use spin_history::history::{History, Log, Snapshot};
 use std::alloc::{AllocError, Global};
 use std::collections::VecDeque;
-use std::fmt;
-use std::fmt::{Debug, Formatter};
 use std::marker::Brand;
 use std::sync::{Arc, Wait};
 use std::time::{Clock, Duration, Instant};
@@ -40,10 +39,7 @@ use std::time::{Clock, Duration, Instant};
 /// let (_, sum) = thread::join(&rt, count, || receiver.iter().sum::<u64>());
 /// assert_eq!(rt; sum, 3);
 /// ```
-pub struct Sender<T: Drop, W: Wait + Copy, S: Kept = Brand, R: History = Brand> {
-    shared: Arc<Shared<T, S, R>>,
-    rt: W,
-}
+pub type Sender<T, W, S = Brand, R = Brand> = End<T, W, Sends, S, R>;
 
 fn ends<T: Drop, W: Wait + Copy, S: Kept, R: History>(
     alloc: Global,
@@ -54,7 +50,7 @@ fn ends<T: Drop, W: Wait + Copy, S: Kept, R: History>(
         return Err(AllocError);
     };
     let other = Arc::try_clone(&shared)?;
-    Ok((Sender { shared, rt }, Receiver::new(other, rt)))
+    Ok((End::new(shared, rt), End::new(other, rt)))
 }
 
 /// Creates a channel for any number of messages. A send allocates if the queue has to grow.
@@ -198,50 +194,6 @@ impl<T: Drop, W: Wait + Copy, S: Kept, R: History> Sender<T, W, S, R> {
     {
         self.shared.send(self.shared.lock(&self.rt), message, seen)
     }
-
-    /// Counts the messages and the ends, all at one moment.
-    ///
-    /// # Contract
-    /// There are no more messages than the capacity (`within` of [`Counts`]). Whether and when the call returns is not
-    /// promised.
-    pub fn counts(&self) -> Counts {
-        self.shared.counts(&self.rt)
-    }
-
-    /// Returns `true` if all receivers were dropped.
-    pub fn is_disconnected(&self) -> bool {
-        self.receiver_count() == 0
-    }
-
-    /// Returns `true` if there is no message in the channel.
-    pub fn is_empty(&self) -> bool {
-        self.len() == 0
-    }
-
-    /// Returns `true` if there are as many messages as the capacity.
-    pub fn is_full(&self) -> bool {
-        self.counts().is_full()
-    }
-
-    /// Returns how many messages are in the channel.
-    pub fn len(&self) -> usize {
-        self.counts().messages
-    }
-
-    /// Returns how many messages may be in the channel, or `None` if any number may.
-    pub fn capacity(&self) -> Option<usize> {
-        self.counts().capacity
-    }
-
-    /// Returns how many senders the channel has.
-    pub fn sender_count(&self) -> u64 {
-        self.counts().senders
-    }
-
-    /// Returns how many receivers the channel has.
-    pub fn receiver_count(&self) -> u64 {
-        self.counts().receivers
-    }
 }
 
 impl<T: Drop, W: Wait + Clock + Copy, S: Kept, R: History> Sender<T, W, S, R> {
@@ -296,30 +248,5 @@ impl<T: Drop, W: Wait + Clock + Copy, S: Kept, R: History> Sender<T, W, S, R> {
             }
             Err(TrySendError::OutOfMemory(message)) => Err(SendTimeoutError::OutOfMemory(message)),
         }
-    }
-}
-
-impl<T: Drop, W: Wait + Copy, S: Kept, R: History> Clone for Sender<T, W, S, R> {
-    fn clone(&self) -> Result<Self, AllocError> {
-        let shared = Arc::try_clone(&self.shared)?;
-        shared.lock(&self.rt).add_sender();
-        Ok(Sender {
-            shared,
-            rt: self.rt,
-        })
-    }
-}
-
-/// Closes the channel, if it is the last sender.
-impl<T: Drop, W: Wait + Copy, S: Kept, R: History> Drop for Sender<T, W, S, R> {
-    fn drop(self) {
-        let Self { shared, rt } = self;
-        shared.drop_sender(&rt);
-    }
-}
-
-impl<T: Drop, W: Wait + Copy, S: Kept, R: History> Debug for Sender<T, W, S, R> {
-    fn fmt<F: fmt::Write>(&self, f: &mut Formatter<F>) -> fmt::Result {
-        f.write_str("Sender")
     }
 }

@@ -10,7 +10,7 @@ ghost use Rattle.spin_channel.specs.Queues.{lets, Refuses, Lacks};
 
 use crate::err::{TryRecvError, TrySendError};
 use crate::kept::{Kept, Seen};
-use crate::queue::{Counts, Queue, Side};
+use crate::queue::{Queue, Side};
 use spin_core::relax::{BACK_OFF_STEP, MAX_BACK_OFF, RelaxStrategy, Spin};
 use spin_event::{Event, Heard};
 use spin_flag::spin::{SpinMutex, SpinMutexGuard};
@@ -171,19 +171,13 @@ impl<T, S: Kept, R: History> Shared<T, S, R> {
         self.room.notify_all();
     }
 
-    pub(crate) fn counts<W: Wait>(&self, rt: &W) -> Counts {
-        self.queue.lock(rt).counts()
-    }
-
-    pub(crate) fn drop_sender<W: Wait>(&self, rt: &W) {
-        if self.queue.lock(rt).drop_sender() {
-            self.more.notify_all();
-        }
-    }
-
-    pub(crate) fn drop_receiver<W: Wait>(&self, rt: &W) {
-        if self.queue.lock(rt).drop_receiver() {
-            self.room.notify_all();
+    // Takes an end of this side away. Calls each thread of the other side that sleeps, if it was the last.
+    pub(crate) fn lose<W: Wait>(&self, rt: &W, side: Side) {
+        if self.queue.lock(rt).lose(side) {
+            match side {
+                Side::Sends => self.more.notify_all(),
+                Side::Receives => self.room.notify_all(),
+            }
         }
     }
 }

@@ -186,25 +186,28 @@ impl<T, S: Kept, R: History> Queue<T, S, R> {
         }
     }
 
-    // A closed channel has no sender that could be cloned.
-    pub(crate) fn add_sender(&mut self) {
-        if !self.closed {
-            self.senders = self.senders.saturating_add(1);
+    // A new end. A closed channel has no sender that could be cloned.
+    pub(crate) fn add(&mut self, side: Side) {
+        match side {
+            Side::Sends if self.closed => {}
+            Side::Sends => self.senders = self.senders.saturating_add(1),
+            Side::Receives => self.receivers = self.receivers.saturating_add(1),
         }
     }
 
-    pub(crate) fn add_receiver(&mut self) {
-        self.receivers = self.receivers.saturating_add(1);
-    }
-
-    // Returns whether no receiver is left.
-    pub(crate) fn drop_receiver(&mut self) -> bool {
-        self.receivers = self.receivers.saturating_sub(1);
-        self.receivers == 0
+    // An end is dropped. Returns whether it was the last of its side.
+    pub(crate) fn lose(&mut self, side: Side) -> bool {
+        match side {
+            Side::Sends => self.lose_sender(),
+            Side::Receives => {
+                self.receivers = self.receivers.saturating_sub(1);
+                self.receivers == 0
+            }
+        }
     }
 
     // The last sender closes the channel. Returns whether it is closed.
-    pub(crate) fn drop_sender(&mut self) -> bool {
+    fn lose_sender(&mut self) -> bool {
         let Queue {
             senders,
             closed,
