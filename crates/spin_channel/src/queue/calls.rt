@@ -5,7 +5,7 @@ ghost use Rattle.spin_history.specs.Known.{known_to};
 ghost use Rattle.spin_channel.specs.Calls.{EndsTry};
 ghost use Rattle.spin_channel.specs.Errors.{try_send_message};
 ghost use Rattle.spin_channel.specs.Kept.{all_sent, all_taken, Takes};
-ghost use Rattle.spin_channel.specs.Queues.{is_full, lets, Refuses, Lacks};
+ghost use Rattle.spin_channel.specs.Queues.{fills, is_full, lets, Refuses, Lacks};
 
 use super::{Counts, Queue, Side, Waiting};
 use crate::err::{TryRecvError, TrySendError};
@@ -15,7 +15,12 @@ use std::collections::VecDeque;
 
 impl Counts {
     /// Returns `true` if there are as many messages as the capacity.
-    pub fn is_full(&self) -> bool {
+    ///
+    /// # Contract
+    /// Whether the messages fill a channel of this capacity (`fills`).
+    pub fn is_full(&self) -> bool
+        ensures { result ≡ fills self.now.capacity self.now.messages }
+    {
         match self.capacity {
             Some(most) => self.messages >= most,
             None => false,
