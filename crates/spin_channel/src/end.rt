@@ -109,7 +109,11 @@ impl<T: Drop, W: Wait + Copy, E: Role, S: Kept, R: History> Clone for End<T, W, 
 /// If it is the last end of its side, all that wait at the other side are called.
 impl<T: Drop, W: Wait + Copy, E: Role, S: Kept, R: History> Drop for End<T, W, E, S, R> {
     fn drop(self) {
-        let Self { shared, rt, .. } = self;
+        let Self {
+            shared,
+            rt,
+            role: _,
+        } = self;
         shared.lose(&rt, E::side());
     }
 }

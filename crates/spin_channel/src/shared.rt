@@ -118,7 +118,10 @@ impl<T, S: Kept, R: History> Shared<T, S, R> {
             if left.is_zero() {
                 return None;
             }
-            self.enter(queue, side).count().park_timeout(rt, left).uncount();
+            self.enter(queue, side)
+                .count()
+                .park_timeout(rt, left)
+                .uncount();
             queue = self.leave(rt, side);
         }
         unreachable!()
