@@ -11,7 +11,7 @@ ghost use Rattle.spin_channel.specs.Queues.{lets, Refuses, Lacks};
 use crate::err::{TryRecvError, TrySendError};
 use crate::kept::{Kept, Seen};
 use crate::queue::{Queue, Side};
-use spin_core::relax::{BACK_OFF_STEP, MAX_BACK_OFF, RelaxStrategy, Spin};
+use spin_core::relax::{BACK_OFF_STEP, RelaxStrategy, Spin};
 use spin_event::{Event, Heard};
 use spin_flag::spin::{SpinMutex, SpinMutexGuard};
 use spin_history::history::{History, Snapshot};
@@ -33,9 +33,6 @@ pub struct Shared<T, S: Kept, R: History> {
 
 type Guard<'a, T, S, R> = SpinMutexGuard<'a, Queue<T, S, R>, Spin>;
 
-// How often a thread looks at the queue before it sleeps.
-const LOOKS: u32 = 5;
-
 impl<T, S: Kept, R: History> Shared<T, S, R> {
     pub(crate) fn new(queue: Queue<T, S, R>) -> Self {
         Shared {
@@ -49,31 +46,28 @@ impl<T, S: Kept, R: History> Shared<T, S, R> {
         self.queue.lock(rt)
     }
 
-    // Acquires the lock, if possible at a moment at which the queue lets this side do what it waits for. It looks so often,
-    // with pauses in between.
-    fn lock_soon<W: Wait>(&self, rt: &W, side: Side, looks: u32) -> Guard<'_, T, S, R> {
-        let mut hints = BACK_OFF_STEP;
-        let mut given = 0;
-        for _ in 1..looks {
-            let queue = self.queue.lock(rt);
-            if queue.lets(side) {
-                return queue;
-            }
-            drop(queue);
-            given = Spin::bounded_pause(rt, hints, given);
-            hints = hints.saturating_mul(BACK_OFF_STEP).min(MAX_BACK_OFF);
+    // Acquires the lock. If the queue does not let this side do what it waits for, it acquires the lock again after a short
+    // pause, in which others have often changed the queue more than once.
+    fn lock_soon<W: Wait>(&self, rt: &W, side: Side) -> Guard<'_, T, S, R> {
+        let queue = self.queue.lock(rt);
+        if queue.lets(side) {
+            return queue;
         }
+        drop(queue);
+        Spin::pause(rt, BACK_OFF_STEP);
         self.queue.lock(rt)
     }
 
-    // Releases the lock of a thread that is about to sleep.
+    // Releases the lock of a thread that is about to sleep. It listens before.
     fn enter(&self, queue: Guard<'_, T, S, R>, side: Side) -> Heard<'_> {
         let mut queue = queue;
         queue.enter(side);
-        match side {
+        let heard = match side {
             Side::Sends => self.room.listen(),
             Side::Receives => self.more.listen(),
-        }
+        };
+        drop(queue);
+        heard
     }
 
     // Acquires the lock for a thread that has slept.
@@ -87,12 +81,12 @@ impl<T, S: Kept, R: History> Shared<T, S, R> {
     pub(crate) fn lock_when<W: Wait>(&self, rt: &W, side: Side) -> Guard<'_, T, S, R>
         ensures { lets (guard_value result) side ≡ true }
     {
-        let mut queue = self.lock_soon(rt, side, LOOKS);
+        let mut queue = self.lock_soon(rt, side);
         for _ in rt.forever() {
             if queue.lets(side) {
                 return queue;
             }
-            self.enter(queue, side).count().park(rt).uncount();
+            self.enter(queue, side).wait(rt);
             queue = self.leave(rt, side);
         }
         unreachable!()
@@ -108,8 +102,7 @@ impl<T, S: Kept, R: History> Shared<T, S, R> {
         ensures { IfSome result (λ guard. lets (guard_value guard) side ≡ true) }
     {
         let start = Instant::now(rt).ok();
-        let looks = if time.is_zero() { 1 } else { LOOKS };
-        let mut queue = self.lock_soon(rt, side, looks);
+        let mut queue = self.lock_soon(rt, side);
         for _ in rt.forever() {
             if queue.lets(side) {
                 return Some(queue);
@@ -118,10 +111,7 @@ impl<T, S: Kept, R: History> Shared<T, S, R> {
             if left.is_zero() {
                 return None;
             }
-            self.enter(queue, side)
-                .count()
-                .park_timeout(rt, left)
-                .uncount();
+            self.enter(queue, side).wait_timeout(rt, left);
             queue = self.leave(rt, side);
         }
         unreachable!()
