@@ -1,4 +1,5 @@
 pub mod Calls
+pub mod Drains
 pub mod Errors
 pub mod Kept
 pub mod Queues

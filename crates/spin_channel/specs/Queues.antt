@@ -7,6 +7,8 @@ use Rattle.spin_channel.specs.declared.err.TryRecvError.{TryRecvError}
 use Rattle.spin_channel.specs.declared.err.TryRecvError.TheVariants as take
 use Rattle.spin_channel.specs.declared.kept.Kept.{Ghosts}
 use Rattle.spin_channel.specs.declared.queue.Queue.{Queue}
+use Rattle.spin_channel.specs.declared.queue.Side.{Side}
+use Rattle.spin_channel.specs.declared.queue.Side.TheVariants as side
 
 -- so many messages fill a channel of this capacity
 abbrev pub fills : Option ℕ → ℕ → Bool
@@ -17,21 +19,18 @@ module _ {T S R : Type 0} {kept : Ghosts S} where
   abbrev pub is_full : Queue T S R kept → Bool
   is_full queue = fills queue.capacity (deque_len queue.waiting)
 
-  -- a sender need not wait
-  abbrev pub may_send : Queue T S R kept → Bool
-  may_send queue = (queue.receivers == 0) || not (is_full queue)
-
-  -- a receiver need not wait
-  abbrev pub may_take : Queue T S R kept → Bool
-  may_take queue = queue.closed || not (deque_len queue.waiting == 0)
+  -- an end of this side need not wait
+  abbrev pub lets : Queue T S R kept → Side → Bool
+  lets queue side.Sends = (queue.receivers == 0) || not (is_full queue)
+  lets queue side.Receives = queue.closed || not (deque_len queue.waiting == 0)
 
   -- why this queue does not let a message in
   abbrev pub Refuses : Queue T S R kept → TrySendError T → Type 0
-  Refuses queue (send.Full _) = may_send queue ≡ false
+  Refuses queue (send.Full _) = lets queue side.Sends ≡ false
   Refuses queue (send.Disconnected _) = ((queue.receivers == 0) || queue.closed) ≡ true
   Refuses queue (send.OutOfMemory _) = ⊤
 
   -- why this queue lets no message out
   abbrev pub Lacks : Queue T S R kept → TryRecvError → Type 0
-  Lacks queue take.Empty = may_take queue ≡ false
+  Lacks queue take.Empty = lets queue side.Receives ≡ false
   Lacks queue take.Disconnected = (queue.closed ≡ true) × (queue.waiting.items ≡ [])

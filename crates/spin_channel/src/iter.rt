@@ -1,6 +1,7 @@
 //! The messages of a receiver, one after another.
+ghost use Rattle.std.specs.Prelude.{◌≡◌};
 ghost use Rattle.std.specs.Iterator.{at_most};
-ghost use Rattle.std.specs.VecDeque.{deque_len};
+ghost use Rattle.spin_channel.specs.Drains.{left_in};
 
 use crate::kept::Kept;
 use crate::receiver::Receiver;
@@ -68,7 +69,12 @@ impl<T: Drop> Drain<T> {
     }
 
     /// Returns how many messages are left.
-    pub fn len(&self) -> usize {
+    ///
+    /// # Contract
+    /// The number of messages in it (`left_in`).
+    pub fn len(&self) -> usize
+        ensures { result ≡ left_in self.now }
+    {
         self.messages.len()
     }
 }
@@ -109,7 +115,7 @@ impl<T: Drop, W: Wait + Copy, S: Kept, R: History> Iterator for IntoIter<T, W, S
 impl<T: Drop> Iterator for Drain<T> {
     type Item = T;
 
-    ghost remaining = { λ drain. at_most (deque_len drain.messages) };
+    ghost remaining = { λ drain. at_most (left_in drain) };
 
     fn next(&mut self) -> Option<T> {
         self.messages.pop_front()

@@ -5,13 +5,16 @@
 //! said of a channel that keeps two logs, as [`unbounded_with`] makes it.
 #![tactic(auto)]
 
+mod end;
 mod err;
 mod iter;
 mod kept;
 mod queue;
 mod receiver;
 mod sender;
+mod shared;
 
+pub use end::{End, Receives, Role, Sends};
 pub use err::{
     RecvError, RecvTimeoutError, SendError, SendTimeoutError, TryRecvError, TrySendError,
 };

@@ -1,20 +1,27 @@
-//! The queue of a channel: its calls are in [`calls`], and how an end waits for it in [`wait`].
+//! The queue of a channel: its calls are in [`calls`].
 ghost use Rattle.std.specs.Prelude.{◌≡◌, ◌≤◌, ◌++◌, true, length, Some};
 ghost use Rattle.std.specs.Option.{ForSome};
 ghost use Rattle.spin_channel.specs.Kept.{all_sent, all_taken};
 
 use crate::kept::{Kept, Logs};
-use spin_core::relax::Spin;
-use spin_flag::spin::SpinMutex;
 use spin_history::history::History;
 use std::collections::VecDeque;
 
 mod calls;
-mod wait;
 
-pub(crate) use self::wait::acquire_when_for;
+/// Which end of a channel waits: a sender for room, or a receiver for a message.
+#[derive(Clone, Copy)]
+pub enum Side {
+    Sends,
+    Receives,
+}
 
-pub(crate) type Lock<T, S, R> = SpinMutex<Queue<T, S, R>, Spin>;
+/// How many threads of one side sleep or are about to, and how many of them were called and have not looked since.
+#[derive(Clone, Copy)]
+pub struct Waiting {
+    threads: u64,
+    called: u64,
+}
 
 /// How many messages and ends a channel has at one moment.
 #[derive(Clone, Copy)]
@@ -33,6 +40,9 @@ pub struct Queue<T, S: Kept, R: History> {
     capacity: Option<usize>,
     senders: u64,
     receivers: u64,
+    // who waits for room, and who for a message
+    sending: Waiting,
+    receiving: Waiting,
     // whether the last sender is dropped
     closed: bool,
     logs: Option<Logs<T, S, R>>,

@@ -3,16 +3,14 @@ ghost use Rattle.std.specs.Prelude.{◌≡◌, true, IfOk, IfErr, OnErr};
 ghost use Rattle.spin_channel.specs.Calls.{EndsTry, EndsWait};
 ghost use Rattle.spin_channel.specs.Kept.{Takes, TookAll};
 
+use crate::end::{End, Receives};
 use crate::err::{RecvError, RecvTimeoutError, TryRecvError};
 use crate::iter::{Drain, IntoIter, Iter, TryIter};
 use crate::kept::{Kept, Seen};
-use crate::queue::{Counts, Lock, Queue, acquire_when_for};
+use crate::queue::Side;
 use spin_history::history::History;
-use spin_wait::Patient;
 use std::alloc::{AllocError, Global};
 use std::collections::VecDeque;
-use std::fmt;
-use std::fmt::{Debug, Formatter};
 use std::marker::Brand;
 use std::sync::{Arc, Wait};
 use std::time::{Clock, Duration, Instant};
@@ -34,16 +32,9 @@ use std::time::{Clock, Duration, Instant};
 /// assert_eq!(rt; other.recv(), Ok(7));
 /// assert_eq!(rt; receiver.recv(), Err(RecvError::Disconnected));
 /// ```
-pub struct Receiver<T: Drop, W: Wait + Copy, S: Kept = Brand, R: History = Brand> {
-    lock: Arc<Lock<T, S, R>>,
-    rt: W,
-}
+pub type Receiver<T, W, S = Brand, R = Brand> = End<T, W, Receives, S, R>;
 
 impl<T: Drop, W: Wait + Copy, S: Kept, R: History> Receiver<T, W, S, R> {
-    pub(crate) fn new(lock: Arc<Lock<T, S, R>>, rt: W) -> Self {
-        Receiver { lock, rt }
-    }
-
     /// Receives a message. Waits while the channel is empty, and fails if it is closed and empty.
     ///
     /// # Contract
@@ -71,10 +62,8 @@ impl<T: Drop, W: Wait + Copy, S: Kept, R: History> Receiver<T, W, S, R> {
         ensures taken { IfOk result (λ message. S.kept ≡ true → Takes seen.old message seen.new) }
         ensures ended { OnErr result (S.kept ≡ true → TookAll seen.old seen.new) }
     {
-        let mut queue = self
-            .lock
-            .lock_when(&self.rt, |queue: &Queue<T, S, R>| queue.may_take());
-        match queue.take(seen) {
+        let queue = self.shared.lock_when(&self.rt, Side::Receives);
+        match self.shared.take(queue, seen) {
             Ok(message) => Ok(message),
             Err(TryRecvError::Empty) => unreachable!(),
             Err(TryRecvError::Disconnected) => Err(RecvError::Disconnected),
@@ -89,8 +78,7 @@ impl<T: Drop, W: Wait + Copy, S: Kept, R: History> Receiver<T, W, S, R> {
         ensures taken { IfOk result (λ message. S.kept ≡ true → Takes seen.old message seen.new) }
         ensures ended { IfErr result (λ e. S.kept ≡ true → EndsTry e seen.old seen.new) }
     {
-        let mut queue = self.lock.lock(&self.rt);
-        queue.take(seen)
+        self.shared.take(self.shared.lock(&self.rt), seen)
     }
 
     /// Returns an iterator that receives each message, and ends when the channel is closed and empty.
@@ -110,7 +98,7 @@ impl<T: Drop, W: Wait + Copy, S: Kept, R: History> Receiver<T, W, S, R> {
     pub fn drain(&self, alloc: Global) -> Result<Drain<T>, AllocError> {
         let mut messages = VecDeque::new(alloc);
         let mut seen = Seen::nothing();
-        let mut queue = self.lock.lock(&self.rt);
+        let mut queue = self.shared.lock(&self.rt);
         let there = queue.counts().messages;
         messages.reserve(there)?;
         for _ in 0..there {
@@ -122,51 +110,9 @@ impl<T: Drop, W: Wait + Copy, S: Kept, R: History> Receiver<T, W, S, R> {
                 Err(_) => break,
             }
         }
+        drop(queue);
+        self.shared.call_senders();
         Ok(Drain::new(messages))
-    }
-
-    /// Counts the messages and the ends, all at one moment.
-    ///
-    /// # Contract
-    /// There are no more messages than the capacity (`within` of [`Counts`]). Whether and when the call returns is not
-    /// promised.
-    pub fn counts(&self) -> Counts {
-        self.lock.lock(&self.rt).counts()
-    }
-
-    /// Returns `true` if all senders were dropped.
-    pub fn is_disconnected(&self) -> bool {
-        self.sender_count() == 0
-    }
-
-    /// Returns `true` if there is no message in the channel.
-    pub fn is_empty(&self) -> bool {
-        self.len() == 0
-    }
-
-    /// Returns `true` if there are as many messages as the capacity.
-    pub fn is_full(&self) -> bool {
-        self.counts().is_full()
-    }
-
-    /// Returns how many messages are in the channel.
-    pub fn len(&self) -> usize {
-        self.counts().messages
-    }
-
-    /// Returns how many messages may be in the channel, or `None` if any number may.
-    pub fn capacity(&self) -> Option<usize> {
-        self.counts().capacity
-    }
-
-    /// Returns how many senders the channel has.
-    pub fn sender_count(&self) -> u64 {
-        self.counts().senders
-    }
-
-    /// Returns how many receivers the channel has.
-    pub fn receiver_count(&self) -> u64 {
-        self.counts().receivers
     }
 }
 
@@ -205,42 +151,14 @@ impl<T: Drop, W: Wait + Clock + Copy, S: Kept, R: History> Receiver<T, W, S, R> 
         ensures taken { IfOk result (λ message. S.kept ≡ true → Takes seen.old message seen.new) }
         ensures ended { IfErr result (λ e. S.kept ≡ true → EndsWait e seen.old seen.new) }
     {
-        let may = acquire_when_for(
-            &self.rt,
-            &*self.lock,
-            time,
-            |queue: &Queue<T, S, R>| queue.may_take(),
-        );
-        let Some(mut queue) = may else {
+        let Some(queue) = self.shared.lock_when_for(&self.rt, Side::Receives, time) else {
             return Err(RecvTimeoutError::Timeout);
         };
-        match queue.take(seen) {
+        match self.shared.take(queue, seen) {
             Ok(message) => Ok(message),
             Err(TryRecvError::Empty) => unreachable!(),
             Err(TryRecvError::Disconnected) => Err(RecvTimeoutError::Disconnected),
         }
-    }
-}
-
-impl<T: Drop, W: Wait + Copy, S: Kept, R: History> Clone for Receiver<T, W, S, R> {
-    fn clone(&self) -> Result<Self, AllocError> {
-        let lock = Arc::try_clone(&self.lock)?;
-        lock.lock(&self.rt).add_receiver();
-        Ok(Receiver { lock, rt: self.rt })
-    }
-}
-
-/// Lets each sender fail, if it is the last receiver. The messages in the channel stay until its last end is dropped.
-impl<T: Drop, W: Wait + Copy, S: Kept, R: History> Drop for Receiver<T, W, S, R> {
-    fn drop(self) {
-        let Self { lock, rt } = self;
-        lock.lock(&rt).drop_receiver();
-    }
-}
-
-impl<T: Drop, W: Wait + Copy, S: Kept, R: History> Debug for Receiver<T, W, S, R> {
-    fn fmt<F: fmt::Write>(&self, f: &mut Formatter<F>) -> fmt::Result {
-        f.write_str("Receiver")
     }
 }
 

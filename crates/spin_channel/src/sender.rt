@@ -4,17 +4,15 @@ ghost use Rattle.spin_history.specs.Entries.{WritesOne};
 ghost use Rattle.spin_history.specs.Known.{known_to};
 ghost use Rattle.spin_channel.specs.Errors.{send_message, try_send_message, send_timeout_message};
 
+use crate::end::{End, Sends};
 use crate::err::{SendError, SendTimeoutError, TrySendError};
 use crate::kept::{Kept, Logs};
-use crate::queue::{Counts, Lock, Queue, acquire_when_for};
+use crate::queue::{Queue, Side};
 use crate::receiver::Receiver;
-use spin_flag::spin::SpinMutex;
+use crate::shared::Shared;
 use spin_history::history::{History, Log, Snapshot};
-use spin_wait::Patient;
 use std::alloc::{AllocError, Global};
 use std::collections::VecDeque;
-use std::fmt;
-use std::fmt::{Debug, Formatter};
 use std::marker::Brand;
 use std::sync::{Arc, Wait};
 use std::time::{Clock, Duration, Instant};
@@ -41,21 +39,18 @@ use std::time::{Clock, Duration, Instant};
 /// let (_, sum) = thread::join(&rt, count, || receiver.iter().sum::<u64>());
 /// assert_eq!(rt; sum, 3);
 /// ```
-pub struct Sender<T: Drop, W: Wait + Copy, S: Kept = Brand, R: History = Brand> {
-    lock: Arc<Lock<T, S, R>>,
-    rt: W,
-}
+pub type Sender<T, W, S = Brand, R = Brand> = End<T, W, Sends, S, R>;
 
 fn ends<T: Drop, W: Wait + Copy, S: Kept, R: History>(
     alloc: Global,
     rt: W,
     queue: Queue<T, S, R>,
 ) -> Result<(Sender<T, W, S, R>, Receiver<T, W, S, R>), AllocError> {
-    let Ok(lock) = Arc::new(alloc, SpinMutex::new(queue)) else {
+    let Ok(shared) = Arc::new(alloc, Shared::new(queue)) else {
         return Err(AllocError);
     };
-    let other = Arc::try_clone(&lock)?;
-    Ok((Sender { lock, rt }, Receiver::new(other, rt)))
+    let other = Arc::try_clone(&shared)?;
+    Ok((End::new(shared, rt), End::new(other, rt)))
 }
 
 /// Creates a channel for any number of messages. A send allocates if the queue has to grow.
@@ -175,10 +170,8 @@ impl<T: Drop, W: Wait + Copy, S: Kept, R: History> Sender<T, W, S, R> {
         ensures returned { IfErr result (λ e. send_message e ≡ message) }
         ensures unchanged { OnErr result (seen.new ≡ seen.old) }
     {
-        let mut queue = self
-            .lock
-            .lock_when(&self.rt, |queue: &Queue<T, S, R>| queue.may_send());
-        match queue.send(message, seen) {
+        let queue = self.shared.lock_when(&self.rt, Side::Sends);
+        match self.shared.send(queue, message, seen) {
             Ok(()) => Ok(()),
             Err(TrySendError::Full(_)) => unreachable!(),
             Err(TrySendError::Disconnected(message)) => Err(SendError::Disconnected(message)),
@@ -199,52 +192,7 @@ impl<T: Drop, W: Wait + Copy, S: Kept, R: History> Sender<T, W, S, R> {
         ensures returned { IfErr result (λ e. try_send_message e ≡ message) }
         ensures unchanged { OnErr result (seen.new ≡ seen.old) }
     {
-        let mut queue = self.lock.lock(&self.rt);
-        queue.send(message, seen)
-    }
-
-    /// Counts the messages and the ends, all at one moment.
-    ///
-    /// # Contract
-    /// There are no more messages than the capacity (`within` of [`Counts`]). Whether and when the call returns is not
-    /// promised.
-    pub fn counts(&self) -> Counts {
-        self.lock.lock(&self.rt).counts()
-    }
-
-    /// Returns `true` if all receivers were dropped.
-    pub fn is_disconnected(&self) -> bool {
-        self.receiver_count() == 0
-    }
-
-    /// Returns `true` if there is no message in the channel.
-    pub fn is_empty(&self) -> bool {
-        self.len() == 0
-    }
-
-    /// Returns `true` if there are as many messages as the capacity.
-    pub fn is_full(&self) -> bool {
-        self.counts().is_full()
-    }
-
-    /// Returns how many messages are in the channel.
-    pub fn len(&self) -> usize {
-        self.counts().messages
-    }
-
-    /// Returns how many messages may be in the channel, or `None` if any number may.
-    pub fn capacity(&self) -> Option<usize> {
-        self.counts().capacity
-    }
-
-    /// Returns how many senders the channel has.
-    pub fn sender_count(&self) -> u64 {
-        self.counts().senders
-    }
-
-    /// Returns how many receivers the channel has.
-    pub fn receiver_count(&self) -> u64 {
-        self.counts().receivers
+        self.shared.send(self.shared.lock(&self.rt), message, seen)
     }
 }
 
@@ -289,16 +237,10 @@ impl<T: Drop, W: Wait + Clock + Copy, S: Kept, R: History> Sender<T, W, S, R> {
         ensures returned { IfErr result (λ e. send_timeout_message e ≡ message) }
         ensures unchanged { OnErr result (seen.new ≡ seen.old) }
     {
-        let may = acquire_when_for(
-            &self.rt,
-            &*self.lock,
-            time,
-            |queue: &Queue<T, S, R>| queue.may_send(),
-        );
-        let Some(mut queue) = may else {
+        let Some(queue) = self.shared.lock_when_for(&self.rt, Side::Sends, time) else {
             return Err(SendTimeoutError::Timeout(message));
         };
-        match queue.send(message, seen) {
+        match self.shared.send(queue, message, seen) {
             Ok(()) => Ok(()),
             Err(TrySendError::Full(_)) => unreachable!(),
             Err(TrySendError::Disconnected(message)) => {
@@ -306,27 +248,5 @@ impl<T: Drop, W: Wait + Clock + Copy, S: Kept, R: History> Sender<T, W, S, R> {
             }
             Err(TrySendError::OutOfMemory(message)) => Err(SendTimeoutError::OutOfMemory(message)),
         }
-    }
-}
-
-impl<T: Drop, W: Wait + Copy, S: Kept, R: History> Clone for Sender<T, W, S, R> {
-    fn clone(&self) -> Result<Self, AllocError> {
-        let lock = Arc::try_clone(&self.lock)?;
-        lock.lock(&self.rt).add_sender();
-        Ok(Sender { lock, rt: self.rt })
-    }
-}
-
-/// Closes the channel, if it is the last sender.
-impl<T: Drop, W: Wait + Copy, S: Kept, R: History> Drop for Sender<T, W, S, R> {
-    fn drop(self) {
-        let Self { lock, rt } = self;
-        lock.lock(&rt).drop_sender();
-    }
-}
-
-impl<T: Drop, W: Wait + Copy, S: Kept, R: History> Debug for Sender<T, W, S, R> {
-    fn fmt<F: fmt::Write>(&self, f: &mut Formatter<F>) -> fmt::Result {
-        f.write_str("Sender")
     }
 }

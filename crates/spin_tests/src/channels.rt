@@ -56,6 +56,18 @@ fn a_hundred_senders_lose_no_message(rt: HostRuntime) {
     equal(&rt, ends.0.len(), 0);
 }
 
+#[test]
+fn a_thousand_senders_lose_no_message(rt: HostRuntime) {
+    let ends = unbounded(rt.alloc(), &rt).expect(&rt, "memory");
+    let gathering = Gathering {
+        ends: &ends,
+        each: 1,
+        all: 1000,
+    };
+    let sums = in_threads(&rt, rt.alloc(), &gathering, 1001);
+    equal(&rt, sums.first().copied(), Some(1000));
+}
+
 /// Each thread passes on what comes to it: from its own channel to the next one. The first thread begins, and receives
 /// from the last channel.
 #[derive(Drop)]

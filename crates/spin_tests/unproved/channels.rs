@@ -5,12 +5,13 @@ use spin_channel::{
     Receiver, RecvError, RecvTimeoutError, SendError, SendTimeoutError, Sender, TryRecvError,
     TrySendError, bounded, unbounded,
 };
+use std::error::Error;
 use std::process::Abort;
 use std::sync::atomic::AtomicU64;
 use std::sync::atomic::Ordering::SeqCst;
 use std::sync::{Arc, Wait};
 use std::thread;
-use std::time::{Clock, Duration, Instant};
+use std::time::{Clock, CpuClock, Duration, Instant};
 
 type Ends<'a, R> = (Sender<u64, &'a R>, Receiver<u64, &'a R>);
 
@@ -585,4 +586,132 @@ fn each_message_is_dropped_once(rt: HostRuntime) {
     equal(&rt, drops.load(SeqCst), 11);
     drop(sender);
     equal(&rt, drops.load(SeqCst), 21);
+}
+
+#[test]
+fn messages_between_threads_are_dropped_once(rt: HostRuntime) {
+    let drops = Arc::new(rt.alloc(), AtomicU64::new(0)).expect(&rt, "memory");
+    let message = || Counted(Arc::try_clone(&drops).expect(&rt, "an owner"));
+    let (sender, receiver) = bounded::<Counted, _>(rt.alloc(), &rt, 50).expect(&rt, "memory");
+    let send = |count: u64| {
+        for _ in 0..count {
+            equal(&rt, sender.send(message()).is_ok(), true);
+        }
+    };
+    let receive = || {
+        for _ in 0..300 {
+            equal(&rt, receiver.recv().is_ok(), true);
+        }
+    };
+    thread::join(&rt, || send(300), receive);
+    equal(&rt, drops.load(SeqCst), 300);
+    send(30);
+    drop((sender, receiver));
+    equal(&rt, drops.load(SeqCst), 330);
+}
+
+/// A message that cannot be printed.
+#[derive(Drop)]
+struct Unprintable;
+
+fn is_error(_error: &impl Error) -> bool {
+    true
+}
+
+#[test]
+fn an_error_needs_no_message_that_prints(rt: HostRuntime) {
+    let (sender, receiver) = bounded(rt.alloc(), &rt, 1).expect(&rt, "memory");
+    drop(receiver);
+    let sent = sender.send(Unprintable);
+    equal(&rt, sent.is_err_and(|error| is_error(&error)), true);
+    let sent = sender.try_send(Unprintable);
+    equal(&rt, sent.is_err_and(|error| is_error(&error)), true);
+    let sent = sender.send_timeout(Unprintable, ms(1));
+    equal(&rt, sent.is_err_and(|error| is_error(&error)), true);
+}
+
+/// Receives one message, and returns whether the thread has slept meanwhile, nearly all the time.
+fn sleeps_until_it_receives<R: Wait + CpuClock>(rt: &R, receiver: &Receiver<u64, &R>) -> bool {
+    let used = || rt.thread_cpu_time().unwrap_or(Duration::MAX);
+    let before = used();
+    receiver.recv().is_ok() && used().saturating_sub(before) < ms(200)
+}
+
+#[test]
+fn four_idle_receivers_sleep(rt: HostRuntime) {
+    let (sender, receiver) = wide(&rt);
+    let sleeps = || sleeps_until_it_receives(&rt, &receiver);
+    let send = || {
+        thread::sleep(&rt, ms(2000));
+        send_all(&sender, 4)
+    };
+    let two = || thread::join(&rt, sleeps, sleeps);
+    let (slept, sent) = thread::join(&rt, || thread::join(&rt, two, two), send);
+    equal(&rt, (slept, sent), (((true, true), (true, true)), 4));
+}
+
+#[test]
+fn an_idle_sender_sleeps(rt: HostRuntime) {
+    let (sender, receiver) = narrow(&rt, 1);
+    let send = || {
+        let before = rt.thread_cpu_time().unwrap_or(Duration::MAX);
+        let sent = [sender.send(1), sender.send(2)];
+        let used = rt.thread_cpu_time().unwrap_or(Duration::MAX).saturating_sub(before);
+        (sent, used < ms(200))
+    };
+    let receive = || {
+        thread::sleep(&rt, ms(2000));
+        [receiver.recv(), receiver.recv()]
+    };
+    let (sent, taken) = thread::join(&rt, send, receive);
+    equal(&rt, sent, ([Ok(()), Ok(())], true));
+    equal(&rt, taken, [Ok(1), Ok(2)]);
+}
+
+/// Threads on both sides that give up again and again take no call from one that sleeps.
+#[test]
+fn who_gives_up_takes_no_call_from_a_sleeper(rt: HostRuntime) {
+    let (sender, receiver) = narrow(&rt, 1);
+    let rounds = 200u64;
+    let send = || {
+        let mut late = 0;
+        for number in 0..rounds {
+            if number % 8 == 0 {
+                thread::sleep(&rt, ms(1));
+            }
+            for _ in 0..1_000_000 {
+                if sender.send_timeout(number, Duration::from_micros(20)).is_ok() {
+                    break;
+                }
+                late += 1;
+            }
+        }
+        late
+    };
+    let waits = || {
+        let mut taken = 0u64;
+        for _ in 0..rounds {
+            taken += receiver.recv().is_ok() as u64;
+        }
+        taken
+    };
+    let gives_up = || {
+        let mut taken = 0u64;
+        for _ in 0..1_000_000 {
+            match receiver.recv_timeout(Duration::from_micros(30)) {
+                Ok(_) => taken += 1,
+                Err(_) => {}
+            }
+            if taken == rounds {
+                break;
+            }
+        }
+        taken
+    };
+    let (taken, _) = thread::join(
+        &rt,
+        || thread::join(&rt, waits, gives_up),
+        || thread::join(&rt, send, send),
+    );
+    equal(&rt, taken, (rounds, rounds));
 }

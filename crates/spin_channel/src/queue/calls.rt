@@ -5,9 +5,9 @@ ghost use Rattle.spin_history.specs.Known.{known_to};
 ghost use Rattle.spin_channel.specs.Calls.{EndsTry};
 ghost use Rattle.spin_channel.specs.Errors.{try_send_message};
 ghost use Rattle.spin_channel.specs.Kept.{all_sent, all_taken, Takes};
-ghost use Rattle.spin_channel.specs.Queues.{is_full, may_send, may_take, Refuses, Lacks};
+ghost use Rattle.spin_channel.specs.Queues.{fills, is_full, lets, Refuses, Lacks};
 
-use super::{Counts, Queue};
+use super::{Counts, Queue, Side, Waiting};
 use crate::err::{TryRecvError, TrySendError};
 use crate::kept::{Kept, Logs, Seen};
 use spin_history::history::{History, Snapshot};
@@ -15,11 +15,44 @@ use std::collections::VecDeque;
 
 impl Counts {
     /// Returns `true` if there are as many messages as the capacity.
-    pub fn is_full(&self) -> bool {
+    ///
+    /// # Contract
+    /// Whether the messages fill a channel of this capacity (`fills`).
+    pub fn is_full(&self) -> bool
+        ensures { result ≡ fills self.now.capacity self.now.messages }
+    {
         match self.capacity {
             Some(most) => self.messages >= most,
             None => false,
         }
+    }
+}
+
+impl Waiting {
+    fn nobody() -> Self {
+        Waiting {
+            threads: 0,
+            called: 0,
+        }
+    }
+
+    fn enter(&mut self) {
+        self.threads = self.threads.saturating_add(1);
+    }
+
+    // Whoever leaves takes a call with it, for whomever it was: it looks now.
+    fn leave(&mut self) {
+        self.threads = self.threads.saturating_sub(1);
+        self.called = self.called.saturating_sub(1);
+    }
+
+    // Returns whether to call one of them. If all were called, one of them looks after this change anyway.
+    fn calls_one(&mut self) -> bool {
+        let calls = self.called < self.threads;
+        if calls {
+            self.called = self.called.saturating_add(1);
+        }
+        calls
     }
 }
 
@@ -38,6 +71,8 @@ impl<T, S: Kept, R: History> Queue<T, S, R> {
             capacity,
             senders: 1,
             receivers: 1,
+            sending: Waiting::nobody(),
+            receiving: Waiting::nobody(),
             closed: false,
             logs,
         }
@@ -61,18 +96,38 @@ impl<T, S: Kept, R: History> Queue<T, S, R> {
         }
     }
 
-    // Whether a sender need not wait.
-    pub(crate) fn may_send(&self) -> bool
-        ensures { result ≡ may_send self.now }
+    // Whether an end of this side need not wait.
+    pub(crate) fn lets(&self, side: Side) -> bool
+        ensures { result ≡ lets self.now side }
     {
-        self.receivers == 0 || !self.is_full()
+        match side {
+            Side::Sends => self.receivers == 0 || !self.is_full(),
+            Side::Receives => self.closed || !self.waiting.is_empty(),
+        }
     }
 
-    // Whether a receiver need not wait.
-    pub(crate) fn may_take(&self) -> bool
-        ensures { result ≡ may_take self.now }
-    {
-        self.closed || !self.waiting.is_empty()
+    // A thread of this side is about to sleep.
+    pub(crate) fn enter(&mut self, side: Side) {
+        match side {
+            Side::Sends => self.sending.enter(),
+            Side::Receives => self.receiving.enter(),
+        }
+    }
+
+    // A thread of this side has slept, and looks now.
+    pub(crate) fn leave(&mut self, side: Side) {
+        match side {
+            Side::Sends => self.sending.leave(),
+            Side::Receives => self.receiving.leave(),
+        }
+    }
+
+    // Returns whether to call a thread of this side, since there is room for one, or a message.
+    pub(crate) fn calls_one(&mut self, side: Side) -> bool {
+        match side {
+            Side::Sends => self.sending.calls_one(),
+            Side::Receives => self.receiving.calls_one(),
+        }
     }
 
     // Puts a message at the end of the queue, if there is a receiver, room, and memory.
@@ -136,23 +191,28 @@ impl<T, S: Kept, R: History> Queue<T, S, R> {
         }
     }
 
-    // A closed channel has no sender that could be cloned.
-    pub(crate) fn add_sender(&mut self) {
-        if !self.closed {
-            self.senders = self.senders.saturating_add(1);
+    // A new end. A closed channel has no sender that could be cloned.
+    pub(crate) fn add(&mut self, side: Side) {
+        match side {
+            Side::Sends if self.closed => {}
+            Side::Sends => self.senders = self.senders.saturating_add(1),
+            Side::Receives => self.receivers = self.receivers.saturating_add(1),
         }
     }
 
-    pub(crate) fn add_receiver(&mut self) {
-        self.receivers = self.receivers.saturating_add(1);
+    // An end is dropped. Returns whether it was the last of its side.
+    pub(crate) fn lose(&mut self, side: Side) -> bool {
+        match side {
+            Side::Sends => self.lose_sender(),
+            Side::Receives => {
+                self.receivers = self.receivers.saturating_sub(1);
+                self.receivers == 0
+            }
+        }
     }
 
-    pub(crate) fn drop_receiver(&mut self) {
-        self.receivers = self.receivers.saturating_sub(1);
-    }
-
-    // The last sender closes the channel.
-    pub(crate) fn drop_sender(&mut self) {
+    // The last sender closes the channel. Returns whether it is closed.
+    fn lose_sender(&mut self) -> bool {
         let Queue {
             senders,
             closed,
@@ -166,5 +226,6 @@ impl<T, S: Kept, R: History> Queue<T, S, R> {
             }
             *closed = true;
         }
+        *closed
     }
 }
