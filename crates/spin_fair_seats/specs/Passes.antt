@@ -7,7 +7,7 @@ use Rattle.spin_step.specs.declared.answer.Answer.{Answer}
 use Rattle.spin_session.specs.Turns as turns
 use Rattle.spin_session.specs.Turns.{SeatSpot}
 pub use Rattle.spin_session.specs.Ending.{Includes, Recalls}
-pub use Rattle.spin_session.specs.Passes.{◌⨾◌, After, history, lock_of, new_in, opening_of, party, Learns}
+pub use Rattle.spin_session.specs.Passes.{◌⨾◌, After, history, lock_of, new_in, opening_of, party, OpensWith, Learns}
 use Rattle.spin_fair_seats.specs.Rule.{Made, IsFairSeats, View, fair_seats_tables}
 use Rattle.spin_fair_seats.specs.declared.calls.FairSeatsCall.{FairSeatsCall}
 use Rattle.spin_fair_seats.specs.declared.calls.FairSeatsPoint.{FairSeatsPoint}

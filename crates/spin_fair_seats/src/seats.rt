@@ -5,7 +5,7 @@ ghost use Rattle.spin_core.specs.Logs.{OneIsPrefix};
 ghost use Rattle.spin_step.specs.declared.answer.Answer.TheVariants.{Granted, Refused, Count as Counted, Done as Left};
 ghost use Rattle.spin_step.specs.declared.place.Hold.TheVariants.{Read};
 ghost use Rattle.spin_session.specs.Turns.{Stands, history, lock_of, spot_of};
-ghost use Rattle.spin_fair_seats.specs.Passes.{Calls, Ends, FairSeatsSpot, Learns, Recalls, new_in, opening};
+ghost use Rattle.spin_fair_seats.specs.Passes.{Calls, Ends, FairSeatsSpot, Learns, OpensWith, Recalls, new_in, opening};
 ghost use Rattle.spin_fair_seats.specs.FairSeats.{seats};
 ghost use Rattle.spin_fair_seats.specs.declared.calls.FairSeatsCall.TheVariants.{TryEnter, Enter, Count, Leave};
 
@@ -95,8 +95,13 @@ impl<'a, const N: usize, R> Model for Pass<'a, N, R> {
 }
 
 impl<const N: usize, R> FairSeats<N, R> {
-    /// Creates a lock whose seats are all free. The call returns.
-    pub const fn new() -> Self {
+    /// Creates a lock whose seats are all free.
+    ///
+    /// # Contract
+    /// The lock's words open with 0 (`opens`). The call returns.
+    pub const fn new() -> Self
+        ensures opens { OpensWith tt (opening result) }
+    {
         let trace = Trace::new(0);
         let opening = Opening::of(&trace, &());
         let cell = Cell::new((), 0, trace, &opening);
@@ -290,6 +295,8 @@ impl<'a, const N: usize, R> FairSeatGuard<'a, N, R> {
 
 /// Creates a lock whose seats are all free.
 impl<const N: usize, R> Default for FairSeats<N, R> {
+    ghost is_default = { λ lock. OpensWith tt (opening lock) };
+
     fn default() -> Self {
         Self::new()
     }

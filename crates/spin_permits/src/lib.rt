@@ -27,81 +27,14 @@
 ghost use Rattle.std.specs.Prelude.{◌≡◌, ◌+◌, ◌<◌, ◌≤◌, MatchBool};
 ghost use Rattle.spin_history.specs.Shares.{parts_of, amount_of};
 
+mod places;
+
+pub use places::Places;
 use spin_core::relax::RelaxStrategy;
 use spin_flag::spin::SpinMutex;
 use spin_wait::Patient;
 use std::sync::Wait;
-use std::sync::ledger::{Book, Ledger, Share};
-
-/// The places of a semaphore: how many are free, and the ghost book of those that are taken.
-///
-/// Put it under a `SpinMutex`. Each thread that takes places has a `Share` of the ledger, which counts them.
-#[derive(Drop)]
-pub struct Places<L: Ledger> {
-    free: u64,
-    size: u64,
-    taken: Book<L>,
-    ghost sound: { free + taken.total ≡ size },
-}
-
-impl<L: Ledger> Places<L> {
-    /// Creates a semaphore of so many places, all free.
-    ///
-    /// # Contract
-    /// The book must count nothing yet, as one that was just opened.
-    pub fn new(size: u64, taken: Book<L>) -> Self
-        requires { taken.total ≡ 0 }
-        ensures { result.size ≡ size }
-    {
-        Places {
-            free: size,
-            size,
-            taken,
-        }
-    }
-
-    fn take(&mut self, mine: &mut Share<L>, count: u64)
-        requires enough { count ≤ self.old.free }
-        requires part { 0 < parts_of mine.old }
-        ensures amount { amount_of mine.new ≡ amount_of mine.old + count }
-        ensures parts { parts_of mine.new ≡ parts_of mine.old }
-    {
-        let Places {
-            free,
-            size: _,
-            taken,
-        } = self;
-        taken.add(mine, count);
-        *free -= count;
-    }
-
-    fn give(&mut self, mine: &mut Share<L>, count: u64)
-        requires { count ≤ amount_of mine.old }
-        ensures amount { amount_of mine.new + count ≡ amount_of mine.old }
-        ensures parts { parts_of mine.new ≡ parts_of mine.old }
-    {
-        let Places {
-            free,
-            size: _,
-            taken,
-        } = self;
-        taken.audit(mine);
-        taken.sub(mine, count);
-        *free += count;
-    }
-
-    /// Shows that no share counts more places than there are. It does nothing when it runs.
-    ///
-    /// # Contract
-    /// The share counts at most `size` (`few`), and stays the same.
-    pub fn bounds(&mut self, mine: &mut Share<L>)
-        ensures few { amount_of mine.old ≤ self.old.size }
-        ensures amount { amount_of mine.new ≡ amount_of mine.old }
-        ensures parts { parts_of mine.new ≡ parts_of mine.old }
-    {
-        self.taken.audit(mine);
-    }
-}
+use std::sync::ledger::{Ledger, Share};
 
 /// Takes `count` places at once, spinning until so many are free.
 ///
@@ -117,7 +50,7 @@ pub fn acquire_many<L: Ledger, R: RelaxStrategy, W: Wait>(
     ensures amount { amount_of mine.new ≡ amount_of mine.old + count }
     ensures parts { parts_of mine.new ≡ parts_of mine.old }
 {
-    let mut guard = lock.lock_when(rt, |places| places.free >= count);
+    let mut guard = lock.lock_when(rt, |places| places.has(count));
     guard.take(mine, count);
 }
 
@@ -137,7 +70,7 @@ pub fn try_acquire_many<L: Ledger, R: RelaxStrategy>(
     let Some(mut guard) = lock.try_lock() else {
         return false;
     };
-    if guard.free < count {
+    if !guard.has(count) {
         return false;
     }
     guard.take(mine, count);

@@ -4,6 +4,7 @@ use spin::mutex::{FairMutex, SpinMutex, TicketMutex};
 use spin::{LazyLock, Mutex, Once, RwLock};
 use spin_examples::after::set_then_get;
 use spin_examples::batch::Batch;
+use spin_examples::behind::write_behind;
 use spin_examples::ending::end_after;
 use spin_examples::from_rust::{
     add_from_two, add_one, add_starving, give_back, set_elsewhere, take,
@@ -113,6 +114,25 @@ fn two_readers_read_the_last_write(rt: HostRuntime) {
     drop(two);
     let is_one_of = |value: u64| value == 6 || value == 7;
     equal(&rt, (is_one_of(first), is_one_of(second)), (true, true));
+    equal(&rt, lock.into_inner(), 7);
+}
+
+#[test]
+fn a_writer_waits_behind_two_readers_that_hold(rt: HostRuntime) {
+    let lock: RwLock<u64> = RwLock::new(6);
+    let (first, second) = (lock.pass().read(&rt), lock.pass().read(&rt));
+    let (found, refused) = ([*first, *second], lock.try_write().is_none());
+    equal(
+        &rt,
+        (found, refused, lock.reader_count()),
+        ([6, 6], true, 2),
+    );
+    let (writer, (one, other)) = write_behind(&rt, lock.pass(), first, second, 7);
+    drop(writer);
+    let (first, second) = (one.read(&rt), other.read(&rt));
+    equal(&rt, [*first, *second], [7, 7]);
+    drop((first, second));
+    equal(&rt, [lock.reader_count(), lock.writer_count()], [0, 0]);
     equal(&rt, lock.into_inner(), 7);
 }
 

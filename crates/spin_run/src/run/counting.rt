@@ -1,13 +1,14 @@
 //! A count by workers, each a thread of its own, under one lock. Begin with [`count_with`].
-ghost use Rattle.std.specs.Prelude.{◌≡◌, ℕ, ◌+◌, ◌*◌, ◌^◌, ◌<◌, ◌≤◌, IfOk, vec_len};
+ghost use Rattle.std.specs.Prelude.{◌≡◌, ◌+◌, ◌*◌, ◌^◌, ◌<◌, ◌≤◌, IfOk, vec_len};
 
 use super::gate::{Passed, pass};
 use super::locks::Lock;
 use spin_barrier::gate::Gate;
+use spin_history::quota::{Plan, Quota};
 use std::alloc::{AllocError, Allocator};
 use std::marker::Brand;
 use std::sync::Wait;
-use std::sync::ledger::{Blank, Book, Ledger, Share};
+use std::sync::ledger::{Blank, Share};
 use std::thread;
 use std::thread::{JoinHandle, Scope, Threads};
 
@@ -30,25 +31,6 @@ impl From<AllocError> for CountError {
     }
 }
 
-/// The numbers that all parts of one count have in common.
-trait Plan: Ledger {
-    /// How many additions all workers make.
-    ghost all: { ℕ };
-}
-
-impl Plan for Brand {
-    ghost all = { 0 };
-}
-
-/// The number under the lock, and the ghost book of the additions that are still to be made.
-#[derive(Drop)]
-struct Counter<P: Plan> {
-    count: u64,
-    to_come: Book<P>,
-    ghost adds_up: { count + to_come.total ≡ P.all },
-    ghost fits: { P.all < 2 ^ 64 },
-}
-
 /// What a worker returns: its part of the book, on which no additions are left.
 #[derive(Drop)]
 struct Done<P: Plan> {
@@ -57,33 +39,12 @@ struct Done<P: Plan> {
     ghost nothing_left: { share.amount ≡ 0 },
 }
 
-impl<P: Plan> Counter<P> {
-    fn add_one(&mut self, mine: &mut Share<P>)
-        requires { 0 < mine.old.amount }
-        ensures amount { mine.new.amount + 1 ≡ mine.old.amount }
-        ensures parts { mine.new.parts ≡ mine.old.parts }
-    {
-        let Counter { count, to_come } = self;
-        to_come.sub(mine, 1);
-        *count += 1;
-    }
-
-    fn total(&mut self, every: &mut Share<P>) -> u64
-        requires whole { every.old.parts ≡ P.parts }
-        requires nothing_left { every.old.amount ≡ 0 }
-        ensures { result ≡ P.all }
-    {
-        self.to_come.audit(every);
-        self.count
-    }
-}
-
 /// What all workers of one count share.
 #[derive(Drop)]
 struct Team<'a, P: Plan, G, R> {
     rt: &'a R,
     gate: &'a G,
-    counter: Lock<Counter<P>>,
+    counter: Lock<Quota<P>>,
     times: u64,
 }
 
@@ -103,7 +64,7 @@ impl<P: Plan + Send + Sync, G: Gate + Sync, R: Threads + Wait + Sync> Team<'_, P
     {
         let _ = passed;
         for _done in 0..self.times {
-            self.counter.lock(self.rt).add_one(&mut share);
+            self.counter.lock(self.rt).add(&mut share, 1);
         }
         Done { share }
     }
@@ -191,13 +152,11 @@ fn count_by<'a, P: Plan + Send + Sync, G: Gate + Sync, R: Threads + Wait + Sync,
     requires fits { P.all < 2 ^ 64 }
     ensures { IfOk result (λ total. total ≡ P.all) }
 {
-    let (mut to_come, mut mine) = blank.open::<P>();
-    to_come.add(&mut mine, workers as u64 * times);
-    let counter = Lock::new(Counter { count: 0, to_come });
+    let (quota, mine) = Quota::<P>::new(blank, workers as u64 * times);
     let team = Team {
         rt,
         gate,
-        counter,
+        counter: Lock::new(quota),
         times,
     };
     team.count(alloc, workers, mine)
