@@ -108,6 +108,20 @@ const ROWS: &[Row] = &[
         "",
         "too many states: stopped after 2\n",
     ),
+    (
+        &["--limit", "0"],
+        "flag 5 2\n0 begin lock\n1 begin lock\n1 begin release\n",
+        0,
+        "thread 0 ends with the lock\n",
+        "",
+    ),
+    (
+        &["--limit", "0", "--schedule", "1"],
+        LOOK,
+        1,
+        "",
+        "too many states: stopped after 1\n",
+    ),
     (&["--schedule", "2"], LOOK, 2, "", "no such outcome\n"),
     (&["--schedule", "0"], LOOK, 2, "", "no such outcome\n"),
     (
@@ -164,4 +178,34 @@ fn streams_that_fail(rt: HostRuntime) {
     assert_eq!(rt; ended, 1);
     output.must_show(&rt, b"");
     errors.must_show(&rt, b"read failed\n");
+}
+
+#[test]
+fn a_thousand_lines_in_order_need_no_search(rt: HostRuntime) {
+    let mut text = Vec::new(rt.alloc());
+    assert!(rt;
+        text.extend_from_slice(b"lock a flag 5\nlock b rw 5 2\n")
+            .is_ok()
+    );
+    for _ in 0..166 {
+        for lines in [
+            "0 a begin lock\n0 b begin write\n0 b begin release\n0 a begin release\n",
+            "1 a begin lock\n1 a begin release\n",
+        ] {
+            assert!(rt; text.extend_from_slice(lines.as_bytes()).is_ok());
+        }
+    }
+    let mut input = Tape::new(&text);
+    let mut output = Paper::endless(rt.alloc());
+    let mut errors = Paper::endless(rt.alloc());
+    let ended = program(
+        rt.alloc(),
+        &["--limit", "0"],
+        &mut input,
+        &mut output,
+        &mut errors,
+    );
+    assert_eq!(rt; ended, 0);
+    output.must_show(&rt, b"in order: a < b\n");
+    errors.must_show(&rt, b"");
 }

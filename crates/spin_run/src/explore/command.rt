@@ -49,13 +49,14 @@ fn run<I: Source, O: Sink>(
 /// It writes a line that says whether the programs use their locks in one order ([`order_of`](spin_explore::order_of)).
 /// Then it writes each outcome that any interleaving has, and how many states it has seen. It also writes each way to get
 /// stuck, and for each of these a schedule that leads there. The words `--schedule NUMBER` ask instead for a schedule
-/// of the outcome with this number. The words `--limit STATES` bound the search. A run that fails writes one line with
-/// the reason to `errors`.
+/// of the outcome with this number. The words `--limit STATES` bound the search. With `--limit 0`, and without
+/// `--schedule`, it searches nothing, and writes the first line alone. A run that fails writes one line with the reason
+/// to `errors`.
 ///
 /// # Contract
 /// The caller gives streams that have not failed. The status is one of these:
 ///
-/// - 0: what was asked for is written (`Does`). No run can get stuck, or a schedule was asked for.
+/// - 0: what was asked for is written (`Does`). No run can get stuck, a schedule was asked for, or nothing was searched.
 /// - 3: what was asked for is written (`Does`), and some run can get stuck.
 /// - 1: an allocation, a read or a write failed, schedules lead to more states than the limit (`IsOver`, `HasSeen`), or the
 ///   search did not settle (`DoesNotSettle`).
