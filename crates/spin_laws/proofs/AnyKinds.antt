@@ -72,7 +72,7 @@ use Rattle.spin_laws.specs.Rounds.{occurs}
 use Rattle.spin_laws.specs.Several.{has_something}
 use Rattle.spin_laws.proofs.KeptOut.{word_is, phase_of}
 use Rattle.spin_laws.proofs.Once.{somebody_runs}
-use Rattle.spin_laws.specs.Texts.{unused, is_of_kind, HasRoom}
+use Rattle.spin_laws.specs.Texts.{unused, is_of_kind}
 use Rattle.spin_laws.proofs.Solo.{answered_alone}
 use Rattle.spin_laws.proofs.Seated.{Sat, seat_as, any_seat, any_fits, part_of, fits_held, fit_seat, covers_next, covers_some, Acts, is_due, is_unleaked, acted, beside}
 use Rattle.spin_laws.proofs.Rows.{table_step, once_step, flag_rows, flag_begins, flag_waits, ticket_rows, ticket_begins, ticket_waits, fair_fits, fair_rows, fair_begins, fair_waits, rw_rows, rw_begins, rw_waits, none_fits, once_waits, barrier_rows}
@@ -320,7 +320,13 @@ module _ (n : ℕ) where
   has_cap : (v cap : ℕ) (past : Schedule RwCall ℕ) → 1 ≤ cap → 1 ≤ (seen_at (rw_machine v cap) n past).plain.cap
   has_cap v cap past some = let shape = (good (rw_facts v cap) n past).shape in grind (arith, shape, some)
 
-  pub kept_out_or_answered : (first : AnyLock) (past : Moves) (p : ℕ) → HasRoom n first past → any_in_call (any_after (unused n first) past) p ≡ true → HasToEnd (any_after (unused n first) past) p
+  -- a ticket of the lock is left after these moves; the cap of the lock allows a reader
+  abbrev pub LeavesRoom : AnyLock → Moves → Type 0
+  LeavesRoom (any.Ticket x) past = (seen_at (ticket_machine x.object.value x.object.first) n (narrowed ticket_call past)).plain.next < ticket_limit
+  LeavesRoom (any.Rw x) past = 1 ≤ x.object.cap
+  LeavesRoom _ past = Unit {0}
+
+  pub kept_out_or_answered : (first : AnyLock) (past : Moves) (p : ℕ) → LeavesRoom first past → any_in_call (any_after (unused n first) past) p ≡ true → HasToEnd (any_after (unused n first) past) p
       → IsKeptOutOf n first past p ⊎ Answered (any_after (unused n first) past) p
   kept_out_or_answered (any.Flag x) past p room is ends =
       let v = x.object.value in

@@ -25,7 +25,8 @@ use Rattle.spin_explore.proofs.Settle.{never_halts}
 use Rattle.spin_laws.specs.AnyLocks.{Moves, plain_after, IsKeptOutOf, TellsWho, UseInOrder}
 use Rattle.spin_laws.specs.Several.{has_something}
 use Rattle.spin_laws.proofs.AnyLocks.{free}
-use Rattle.spin_laws.specs.Texts.{unused, IsText, LeavesRoom, IsNeverStuckInOrder}
+use Rattle.spin_laws.specs.Texts.{unused, IsText, IsNeverStuckInOrder}
+use Rattle.spin_laws.proofs.TicketsLeft.{leaves_room}
 use Rattle.spin_laws.proofs.AnyKinds.{kept_out_calls, kept_out_or_answered, is_resting, rests_without}
 use Rattle.spin_laws.proofs.Lines.{Line, Gots, IsNext, next_of, may_have, had_there, have_before, have_after}
 use Rattle.spin_laws.proofs.Seated.{Sat, any_seat, any_fits, part_of}
@@ -102,7 +103,7 @@ abbrev spare : AnyLock
 spare = any.Barrier (record { object = record { n = 0 }; state = record { words = record { count = 0; generation = 0 }; value = None; seats = [] } })
 
 module _ (n : ℕ) (locks : List AnyLock) (lines : List Line) (text : IsText n locks lines) (endless : HasNoEndless lines (length lines)) (order : List ℕ) (in_order : IsOrder lines (length locks) (length lines) order)
-    (in_the_end : held_after [] lines ≡ []) (room : LeavesRoom n locks lines) (es : List Line) (follows : Follows any_rules lines n (first n locks lines text endless) es)
+    (in_the_end : held_after [] lines ≡ []) (es : List Line) (follows : Follows any_rules lines n (first n locks lines text endless) es)
   where
     abbrev x : Stage AnyLock ℕ
     x = stage_after any_rules lines (first n locks lines text endless) es
@@ -170,7 +171,7 @@ module _ (n : ℕ) (locks : List AnyLock) (lines : List Line) (text : IsText n l
               calls = ap (any_in_call lock) there.1 ∙ in_call;
               answers = subst (λ q. AnswersAlone any_rules lock q answered.0) (sym there.1) (subst (λ l. AnswersAlone any_rules l p answered.0) (sym lock_is) answered.1);
             }))
-            (kept_out_or_answered n one (part line.lock es) p (room es follows line.lock one at) (subst (λ l. any_in_call l p ≡ true) lock_is in_call) ends)
+            (kept_out_or_answered n one (part line.lock es) p (leaves_room n locks lines text endless es follows line.lock one at) (subst (λ l. any_in_call l p ≡ true) lock_is in_call) ends)
 
       by_turn : (p : ℕ) → p < n → (o : Option (ℕ × Line)) → next p ≡ o → IsAnswered any_rules lines n x ⊎ Stands p
       by_turn p less None is = inr (λ i line more. absurd (grind (arith, is, more)))
@@ -386,8 +387,8 @@ module _ (n : ℕ) (locks : List AnyLock) (lines : List Line) (text : IsText n l
     answers some calls =
         ⊎_elim (λ done. done) (λ (all : (p : ℕ) → p < n → Stands calls p). absurd (no_line_left all some)) (scan calls n (omega arith))
 
-pub never_stuck_in_order : (n : ℕ) (locks : List AnyLock) (lines : List Line) → IsText n locks lines → LeavesRoom n locks lines → IsNeverStuckInOrder n locks lines
-never_stuck_in_order n locks lines text room order is =
+pub never_stuck_in_order : (n : ℕ) (locks : List AnyLock) (lines : List Line) → IsText n locks lines → IsNeverStuckInOrder n locks lines
+never_stuck_in_order n locks lines text order is =
     let start = first n locks lines text is.1 in
     never_stuck any_rules lines n start (never_halts any_rules any_keep lines n start
-    (λ es follows some calls. answers n locks lines text is.1 order.items is.0 is.2 room es follows some calls))
+    (λ es follows some calls. answers n locks lines text is.1 order.items is.0 is.2 es follows some calls))

@@ -35,4 +35,5 @@ pub mod Seated
 pub mod Rows
 pub mod AnyKinds
 pub mod Texts
+pub mod TicketsLeft
 pub mod InOrder

@@ -48,7 +48,7 @@ module _ (fits : Hold → Bool) (has : Part → Bool) where
   Covered k next (Some (Gone h)) = ⊥
   Covered k next _ = Unit {0}
 
-covered_fits : (fits : Hold → Bool) (has : Part → Bool) (k : ℕ) (next : Option (ℕ × Line)) (seat : Option Sat) → Covered fits has k next seat → fit_seat fits seat ≡ true
+pub covered_fits : (fits : Hold → Bool) (has : Part → Bool) (k : ℕ) (next : Option (ℕ × Line)) (seat : Option Sat) → Covered fits has k next seat → fit_seat fits seat ≡ true
 covered_fits fits has k next None is = refl
 covered_fits fits has k next (Some Idle) is = refl
 covered_fits fits has k next (Some (Calling c l None)) is = refl
@@ -57,7 +57,7 @@ covered_fits fits has k next (Some (Holding h)) is = grind (arith, is)
 covered_fits fits has k next (Some (Leaked h)) is = absurd is
 covered_fits fits has k next (Some (Gone h)) is = absurd is
 
-covered_unleaked : (fits : Hold → Bool) (has : Part → Bool) (k : ℕ) (next : Option (ℕ × Line)) (seat : Option Sat) → Covered fits has k next seat → is_unleaked seat ≡ true
+pub covered_unleaked : (fits : Hold → Bool) (has : Part → Bool) (k : ℕ) (next : Option (ℕ × Line)) (seat : Option Sat) → Covered fits has k next seat → is_unleaked seat ≡ true
 covered_unleaked fits has k next None is = refl
 covered_unleaked fits has k next (Some Idle) is = refl
 covered_unleaked fits has k next (Some (Calling c l h)) is = refl

@@ -1,5 +1,5 @@
 -- Texts whose lines use several locks in an order.
-use Rattle.std.specs.Prelude.{◌≡◌, ℕ, ◌<◌, ◌≤◌, Bool, true, Some, List, length, is_some, slice_get}
+use Rattle.std.specs.Prelude.{◌≡◌, ℕ, ◌+◌, ◌<◌, ◌≤◌, Bool, true, Some, List, length, is_some, slice_get}
 use Rattle.std.specs.Global.{Vec}
 use Rattle.spin_step.specs.Plain.{ticket_limit}
 use Rattle.spin_step.specs.declared.schedule.Move.{Move}
@@ -10,17 +10,15 @@ use Rattle.spin_step_more.specs.FairCalls.{fair_machine}
 use Rattle.spin_step_more.specs.RwCalls.{rw_machine}
 use Rattle.spin_step.specs.OnceCalls.{once_machine}
 use Rattle.spin_world.specs.BarrierTable.{barrier_machine}
-use Rattle.spin_world_core.specs.Users.{seen_at}
 use Rattle.spin_explore.specs.declared.entries.Entry.{Entry}
 use Rattle.spin_explore.specs.declared.kinds.AnyCall.{AnyCall}
 use Rattle.spin_explore.specs.declared.kinds.AnyLock.{AnyLock}
 use Rattle.spin_explore.specs.declared.kinds.AnyLock.TheVariants as any
 use Rattle.spin_explore.specs.declared.lock_order.LockOrder.TheVariants.{In}
-use Rattle.spin_explore.specs.Kinds.{narrow, narrowed, any_rules, flag_call, ticket_call, fair_call, rw_call, once_call, barrier_call}
-use Rattle.spin_explore.specs.Programs.{Stage, first_stage, part, Follows}
+use Rattle.spin_explore.specs.Kinds.{narrow, any_rules, flag_call, ticket_call, fair_call, rw_call, once_call, barrier_call}
+use Rattle.spin_explore.specs.Programs.{Stage, first_stage}
 use Rattle.spin_explore.specs.Halts.{IsNeverStuck}
 use Rattle.spin_explore.specs.Orders.{IsOrderOf}
-use Rattle.spin_laws.specs.AnyLocks.{Moves}
 
 -- the lock as n parties find it before any move
 abbrev pub unused : ℕ → AnyLock → AnyLock
@@ -40,11 +38,11 @@ is_of_kind (any.Rw x) move = is_some (narrow rw_call move)
 is_of_kind (any.Once x) move = is_some (narrow once_call move)
 is_of_kind (any.Barrier x) move = is_some (narrow barrier_call move)
 
--- after these moves of n parties a ticket of the lock is left; the cap of the lock allows a reader
-abbrev pub HasRoom : ℕ → AnyLock → Moves → Type 0
-HasRoom n (any.Ticket x) past = (seen_at (ticket_machine x.object.value x.object.first) n (narrowed ticket_call past)).plain.next < ticket_limit
-HasRoom n (any.Rw x) past = 1 ≤ x.object.cap
-HasRoom n _ past = Unit {0}
+-- the lock has tickets for so many lines; its cap allows a reader
+abbrev pub HasRoom : ℕ → AnyLock → Type 0
+HasRoom lines (any.Ticket x) = x.object.first + lines < ticket_limit
+HasRoom lines (any.Rw x) = 1 ≤ x.object.cap
+HasRoom lines _ = Unit {0}
 
 -- The lines are a text of n parties for these locks, which nobody has used.
 pub record IsText (n : ℕ) (locks : List AnyLock) (lines : List (Entry AnyCall ℕ)) : Type 0 where
@@ -52,16 +50,11 @@ pub record IsText (n : ℕ) (locks : List AnyLock) (lines : List (Entry AnyCall 
   -- each line is a move on the kind of its lock
   pub kinds : (i : ℕ) (e : Entry AnyCall ℕ) (lock : AnyLock) → slice_get lines i ≡ Some e → slice_get locks e.lock ≡ Some lock → is_of_kind lock e.action ≡ true
   pub unused : (k : ℕ) (lock : AnyLock) → slice_get locks k ≡ Some lock → lock ≡ unused n lock
+  pub room : (k : ℕ) (lock : AnyLock) → slice_get locks k ≡ Some lock → HasRoom (length lines) lock
 
 module _ (n : ℕ) (locks : List AnyLock) (lines : List (Entry AnyCall ℕ)) where
   abbrev pub start : Stage AnyLock ℕ
   start = first_stage locks (length lines)
-
-  -- no schedule uses up the tickets of a lock, and each lock has room for a reader
-  abbrev pub LeavesRoom : Type 0
-  LeavesRoom =
-      (entries : List (Entry AnyCall ℕ)) → Follows any_rules lines n start entries
-      → (k : ℕ) (lock : AnyLock) → slice_get locks k ≡ Some lock → HasRoom n lock (part k entries)
 
   -- if the lines use their locks in an order, no schedule gets stuck
   abbrev pub IsNeverStuckInOrder : Type 0

@@ -22,7 +22,7 @@ ghost use Rattle.spin_laws.specs.AnyLocks.{Moves, TellsWho, UseInOrder, IsFreeOf
 ghost use Rattle.spin_laws.specs.KeptOut.{AsksWhatIsClosed, is_wait};
 ghost use Rattle.spin_laws.specs.Joins.{NoDeadlockOfJoins};
 ghost use Rattle.spin_laws.specs.Several.{Wait, NoDeadlock};
-ghost use Rattle.spin_laws.specs.Texts.{IsText, LeavesRoom, IsNeverStuckInOrder};
+ghost use Rattle.spin_laws.specs.Texts.{IsText, IsNeverStuckInOrder};
 ghost use Rattle.spin_laws.specs.Waits.{AreInOrder, HaveNoCycle};
 
 use spin_world::{Fair, Flag, OnceObject, Rw, Ticket};
@@ -91,8 +91,8 @@ pub fn locks_in_order_are_free_of_deadlock()
 /// States that a text whose lines use their locks in an order is never stuck: wherever a schedule leads, another one goes on from
 /// there and finishes all lines. So no search is needed. `order_of` of `spin_explore` finds the order.
 ///
-/// The text is one of `n` parties for locks that nobody has used, and each line is a move on its kind of lock (`IsText`). No
-/// schedule may use up the tickets of a lock, and the cap of a read-write lock has to be at least 1 (`LeavesRoom`).
+/// The text is one of `n` parties for locks that nobody has used, and each line is a move on its kind of lock. A ticket lock
+/// has a ticket for each line, and the cap of a read-write lock is at least 1. `IsText` says all this.
 pub fn a_text_in_order_is_never_stuck()
-    ensures { (n : ℕ) (locks : List AnyLock) (lines : List (Entry AnyCall ℕ)) → IsText n locks lines → LeavesRoom n locks lines → IsNeverStuckInOrder n locks lines }
+    ensures { (n : ℕ) (locks : List AnyLock) (lines : List (Entry AnyCall ℕ)) → IsText n locks lines → IsNeverStuckInOrder n locks lines }
 {}
