@@ -13,7 +13,7 @@ same_is (x ∷ xs) (y ∷ ys) same = grind (arith, same, eqb-true, same_is xs ys
 same_is xs ys same = absurd (grind (arith, same))
 
 module _ {W V C L A : Type 0} (m : Machine W V C L A) (R : Scene W V C L A → Type 0) where
-  every_later : (xs ys : List (ℕ × Move C V)) (seen : Seen W V C L) → Every R m seen (xs ++ ys) → Every R m (seen_after m seen xs) ys
+  pub every_later : (xs ys : List (ℕ × Move C V)) (seen : Seen W V C L) → Every R m seen (xs ++ ys) → Every R m (seen_after m seen xs) ys
   every_later [] ys seen all = all
   every_later (x ∷ xs) ys seen all = every_later xs ys (scene m seen x.0 x.1).after all.1
 

@@ -127,10 +127,10 @@ module _ {V : Type 0} (value : Option V) (n : ℕ) (past : Schedule (OnceCall V)
   abbrev now : Plain
   now = (seen_at m n past).plain
 
-  word_is : (state_at m n past).words ≡ once_word now
+  pub word_is : (state_at m n past).words ≡ once_word now
   word_is = cc (numbers_are (once_facts value) n past)
 
-  phase_of : (q : ℕ) → RunsClosure m n past q → now.phase ≡ running q
+  pub phase_of : (q : ℕ) → RunsClosure m n past q → now.phase ≡ running q
   phase_of q runs = grind (arith, runs.begun, (calls (once_facts value) n past q runs.calls).knows)
 
   -- a party that has made no plain step in its call runs no closure

@@ -29,3 +29,11 @@ pub mod Blockers
 pub mod Joins
 pub mod Holding
 pub mod Behind
+pub mod Solo
+pub mod Lines
+pub mod Seated
+pub mod Rows
+pub mod AnyKinds
+pub mod Texts
+pub mod TicketsLeft
+pub mod InOrder

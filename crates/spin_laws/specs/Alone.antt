@@ -1,16 +1,18 @@
 -- Progress that every object makes: a waiting call whose request is open is answered, or its exchange fails spuriously,
 -- or another party changes a word.
-use Rattle.std.specs.Prelude.{◌≡◌, ℕ, ◌≤◌, ◌==◌, ◌&&◌, ◌||◌, Bool, true, false, not, Option, Some, List, [], ◌∷◌, ◌⊎◌, length, slice_get}
+use Rattle.std.specs.Prelude.{◌≡◌, ℕ, ◌≤◌, ◌==◌, ◌&&◌, ◌||◌, Bool, true, false, not, Option, Some, List, [], ◌∷◌, ◌⊎◌, length, replicate, slice_get}
 use Rattle.spin_step.specs.Machines.{Machine}
 use Rattle.spin_step.specs.Schedules.{State, happens, after, at_first}
 use Rattle.spin_step.specs.declared.place.Hold.{Hold}
 use Rattle.spin_step.specs.declared.place.Seat.TheVariants.{Calling}
 use Rattle.spin_step.specs.declared.schedule.Move.{Move}
+use Rattle.spin_step.specs.declared.schedule.Move.TheVariants.{Step}
 use Rattle.spin_world_core.specs.Joined.{joined}
-use Rattle.spin_world_core.specs.Runs.{opening}
-use Rattle.spin_world_core.specs.Users.{seen_after}
+use Rattle.spin_world_core.specs.Runs.{Schedule, opening, state_at}
+use Rattle.spin_world_core.specs.Users.{IsCalling, seen_after, seen_at}
 use Rattle.spin_world_core.specs.Undisturbed.{is_open_now, steps_alone}
 use Rattle.spin_laws.specs.Rounds.{Test, occurs, MovesOn, refuses_weakly}
+use Rattle.spin_laws.specs.Once.{answers}
 use Rattle.spin_step.specs.declared.schedule.Outcome.TheVariants as outcome
 
 abbrev pub same_numbers : List ℕ → List ℕ → Bool
@@ -43,3 +45,12 @@ AnsweredOrDisturbed {C = C} {L = L} m n past rounds =
     (p : ℕ) (c : C) (l : L) (h : Option Hold) → slice_get s.seats p ≡ Some (Calling c l h) → is_open_now p (m.asks c h) (seen.span p) seen.plain ≡ true
     → StepsInEach m p s rounds → 1 ≤ length rounds → steps_alone (m.asks c h) ≤ length rounds
     → (occurs m (ends_or_fails p) s (joined rounds) ≡ true) ⊎ (disturbs m p s (joined rounds) ≡ true)
+
+-- After the schedule a party is in a call that does not wait, or what the call asks is open. Then so many steps of the party alone
+-- answer the call.
+abbrev pub AnsweredAlone : {W V C L A : Type 0} → Machine W V C L A → ℕ → Schedule C V → Type 0
+AnsweredAlone {C = C} {L = L} m n past =
+    let seen = seen_at m n past in
+    (p : ℕ) (c : C) (l : L) (h : Option Hold) → IsCalling m n past p c l h
+    → ((m.asks c h).waits ≡ false) ⊎ (is_open_now p (m.asks c h) (seen.span p) seen.plain ≡ true)
+    → (k : ℕ) × (occurs m (answers p) (state_at m n past) (replicate k (p, Step)) ≡ true)

@@ -19,3 +19,4 @@ pub mod AnyLocks
 pub mod Waits
 pub mod Joins
 pub mod Beside
+pub mod Texts

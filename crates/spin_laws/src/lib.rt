@@ -61,9 +61,9 @@ pub use limits::{
 pub use order::{
     a_fair_lock_keeps_out_by_what_is_asked, a_flag_keeps_out_by_what_is_asked,
     a_once_keeps_out_by_what_is_asked, a_read_write_lock_keeps_out_by_what_is_asked,
-    a_ticket_lock_keeps_out_by_what_is_asked, locks_in_order_are_free_of_deadlock,
-    seats_keep_out_by_what_is_asked, some_party_goes_on, some_party_goes_on_beside_joins,
-    waits_have_no_cycle,
+    a_text_in_order_is_never_stuck, a_ticket_lock_keeps_out_by_what_is_asked,
+    locks_in_order_are_free_of_deadlock, seats_keep_out_by_what_is_asked, some_party_goes_on,
+    some_party_goes_on_beside_joins, waits_have_no_cycle,
 };
 pub use progress::{
     an_upgrade_of_a_rwlock_is_granted_in_three_rounds,
@@ -72,6 +72,7 @@ pub use progress::{
 };
 pub use rounds::{
     a_call_is_answered_in_one_round_where_there_is_a_value,
+    a_call_that_nobody_keeps_out_is_answered_alone,
     a_call_with_a_closure_is_answered_in_four_rounds, a_call_with_a_closure_is_never_starved,
     a_call_with_a_closure_may_starve, a_flag_is_free_of_deadlock, a_group_may_never_fill,
     a_lock_is_granted_in_rounds, a_lock_may_be_passed_over, a_lock_of_a_flag_may_starve,

@@ -15,11 +15,14 @@ ghost use Rattle.spin_step.specs.declared.once_calls.OnceCall.{OnceCall};
 ghost use Rattle.spin_seats.specs.declared.calls.SeatsCall.{SeatsCall};
 ghost use Rattle.spin_world.specs.declared.once.OnceObject.{OnceObject};
 ghost use Rattle.spin_world_seats.specs.declared.seats.Seats.{Seats};
+ghost use Rattle.spin_explore.specs.declared.entries.Entry.{Entry};
+ghost use Rattle.spin_explore.specs.declared.kinds.AnyCall.{AnyCall};
 ghost use Rattle.spin_explore.specs.declared.kinds.AnyLock.{AnyLock};
 ghost use Rattle.spin_laws.specs.AnyLocks.{Moves, TellsWho, UseInOrder, IsFreeOfDeadlock};
 ghost use Rattle.spin_laws.specs.KeptOut.{AsksWhatIsClosed, is_wait};
 ghost use Rattle.spin_laws.specs.Joins.{NoDeadlockOfJoins};
 ghost use Rattle.spin_laws.specs.Several.{Wait, NoDeadlock};
+ghost use Rattle.spin_laws.specs.Texts.{IsText, IsNeverStuckInOrder};
 ghost use Rattle.spin_laws.specs.Waits.{AreInOrder, HaveNoCycle};
 
 use spin_world::{Fair, Flag, OnceObject, Rw, Ticket};
@@ -83,4 +86,13 @@ pub fn seats_keep_out_by_what_is_asked()
 /// cap is 0, a `wait` of a `Once`, and barriers.
 pub fn locks_in_order_are_free_of_deadlock()
     ensures { (n ranks : ℕ) (lock : ℕ → AnyLock) (past : ℕ → Moves) (at : ℕ → Option ℕ) → TellsWho n lock past ranks at → UseInOrder n lock past at → IsFreeOfDeadlock n lock past at }
+{}
+
+/// States that a text whose lines use their locks in an order is never stuck: wherever a schedule leads, another one goes on from
+/// there and finishes all lines. So no search is needed. `order_of` of `spin_explore` finds the order.
+///
+/// The text is one of `n` parties for locks that nobody has used, and each line is a move on its kind of lock. A ticket lock
+/// has a ticket for each line, and the cap of a read-write lock is at least 1. `IsText` says all this.
+pub fn a_text_in_order_is_never_stuck()
+    ensures { (n : ℕ) (locks : List AnyLock) (lines : List (Entry AnyCall ℕ)) → IsText n locks lines → IsNeverStuckInOrder n locks lines }
 {}

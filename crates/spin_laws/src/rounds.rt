@@ -23,7 +23,7 @@ ghost use Rattle.spin_world.specs.OnceClosures.{OnceSchedule};
 ghost use Rattle.spin_world.specs.declared.barrier.BarrierObject.{BarrierObject};
 ghost use Rattle.spin_seats.specs.declared.calls.SeatsCall.{SeatsCall};
 ghost use Rattle.spin_world_seats.specs.declared.seats.Seats.{Seats};
-ghost use Rattle.spin_laws.specs.Alone.{AnsweredOrDisturbed};
+ghost use Rattle.spin_laws.specs.Alone.{AnsweredOrDisturbed, AnsweredAlone};
 ghost use Rattle.spin_laws.specs.Starving.{MayStarve, MayStarveWhere, MayDeadlockWhere, HasNoTicket, Starves, WaitsBesideIdleStarver};
 ghost use Rattle.spin_laws.specs.Flag.{LocksInFour, IsDeadlockFree};
 ghost use Rattle.spin_laws.specs.Ticket.{EntersInRounds, LocksInRounds, IsNeverStarved, MayBePassedOver};
@@ -41,6 +41,14 @@ use spin_world_seats::Seats;
 /// party changes a word, or the call's own exchange fails spuriously.
 pub fn an_open_call_is_answered_or_disturbed<O: Object>()
     ensures { (object : O) (n : ℕ) (past : List (ℕ × Move O.Call O.Value)) (rounds : List (List (ℕ × Move O.Call O.Value))) → AnsweredOrDisturbed (O.machine object) n past rounds }
+{
+    O::laws();
+}
+
+/// States that a call is answered by further steps of its own party, if no other party moves. This is so of a call that
+/// does not wait, and of a waiting call once what it asks is open.
+pub fn a_call_that_nobody_keeps_out_is_answered_alone<O: Object>()
+    ensures { (object : O) (n : ℕ) (past : List (ℕ × Move O.Call O.Value)) → AnsweredAlone (O.machine object) n past }
 {
     O::laws();
 }
