@@ -1,4 +1,4 @@
-//! The examples that users meet first, as they stand in doc comments. `.ci/examples --write` prints this file.
+//! The examples that users meet first, as they stand in doc comments. `.ci/tests --write` prints this file.
 
 #[test]
 fn spin_lib_1(rt: HostRuntime) {
