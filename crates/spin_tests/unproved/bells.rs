@@ -1,7 +1,7 @@
 //! The explorer finds the wake-ups that wrong events lose. `spin_event` proves that each loses one; here a wait looks
 //! for a change, and nobody may be left asleep. The object has no laws, so it is not proved.
 use crate::equal::equal;
-use spin_explore::{Entry, Exact, Explored, Programs, explore, mix};
+use spin_explore::{Entry, Explored, Programs, explore};
 use spin_world::{Answer, Hold, Move, Next, Object, Stepped, World};
 use std::alloc::Global;
 use std::process::Abort;
@@ -187,48 +187,40 @@ impl Object for Bell {
 }
 
 impl Explored for Bell {
-    ghost code_of_words = { λ w. 0 };
+    ghost words_numbers = { λ w. (0, 0) };
 
-    ghost code_of_call = { λ c p. 0 };
+    ghost call_numbers = { λ c. (0, 0) };
 
-    fn same_object(&self, other: &Bell) -> bool {
-        *self == *other
+    ghost point_numbers = { λ p. (0, 0) };
+
+    ghost tells = { ? };
+
+    fn words_numbers(words: Words) -> (u64, u64) {
+        // None of the five counts comes near 1,000 here.
+        let of_sleep = (words.sleepers * 1_000 + words.parked) * 1_000 + words.woken;
+        (words.changes * 1_000 + words.rings, of_sleep)
     }
 
-    fn same_words(x: Words, y: Words) -> bool {
-        x == y
+    fn call_numbers(call: Call) -> (u64, u64) {
+        match call {
+            Call::Wait(changes) => (0, changes),
+            Call::Change => (1, 0),
+        }
     }
 
-    fn same_call(x: Call, y: Call) -> bool {
-        x == y
-    }
-
-    fn same_point(x: Point, y: Point) -> bool {
-        x == y
-    }
-
-    fn words_code(words: Words) -> u64 {
-        let code = mix(words.changes.code(), words.rings.code());
-        mix(
-            mix(mix(code, words.sleepers.code()), words.parked.code()),
-            words.woken.code(),
-        )
-    }
-
-    fn call_code(call: Call, point: Point) -> u64 {
-        let _ = call;
+    fn point_numbers(point: Point) -> (u64, u64) {
         match point {
-            Point::Listen => 1,
-            Point::LookForChange(heard) => mix(2, heard.code()),
-            Point::Count(heard) => mix(3, heard.code()),
-            Point::Park(heard) => mix(4, heard.code()),
-            Point::Asleep(place) => mix(5, place.code()),
-            Point::Uncount => 6,
-            Point::Change => 7,
-            Point::Ring => 8,
-            Point::Look => 9,
-            Point::Clear => 10,
-            Point::Wake => 11,
+            Point::Listen => (0, 0),
+            Point::LookForChange(heard) => (1, heard),
+            Point::Count(heard) => (2, heard),
+            Point::Park(heard) => (3, heard),
+            Point::Asleep(place) => (4, place),
+            Point::Uncount => (5, 0),
+            Point::Change => (6, 0),
+            Point::Ring => (7, 0),
+            Point::Look => (8, 0),
+            Point::Clear => (9, 0),
+            Point::Wake => (10, 0),
         }
     }
 }

@@ -39,22 +39,18 @@ pub struct World<O: Object, A: Allocator = Global> {
     alloc: A,
     object: O,
     table: Table<O, A>,
-    /// Where each party's call began in the latest run. The world keeps this table, so that a run need not allocate
-    /// one.
-    begins: Vec<Option<usize>, A>,
 }
 
 /// For contracts a world is its object and a state that some schedule leads to.
 impl<O: Object, A: Allocator> Model for World<O, A> {
     ghost use Rattle.spin_step.specs.Schedules.{Shown};
-    ghost use Rattle.std.specs.Prelude.{◌≡◌, length};
     ghost use Rattle.spin_world_core.specs.Runs.{IsReached};
 
     ghost Value = { Shown O O.Words O.Value O.Call O.Local };
 
     ghost view = { λ w. record { object = w.object; state = w.table } };
 
-    ghost invariant = { λ w. IsReached (O.machine w.object) w.table × (length w.begins.items ≡ length w.table.seats) };
+    ghost invariant = { λ w. IsReached (O.machine w.object) w.table };
 }
 
 impl<O: Object, A: Allocator + Copy> World<O, A> {
@@ -70,7 +66,6 @@ impl<O: Object, A: Allocator + Copy> World<O, A> {
             alloc,
             object,
             table,
-            begins: no_begins(alloc, parties)?,
         })
     }
 
@@ -167,7 +162,6 @@ impl<O: Object, A: Allocator + Copy> World<O, A> {
             alloc: self.alloc,
             object: self.object,
             table: self.table.copy(self.alloc)?,
-            begins: no_begins(self.alloc, self.begins.len())?,
         })
     }
 
@@ -194,7 +188,8 @@ impl<O: Object, A: Allocator + Copy> World<O, A> {
 
     /// Plays a schedule, and returns its transcript. Each entry of the schedule is a party and its move.
     ///
-    /// The call first allocates the transcript, and then no step allocates. An `Err` leaves the world unchanged.
+    /// The call first allocates the transcript, and where each call began, and then no step allocates. An `Err` leaves the
+    /// world unchanged.
     ///
     /// # Contract
     /// On `Ok` the new state is the one after the schedule (`after`). The transcript has its events (`events_of`). Each
@@ -245,11 +240,12 @@ impl<O: Object, A: Allocator + Copy> World<O, A> {
         ensures begins { IfOk result (λ t. TellsBegins t.events.items) }
     {
         O::laws();
+        let mut begins = no_begins(self.alloc, self.table.seats().len())?;
         let mut events = Vec::with_capacity(self.alloc, schedule.len())?;
         play_into(
             &self.object,
             &mut self.table,
-            &mut self.begins,
+            &mut begins,
             &mut events,
             schedule,
         );

@@ -1,4 +1,4 @@
-use Rattle.spin_world_core.proofs.Names.{◌≡◌, ℕ, List, ◌++◌, length, take, subst, arith, length-take-le, length-append, IsReached}
+use Rattle.spin_world_core.proofs.Names.{◌≡◌, ℕ, List, ◌++◌, length, take, subst, arith, IsReached}
 use Rattle.spin_world_core.proofs.Transcripts.{tells_after}
 use Rattle.spin_world_core.proofs.Playing.{can_reached, further}
 use Rattle.spin_world_core.proofs.Joined.{promised_after}
@@ -9,10 +9,17 @@ pub play_into-requires-clause-can : goal.play_into-requires-clause-can
 play_into-requires-clause-can g c = grind (arith, further, can_reached)
 
 pub invariant_of-self : goal.invariant_of-self
-invariant_of-self g c = grind (arith, further, length-take-le, length-append)
+invariant_of-self g c = grind (arith, further)
+
+pub returns-in_err-begins-clause-reached : goal.returns-in_err-begins-clause-reached
+returns-in_err-begins-clause-reached g c = rw (← c.self.view_is) c.self.invariant
+
+pub returns-in_err-begins-clause-promised : goal.returns-in_err-begins-clause-promised
+returns-in_err-begins-clause-promised g c =
+    promised_after (g.O.Object.machine c.args.self.now.object) c.args.self.now.state c.args.schedule.now (c.laws.ensures c.args.self.now.object)
 
 pub returns-in_err-events-clause-reached : goal.returns-in_err-events-clause-reached
-returns-in_err-events-clause-reached g c = rw (← c.self.view_is) c.self.invariant.0
+returns-in_err-events-clause-reached g c = rw (← c.self.view_is) c.self.invariant
 
 pub returns-in_err-events-clause-promised : goal.returns-in_err-events-clause-promised
 returns-in_err-events-clause-promised g c =
