@@ -20,8 +20,11 @@ use std::{io, sync};
 /// How many rounds are measured.
 const ROUNDS: usize = 3;
 
-/// How long one round is, in milliseconds.
+/// How long one round of up to eight threads is, in milliseconds.
 const ROUND_MILLIS: u64 = 100;
+
+/// A round takes longer for each so many threads, so that each has a processor for several slices of the system's.
+const THREADS_A_ROUND: u64 = 8;
 
 /// How many messages go through a channel in a round.
 const MESSAGES: u64 = 200_000;
@@ -89,7 +92,8 @@ fn round<C: Case + Sync, R: Threads + Wait + Clock + Print + Sync>(
     chunk: u64,
 ) -> io::Result<u64> {
     let team = Team::new(rt, case, chunk, u64::MAX, threads > 1);
-    let nanos = team.time(threads, Duration::from_millis(ROUND_MILLIS))?;
+    let times = (threads as u64).saturating_sub(1) / THREADS_A_ROUND + 1;
+    let nanos = team.time(threads, Duration::from_millis(ROUND_MILLIS.saturating_mul(times)))?;
     println!(rt;
         "{} {nanos} {} {}",
         team.calls(),

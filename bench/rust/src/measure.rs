@@ -7,7 +7,10 @@ use std::time::{Duration, Instant};
 use crate::case::{Case, Work};
 
 const ROUNDS: usize = 3;
+// How long a round of up to eight threads is. It takes longer for each so many threads, so that each has a processor for
+// several slices of the system's.
 const ROUND: Duration = Duration::from_millis(100);
+const THREADS_A_ROUND: u64 = 8;
 // How many calls lie between two looks at the sign to stop. Of a thread that is alone they are so many that the looks
 // cost nothing; among others each call is slow enough, and a queue that the system has stopped still ends soon.
 const CHUNK_ALONE: u64 = 1000;
@@ -111,7 +114,7 @@ fn among<C: Case>(case: &C, threads: u64, told: &AtomicBool) -> Works {
             .map(|worker| scope.spawn(move || begin(worker)))
             .collect();
         drop(closed);
-        thread::sleep(ROUND);
+        thread::sleep(ROUND * threads.div_ceil(THREADS_A_ROUND) as u32);
         told.store(true, SeqCst);
         workers
             .into_iter()
