@@ -12,9 +12,11 @@ pub returns-in-Ok-true-clause-done : goal.returns-in-Ok-true-clause-done
 returns-in-Ok-true-clause-done g c stuck is =
     let o = c.in-Some.options in
     let new = c.run.new in
-    let t = streams g.I.Source.remaining g.I.Source.failed g.O.Sink.written g.O.Sink.failed c.args.input.now new.input c.args.output.now new.output in
-    (o, sym c.options_of.ensures ∙ c.in-Some.is,
-    subst (λ b. Does o t b) (c.in-Ok-true.field-0-test ∙ is_stuck stuck is) c.in-Ok-true.ensures.done)
+    let t = streams g.I.Source.remaining g.I.Source.failed g.O.Sink.written g.O.Sink.failed c.args.input.now new.input c.args.output.now new.output in (
+      o,
+      sym c.options_of.ensures ∙ c.in-Some.is,
+      subst (λ b. Does o t b) (c.in-Ok-true.field-0-test ∙ is_stuck stuck is) c.in-Ok-true.ensures.done,
+    )
 
 pub returns-in_default-clause-fault : goal.returns-in_default-clause-fault
 returns-in_default-clause-fault g c some few =
