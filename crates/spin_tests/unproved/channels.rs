@@ -656,7 +656,10 @@ fn an_idle_sender_sleeps(rt: HostRuntime) {
     let send = || {
         let before = rt.thread_cpu_time().unwrap_or(Duration::MAX);
         let sent = [sender.send(1), sender.send(2)];
-        let used = rt.thread_cpu_time().unwrap_or(Duration::MAX).saturating_sub(before);
+        let used = rt
+            .thread_cpu_time()
+            .unwrap_or(Duration::MAX)
+            .saturating_sub(before);
         (sent, used < ms(200))
     };
     let receive = || {
@@ -680,7 +683,10 @@ fn who_gives_up_takes_no_call_from_a_sleeper(rt: HostRuntime) {
                 thread::sleep(&rt, ms(1));
             }
             for _ in 0..1_000_000 {
-                if sender.send_timeout(number, Duration::from_micros(20)).is_ok() {
+                if sender
+                    .send_timeout(number, Duration::from_micros(20))
+                    .is_ok()
+                {
                     break;
                 }
                 late += 1;
