@@ -25,6 +25,7 @@ pub mod Several
 pub mod KeptOut
 pub mod AnyLocks
 pub mod Waits
+pub mod Served
 pub mod Blockers
 pub mod Joins
 pub mod Holding

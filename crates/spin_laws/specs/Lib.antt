@@ -17,6 +17,7 @@ pub mod Several
 pub mod KeptOut
 pub mod AnyLocks
 pub mod Waits
+pub mod Served
 pub mod Joins
 pub mod Beside
 pub mod Texts

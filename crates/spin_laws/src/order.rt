@@ -24,6 +24,7 @@ ghost use Rattle.spin_laws.specs.Joins.{NoDeadlockOfJoins};
 ghost use Rattle.spin_laws.specs.Several.{Wait, NoDeadlock};
 ghost use Rattle.spin_laws.specs.Texts.{IsText, IsNeverStuckInOrder};
 ghost use Rattle.spin_laws.specs.Waits.{AreInOrder, HaveNoCycle};
+ghost use Rattle.spin_laws.specs.Served.{RankBelow, LinesAreInOrder, ServeInOrder, SectionsEnd, NobodyStarves};
 
 use spin_world::{Fair, Flag, OnceObject, Rw, Ticket};
 use spin_world_core::Object;
@@ -47,6 +48,15 @@ pub fn some_party_goes_on_beside_joins()
 /// States that parties which wait in the order of ranks never wait for each other in a cycle.
 pub fn waits_have_no_cycle<X>()
     ensures { (rank : X → ℕ) (holds : ℕ → List X) (waits : ℕ → Option X) → AreInOrder holds waits rank → HaveNoCycle holds waits }
+{}
+
+/// States that nobody starves who waits in the order of ranks for locks that serve in order, if each section ends once the
+/// waits in it end.
+///
+/// The first in the line for a lock has the lock, or may have it at once. The law is about lines at each time, and not about
+/// a schedule: that a lock serves in order and that a section ends are premises.
+pub fn nobody_starves_in_order<X>()
+    ensures { (rank : X → ℕ) (ranks : ℕ) (line : ℕ → X → List ℕ) → RankBelow ranks rank → LinesAreInOrder line rank → ServeInOrder line → SectionsEnd line → NobodyStarves line }
 {}
 
 /// States that whoever waits for a flag in vain waits as the law of several locks says.
