@@ -3,9 +3,10 @@ use crate::case::{
     Adds, Alone, Case, FirstCalls, Floor, Forces, Gets, LateCalls, OneWriter, PassAdds,
     PassReaders, Readers, Rounds, Starvers, Upgrades, Work, Works, complete,
 };
-use crate::channels;
+use crate::channels::{self, Ends, Line, Messages, Queue, StdQueue};
 use crate::team::Team;
 use spin_barrier::barrier::Barrier;
+use spin_channel::{bounded, unbounded};
 use spin_core::relax::{Yield, YieldThenSleep};
 use spin_fair::fair::FairMutex;
 use spin_flag::spin::SpinMutex;
@@ -26,8 +27,12 @@ const ROUND_MILLIS: u64 = 100;
 /// A round takes longer for each so many threads, so that each has a processor for several slices of the system's.
 const THREADS_A_ROUND: u64 = 8;
 
-/// How many messages go through a channel in a round.
+/// How many messages go through a channel in a round, and through one with room for a single message.
 const MESSAGES: u64 = 200_000;
+const MESSAGES_ONE_BY_ONE: u64 = 20_000;
+
+/// For how many messages a bounded channel has room, unless its name ends with `_one`.
+const CAPACITY: usize = 64;
 
 /// A block of memory has room for this many cases, but contains only one. The allocator begins so large a block 16
 /// bytes after the beginning of a page. So no lock crosses a cache line. The Rust driver aligns each case to a cache
@@ -63,8 +68,16 @@ const BESIDE: [&str; 15] = [
     "std_mutex",
 ];
 
-/// The channels.
-const CHANNELS: [&str; 2] = ["channel_bounded", "channel_unbounded"];
+/// The channels and queues.
+const CHANNELS: [&str; 7] = [
+    "channel_bounded",
+    "channel_unbounded",
+    "channel_one",
+    "condvar_bounded",
+    "condvar_one",
+    "std_condvar_bounded",
+    "std_condvar_one",
+];
 
 /// What to do with a case.
 #[derive(Clone, Copy)]
@@ -149,27 +162,61 @@ fn on_case<C: Case + Sync, R: Threads + Wait + Clock + Print + AllocGlobal + Syn
 }
 
 /// Does the task on a channel between two halves of the threads: it sends so many messages in each round, or so many calls
-/// in each thread. Returns how many messages were received.
-fn on_channel<R: Threads + Wait + Clock + Print + AllocGlobal + Sync>(
+/// in each thread. Returns how many messages were taken.
+fn on_line<L: Line + Sync, R: Threads + Wait + Clock + Print + AllocGlobal + Sync>(
     rt: &R,
     task: Task,
     threads: usize,
-    is_bounded: bool,
+    messages: u64,
+    line: L,
 ) -> io::Result<u64> {
     if threads < 2 {
         return Err(usage());
     }
     match task {
         Task::Measure(_) => {
-            let (share, mut seen) = (MESSAGES / (threads as u64 / 2), 0u64);
+            let (share, mut seen) = (messages / (threads as u64 / 2), 0u64);
             for _ in 0..ROUNDS {
-                let (received, nanos) = channels::round(rt, is_bounded, threads, share)?;
-                println!(rt; "{received} {nanos} 0 0")?;
-                seen = seen.wrapping_add(received);
+                let (taken, nanos) = channels::round(rt, &line, threads, share)?;
+                println!(rt; "{taken} {nanos} 0 0")?;
+                seen = seen.wrapping_add(taken);
             }
             Ok(seen)
         }
-        Task::Try(calls) => Ok(channels::round(rt, is_bounded, threads, calls)?.0),
+        Task::Try(calls) => Ok(channels::round(rt, &line, threads, calls)?.0),
+    }
+}
+
+/// Does the task on the channel or queue that has this name.
+fn on_channel<R: Threads + Wait + Clock + Print + AllocGlobal + Sync>(
+    rt: &R,
+    task: Task,
+    threads: usize,
+    name: &str,
+) -> io::Result<u64> {
+    let (capacity, messages) = if name.ends_with("_one") {
+        (1, MESSAGES_ONE_BY_ONE)
+    } else {
+        (CAPACITY, MESSAGES)
+    };
+    match name {
+        "channel_unbounded" => {
+            let (sender, receiver) = unbounded(rt.alloc(), rt)?;
+            on_line(rt, task, threads, messages, Ends(sender, receiver))
+        }
+        "channel_bounded" | "channel_one" => {
+            let (sender, receiver) = bounded(rt.alloc(), rt, capacity)?;
+            on_line(rt, task, threads, messages, Ends(sender, receiver))
+        }
+        "condvar_bounded" | "condvar_one" => {
+            let queue = Queue::new(Messages::new(rt.alloc(), capacity)?);
+            on_line(rt, task, threads, messages, queue)
+        }
+        "std_condvar_bounded" | "std_condvar_one" => {
+            let queue = StdQueue::new(Messages::new(rt.alloc(), capacity)?);
+            on_line(rt, task, threads, messages, queue)
+        }
+        _ => on_alone(rt, task, threads, name),
     }
 }
 
@@ -244,9 +291,7 @@ fn on_name<R: Threads + Wait + Clock + Print + AllocGlobal + Sync>(
         "once_get" => on_case(rt, task, threads, Gets(complete(rt))),
         "std_mutex" => on_case(rt, task, threads, sync::Mutex::new(0u64)),
         "barrier_rounds" => on_case(rt, task, threads, Rounds::new(threads)),
-        "channel_bounded" => on_channel(rt, task, threads, true),
-        "channel_unbounded" => on_channel(rt, task, threads, false),
-        _ => on_alone(rt, task, threads, name),
+        _ => on_channel(rt, task, threads, name),
     }
 }
 

@@ -7,12 +7,13 @@ use flume::{bounded, unbounded, Receiver, Sender};
 
 const ROUNDS: usize = 3;
 const MESSAGES: u64 = 200_000;
+const MESSAGES_ONE_BY_ONE: u64 = 20_000;
 const CAPACITY: usize = 64;
 
 // Half of the threads send as many messages each, and half receive as many. Returns how many were received, and how many
 // nanoseconds that took.
-fn round((sender, receiver): (Sender<u64>, Receiver<u64>), threads: u64) -> (u64, u128) {
-    let share = MESSAGES / (threads / 2);
+fn round((sender, receiver): (Sender<u64>, Receiver<u64>), threads: u64, messages: u64) -> (u64, u128) {
+    let share = messages / (threads / 2);
     let start = Instant::now();
     let received = thread::scope(|scope| {
         let workers: Vec<_> = (0..threads)
@@ -40,14 +41,15 @@ fn round((sender, receiver): (Sender<u64>, Receiver<u64>), threads: u64) -> (u64
 }
 
 fn measure(name: &str, threads: u64) -> Option<()> {
-    let make = match name {
-        "channel_bounded" => || bounded(CAPACITY),
-        "channel_unbounded" => unbounded,
+    let (make, messages): (fn() -> _, _) = match name {
+        "channel_bounded" => (|| bounded(CAPACITY), MESSAGES),
+        "channel_one" => (|| bounded(1), MESSAGES_ONE_BY_ONE),
+        "channel_unbounded" => (unbounded, MESSAGES),
         _ => return None,
     };
     let mut sum = 0;
     for _ in 0..ROUNDS {
-        let (received, nanos) = round(make(), threads);
+        let (received, nanos) = round(make(), threads, messages);
         println!("{received} {nanos} 0 0");
         sum += received;
     }
@@ -66,7 +68,7 @@ fn main() -> ExitCode {
         _ => None,
     };
     if measured.is_none() {
-        eprintln!("usage: channel_bounded THREADS | channel_unbounded THREADS");
+        eprintln!("usage: channel_bounded THREADS | channel_one THREADS | channel_unbounded THREADS");
         return ExitCode::from(2);
     }
     ExitCode::SUCCESS
