@@ -7,7 +7,7 @@ mod locks;
 mod onces;
 mod rounds;
 
-pub use locks::{Adds, OneWriter, PassAdds, PassReaders, Readers, Starvers, Upgrades, Work, Works};
+pub use locks::{Adds, EventAdds, OneWriter, PassAdds, PassReaders, Readers, Starvers, Upgrades, Work, Works};
 pub use onces::{Alone, FirstCalls, Forces, Gets, LateCalls, complete};
 pub use rounds::Rounds;
 

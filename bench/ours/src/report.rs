@@ -1,6 +1,6 @@
 //! What the program does and prints.
 use crate::case::{
-    Adds, Alone, Case, FirstCalls, Floor, Forces, Gets, LateCalls, OneWriter, PassAdds,
+    Adds, Alone, Case, EventAdds, FirstCalls, Floor, Forces, Gets, LateCalls, OneWriter, PassAdds,
     PassReaders, Readers, Rounds, Starvers, Upgrades, Work, Works, complete,
 };
 use crate::channels::{self, Ends, Line, Messages, Queue, StdQueue};
@@ -50,13 +50,14 @@ const ALONE: [&str; 6] = [
 ];
 
 /// The cases of one thread or several, except `barrier_rounds`.
-const BESIDE: [&str; 15] = [
+const BESIDE: [&str; 16] = [
     "floor",
     "spin_mutex",
     "spin_mutex_pass",
     "mutex",
     "mutex_yield",
     "spin_mutex_sleep",
+    "spin_mutex_event",
     "mutex_sleep",
     "ticket_mutex",
     "fair_mutex",
@@ -282,6 +283,7 @@ fn on_name<R: Threads + Wait + Clock + Print + AllocGlobal + Sync>(
                 Adds(<SpinMutex<u64, YieldThenSleep>>::new(0)),
             )
         }
+        "spin_mutex_event" => on_case(rt, task, threads, EventAdds::new()),
         "ticket_mutex" => on_case(rt, task, threads, Adds(<TicketMutex<u64>>::new(0))),
         "fair_mutex" => on_case(rt, task, threads, Adds(<FairMutex<u64>>::new(0))),
         "rw_read" => on_case(rt, task, threads, Readers(RwLock::new(1))),

@@ -1,8 +1,9 @@
 //! The calls of the locks.
 use super::Case;
 use spin_core::lock::Lock;
+use spin_event::Event;
 use spin_fair::fair::FairMutex;
-use spin_flag::spin::SpinMutex;
+use spin_flag::spin::{SpinMutex, SpinMutexGuard};
 use spin_rwlock::rwlock::RwLock;
 use std::sync;
 use std::sync::Wait;
@@ -23,6 +24,53 @@ impl<L: Lock<u64> + Drop> Case for Adds<L> {
     /// Returns the number, or 0 if a call left the lock held.
     fn added(self) -> u64 {
         self.0.try_with(|sum| *sum).unwrap_or(0)
+    }
+}
+
+/// Like [`Adds`] of a `SpinMutex`, but a waiting call listens, spins for 2,000 hints, and then sleeps until a release.
+#[derive(Drop)]
+pub struct EventAdds {
+    lock: SpinMutex<u64>,
+    free: Event,
+}
+
+impl EventAdds {
+    pub fn new() -> EventAdds {
+        EventAdds {
+            lock: SpinMutex::new(0),
+            free: Event::new(),
+        }
+    }
+
+    fn lock<W: Wait>(&self, rt: &W) -> SpinMutexGuard<'_, u64> {
+        for _ in rt.forever() {
+            let heard = self.free.listen();
+            if let Some(guard) = self.lock.try_lock() {
+                return guard;
+            }
+            heard.wait(rt);
+        }
+        unreachable!()
+    }
+}
+
+impl Case for EventAdds {
+    #[inline(never)]
+    fn repeat<W: Wait>(&self, rt: &W, _worker: usize, calls: u64) -> u64 {
+        for _ in 0..calls {
+            let mut sum = match self.lock.try_lock() {
+                Some(guard) => guard,
+                None => self.lock(rt),
+            };
+            *sum = sum.wrapping_add(1);
+            drop(sum);
+            self.free.notify_one();
+        }
+        0
+    }
+
+    fn added(self) -> u64 {
+        self.lock.into_inner()
     }
 }
 
