@@ -9,7 +9,7 @@ pub use mutex::MutexGuard;
 pub use relax::{RelaxStrategy, Spin, Yield, YieldThenSleep};
 pub use rwlock::RwLockReadGuard;
 pub use spin_barrier::barrier;
-pub use spin_condvar::{Condvar, WaitTimeoutResult};
+pub use spin_condvar::{Condvar, Monitor, MonitorGuard, WaitTimeoutResult};
 pub use spin_core::{laws, relax};
 pub use spin_once::{lazylock, once};
 pub use spin_order as order;

@@ -11,12 +11,15 @@ ghost use Rattle.spin_channel.specs.Queues.{lets, Refuses, Lacks};
 use crate::err::{TryRecvError, TrySendError};
 use crate::kept::{Kept, Seen};
 use crate::queue::{Queue, Side};
-use spin_core::relax::{BACK_OFF_STEP, RelaxStrategy, Spin};
+use spin_core::relax::{RelaxStrategy, Spin};
 use spin_event::{Event, Heard};
 use spin_flag::spin::{SpinMutex, SpinMutexGuard};
 use spin_history::history::{History, Snapshot};
 use std::sync::Wait;
 use std::time::{Clock, Duration, Instant};
+
+// How many hints a thread gives before it looks again, the first time.
+const HINTS_BEFORE_SLEEP: u32 = 64;
 
 /// What the ends of a channel share: the queue, and two events on which they sleep.
 ///
@@ -54,7 +57,7 @@ impl<T, S: Kept, R: History> Shared<T, S, R> {
             return queue;
         }
         drop(queue);
-        Spin::pause(rt, BACK_OFF_STEP);
+        Spin::pause(rt, HINTS_BEFORE_SLEEP);
         self.queue.lock(rt)
     }
 

@@ -1,1 +1,2 @@
+pub mod Monitors
 pub mod Waits
