@@ -1,6 +1,5 @@
 """What the scripts do alike: their words, signs of life, programs, sources, workspaces. It needs Python 3.8."""
 
-import errno
 import os
 import re
 import subprocess
@@ -51,15 +50,8 @@ def words_of(says, accepted):
 def run(*words, text="", **how):
     """How a program ends: its status, what it writes, and what it says on standard error."""
     how = {"stdout": subprocess.PIPE, "stderr": subprocess.PIPE, "input": text, "cwd": TOP, "errors": "replace", **how}
-    while True:
-        try:
-            done = subprocess.run(words, text=True, **how)
-            return done.returncode, done.stdout or "", done.stderr or ""
-        except OSError as fault:
-            # A file that was just copied is busy while what another thread has forked still has it open to write.
-            if fault.errno != errno.ETXTBSY:
-                raise
-            time.sleep(0.05)
+    done = subprocess.run(words, text=True, **how)
+    return done.returncode, done.stdout or "", done.stderr or ""
 
 
 def at_once(job, *lists):
