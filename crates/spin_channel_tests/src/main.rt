@@ -40,12 +40,19 @@ fn pass<W: Wait + Copy>(
         }
         number = number.saturating_add(1);
     }
-    if first == 0 && number == count { Some(refused.saturating_add(again)) } else { None }
+    if first == 0 && number == count {
+        Some(refused.saturating_add(again))
+    } else {
+        None
+    }
 }
 
 fn main(rt: HostRuntime) -> ExitCode {
     let alloc = rt.alloc();
-    match (pass(bounded(alloc, rt, 5), alloc, 5), pass(unbounded(alloc, rt), alloc, 40)) {
+    match (
+        pass(bounded(alloc, rt, 5), alloc, 5),
+        pass(unbounded(alloc, rt), alloc, 40),
+    ) {
         (Some(0), Some(0)) => ExitCode::SUCCESS,
         (Some(_), Some(_)) => {
             let _ = eprintln!(rt; "out of memory").is_ok();
