@@ -5,19 +5,24 @@ use Rattle.spin_step.specs.Schedules.{Entry}
 use Rattle.spin_core.specs.Own.{Numbered}
 use Rattle.spin_core.specs.Spots.{Spot}
 use Rattle.spin_core.specs.Values.{IsLast}
-use Rattle.spin_core.specs.Writer.{writer_of}
+use Rattle.spin_core.specs.declared.cell.WritePermit.{WritePermit}
 use Rattle.spin_core.specs.declared.tie.Opening.{Opening}
-use Rattle.spin_core.specs.declared.guard.Guard.{Guard}
+use Rattle.spin_core.specs.declared.guard.Guard.{Guard as AGuard}
 use Rattle.spin_core.specs.declared.guard.Held.{Held}
 use Rattle.spin_core.specs.declared.guard.Uses.{Ghosts}
 use Rattle.spin_core.specs.declared.trace.Watch.{Watch}
 
+-- the guard of a party whose right to write is a permit
+abbrev pub Guard : (T V E P R K S : Type 0) → Type 0
+Guard T V E P R K S = AGuard (WritePermit T V P K S) E R T
+
+-- the guard with another right to write
+abbrev pub over : {W E R V : Type 0} → AGuard W E R V → W → AGuard W E R V
+over it writer = record { writer = writer; seen = it.seen; strategy = it.strategy }
+
 module _ {T V E P R K S : Type 0} where
   abbrev pub guard_value : Guard T V E P R K S → T
   guard_value it = it.writer.value
-
-  abbrev pub guard_with : Guard T V E P R K S → T → Guard T V E P R K S
-  guard_with it x = record { writer = writer_of it.writer x; seen = it.seen; strategy = it.strategy }
 
   -- the view of the guard's party
   abbrev pub guard_view : Guard T V E P R K S → V

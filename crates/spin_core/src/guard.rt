@@ -1,9 +1,11 @@
 //! The guard of a party that writes, and a hold without a guard, for any lock over a `Cell`. A lock
 //! implements [`Release`], and names its [`Guard`] and [`Held`] by type aliases. Begin at [`Release`].
 ghost use Rattle.std.specs.Prelude.{◌≡◌, Option, Some};
+ghost use Rattle.std.specs.Borrow.{Lends, sem};
 ghost use Rattle.spin_core.specs.Cell.{Use, writes, use_of};
 
 use crate::cell::{Left, Permit, Rule, WritePermit};
+use crate::relax::Strategy;
 use crate::tie::{Entry, Numbered, Opening};
 use crate::trace::{Knows, Watch};
 use std::marker::PhantomData;
@@ -36,6 +38,54 @@ pub trait Release<T, V>: Rule<T, V> + Uses<V> {
     ghost same: { (key : Self.Key) (view : Option V) → Self.use_at view ≡ use_of (Self.ways key).1 view };
 }
 
+/// The right to write the value of a lock, until it is released. A [`Guard`] keeps one.
+///
+/// # Contract
+/// `shown` is the value, and `with` is the right with another value in place of its own.
+pub trait Writes {
+    type Value;
+
+    // The value that may be written.
+    ghost shown: { Self → Self.Value };
+
+    // The right with this value in place of its own.
+    ghost with: { Self → Self.Value → Self };
+
+    /// Lends the value.
+    fn lend(&self) -> &Self::Value
+        ensures { result.now ≡ Self.shown self.now };
+
+    /// Lends the value. What is written replaces it (`writes_back`).
+    fn lend_mut(&mut self) -> &mut Self::Value
+        ensures* writes_back { sem 𝓛 (Lends Self.row Self.Value.row self.entry result (Self.with self.old)) }
+        ensures value { result.now ≡ Self.shown self.old };
+
+    /// Releases the lock.
+    fn release(self);
+}
+
+impl<T, V, P: Release<T, V>> Writes for WritePermit<'_, T, V, P> {
+    ghost use Rattle.spin_core.specs.Writer.{writer_of};
+
+    type Value = T;
+
+    ghost shown = { λ writer. writer.value };
+
+    ghost with = { writer_of };
+
+    fn lend(&self) -> &T {
+        self.get()
+    }
+
+    fn lend_mut(&mut self) -> &mut T {
+        self.get_mut()
+    }
+
+    fn release(self) {
+        let _left = P::release(self);
+    }
+}
+
 /// The guard of the one party that writes the value. Dropping it releases the lock.
 ///
 /// It gives access to the value by `Deref` and `DerefMut`. `R` is the strategy of the lock; the guard itself does not
@@ -44,10 +94,10 @@ pub trait Release<T, V>: Rule<T, V> + Uses<V> {
 /// # Contract
 /// `guard_value` is the lock's value. A read through the guard returns what was last written through it.
 #[must_use = "dropping the guard at once releases the lock: bind it, or write `drop(..)`"]
-pub struct Guard<'a, T, V, E, P: Release<T, V>, R> {
-    writer: WritePermit<'a, T, V, P>,
+pub struct Guard<W: Writes, E, R> {
+    writer: W,
     seen: Watch<E>,
-    strategy: PhantomData<R>,
+    strategy: Strategy<R>,
 }
 
 /// A hold on a lock: it keeps the lock held without a guard, and gives no access to the value.
@@ -65,22 +115,39 @@ pub struct Held<'a, T, V, E, P: Release<T, V>, R> {
     ghost holding: { P.use_at permit.view ≡ writes },
 }
 
-impl<'a, T, V, E, P: Release<T, V>, R> Guard<'a, T, V, E, P, R> {
-    ghost use Rattle.spin_core.specs.Guard.{guard_value, guard_view, guard_key, guard_seen, held_value, held_view, held_key, held_seen};
-
+impl<W: Writes, E, R> Guard<W, E, R> {
     /// Creates the guard of a party that acquired the lock.
     ///
     /// # Contract
     /// The guard has the permit `writer`, and knows what `seen` knows. The call returns.
-    pub fn new(writer: WritePermit<'a, T, V, P>, seen: Watch<E>) -> Self
-        ensures { (result.writer ≡ writer.entry) × (guard_seen result ≡ seen) }
+    pub fn new(writer: W, seen: Watch<E>) -> Self
+        ensures { (result.writer ≡ writer) × (result.seen ≡ seen) }
     {
         Guard {
             writer,
             seen,
-            strategy: PhantomData,
+            strategy: Strategy::named(),
         }
     }
+
+    /// Returns the permit of the guard's party, and what the party knows.
+    ///
+    /// # Contract
+    /// The permit is the guard's. The call returns.
+    pub fn into_parts(this: Self) -> (W, Watch<E>)
+        ensures { (result.0 ≡ this.writer) × (result.1 ≡ this.seen) }
+    {
+        let Guard {
+            writer,
+            seen,
+            strategy: _,
+        } = this;
+        (writer, seen)
+    }
+}
+
+impl<'a, T, V, E, P: Release<T, V>, R> Guard<WritePermit<'a, T, V, P>, E, R> {
+    ghost use Rattle.spin_core.specs.Guard.{guard_value, guard_view, guard_key, guard_seen, held_value, held_view, held_key, held_seen};
 
     /// Consumes the guard and returns a mutable reference to the value.
     ///
@@ -111,29 +178,11 @@ impl<'a, T, V, E, P: Release<T, V>, R> Guard<'a, T, V, E, P, R> {
             strategy: PhantomData,
         }
     }
-
-    /// Returns the permit of the guard's party, and what the party knows.
-    ///
-    /// # Contract
-    /// The permit is the guard's. The call returns.
-    pub fn into_parts(this: Self) -> (WritePermit<'a, T, V, P>, Watch<E>)
-        ensures { (result.0 ≡ this.entry.writer) × (result.1 ≡ guard_seen this.entry) }
-    {
-        let Guard {
-            writer,
-            seen,
-            strategy: _,
-        } = this;
-        (writer, seen)
-    }
 }
 
 impl<'a, T, X, C, P: Release<T, Numbered<X>, Key = Opening<T>>, R> Guard<
-    'a,
-    T,
-    Numbered<X>,
+    WritePermit<'a, T, Numbered<X>, P>,
     Entry<C, T>,
-    P,
     R,
 > {
     ghost use Rattle.spin_core.specs.Guard.{HasFound, Holds, guard_seen, guard_spot, guard_value};
@@ -175,12 +224,10 @@ impl<'a, T, X, C, P: Release<T, Numbered<X>, Key = Opening<T>>, R> Guard<
     }
 }
 
-impl<E, T, V, P: Release<T, V>, R> Knows<E> for Guard<'_, T, V, E, P, R> {
-    ghost use Rattle.spin_core.specs.Guard.{guard_seen};
+impl<W: Writes, E, R> Knows<E> for Guard<W, E, R> {
+    ghost of = { λ guard. guard.seen.name };
 
-    ghost of = { λ guard. (guard_seen guard).name };
-
-    ghost entries = { λ guard. (guard_seen guard).entries };
+    ghost entries = { λ guard. guard.seen.entries };
 
     fn known(&self) -> Watch<E> {
         self.seen.copy()
@@ -196,7 +243,7 @@ impl<'a, T, V, E, P: Release<T, V>, R> Held<'a, T, V, E, P, R> {
     ///
     /// # Contract
     /// The guard has the hold's value and its party (`value`, `party`). The call returns.
-    pub fn into_guard(self) -> Guard<'a, T, V, E, P, R>
+    pub fn into_guard(self) -> Guard<WritePermit<'a, T, V, P>, E, R>
         ensures value { Some (guard_value result) ≡ held_value self.entry }
         ensures party { (Some (guard_view result) ≡ held_view self.entry) × (guard_key result ≡ held_key self.entry) × (guard_seen result ≡ held_seen self.entry) }
     {
@@ -217,42 +264,36 @@ impl<'a, T, V, E, P: Release<T, V>, R> Held<'a, T, V, E, P, R> {
     }
 }
 
-impl<T, V, E, P: Release<T, V>, R> Deref for Guard<'_, T, V, E, P, R> {
-    ghost use Rattle.spin_core.specs.Guard.{guard_value};
+impl<W: Writes, E, R> Deref for Guard<W, E, R> {
+    type Target = W::Value;
 
-    type Target = T;
+    ghost deref_gives = { λ guard x. x ≡ W.shown guard.writer };
 
-    ghost deref_gives = { λ g x. x ≡ guard_value g };
-
-    fn deref(&self) -> &T
-        ensures { result.now ≡ guard_value self.now }
+    fn deref(&self) -> &W::Value
+        ensures { result.now ≡ W.shown self.now.writer }
     {
-        self.writer.get()
+        self.writer.lend()
     }
 }
 
-impl<T, V, E, P: Release<T, V>, R> DerefMut for Guard<'_, T, V, E, P, R> {
-    ghost use Rattle.std.specs.Prelude.{[]};
-    ghost use mir.Syntax.{named};
-    ghost use types.Logic.{sem};
-    ghost use denote.Follow.{follows};
+impl<W: Writes, E, R> DerefMut for Guard<W, E, R> {
     ghost use Rattle.spin_core.specs.contracts.guard.Guard.{the_row};
-    ghost use Rattle.spin_core.specs.Guard.{guard_value, guard_with};
+    ghost use Rattle.spin_core.specs.Guard.{over};
 
-    ghost deref_mut_gives = { λ g x. x ≡ guard_value g };
+    ghost deref_mut_gives = { λ guard x. x ≡ W.shown guard.writer };
 
-    fn deref_mut(&mut self) -> &mut T
-        ensures* writes_back { sem 𝓛 (follows (the_row (record { mir = named 1; lft = [] }) T.row V.row E.row P.row R.row P.Key.row P.Second.row P.Rule) T.row self.entry.ghost_name result.ghost_name (guard_with self.old)) }
-        ensures value { result.now ≡ guard_value self.old }
+    fn deref_mut(&mut self) -> &mut W::Value
+        ensures* writes_back { sem 𝓛 (Lends (the_row W.row E.row R.row W.Value.row) W.Value.row self.entry result (λ x. over self.old (W.with self.old.writer x))) }
+        ensures value { result.now ≡ W.shown self.old.writer }
     {
-        self.writer.get_mut()
+        self.writer.lend_mut()
     }
 }
 
-impl<T, V, E, P: Release<T, V>, R> Drop for Guard<'_, T, V, E, P, R> {
+impl<W: Writes, E, R> Drop for Guard<W, E, R> {
     fn drop(self) {
         let (writer, _) = Guard::into_parts(self);
-        let _left = P::release(writer);
+        writer.release();
     }
 }
 
@@ -261,12 +302,6 @@ impl<T, V, E, P: Release<T, V>, R> Drop for Held<'_, T, V, E, P, R> {
         Guard::leak(self.into_guard());
     }
 }
-
-// SAFETY: the new thread has the value to itself, like the old one.
-unsafe impl<T: Send, V, E, P: Release<T, V> + Sync, R> Send for Guard<'_, T, V, E, P, R> {}
-
-// SAFETY: a shared guard lends a `&T` and no more.
-unsafe impl<T: Sync, V, E, P: Release<T, V>, R> Sync for Guard<'_, T, V, E, P, R> {}
 
 // SAFETY: the new thread may release the lock, and so pass the value to its next user. The bounds are those of a guard.
 unsafe impl<T: Send, V, E, P: Release<T, V> + Sync, R> Send for Held<'_, T, V, E, P, R> {}

@@ -4,7 +4,7 @@ ghost use Rattle.spin_step.specs.declared.answer.Answer.TheVariants.{Granted};
 ghost use Rattle.spin_step_more.specs.declared.fair_calls.FairCall.TheVariants.{Lock, TryLock, TryLockStarver, Starve};
 ghost use Rattle.spin_fair.specs.FairPasses.{Calls, Ends, Grants, OpensWith, Settles, new_in, opening};
 
-use spin_core::cell::Cell;
+use spin_core::cell::{Cell, WritePermit};
 use spin_core::guard::{self, Guard};
 use spin_core::lock::{Acquire, Lock, Reserve, with_guard};
 use spin_core::relax::{RelaxStrategy, Spin, Strategy};
@@ -58,7 +58,7 @@ pub struct FairMutex<T, R = Spin> {
 ///
 /// # Contract
 /// `guard_value` is the value behind the guard. What is written through the guard is read through it.
-pub type FairMutexGuard<'a, T, R = Spin> = Guard<'a, T, Party, Entry<T>, FairRule, R>;
+pub type FairMutexGuard<'a, T, R = Spin> = Guard<WritePermit<'a, T, Party, FairRule>, Entry<T>, R>;
 
 /// A hold on a [`FairMutex`]: it keeps the lock without a guard, and gives no access to the value.
 ///

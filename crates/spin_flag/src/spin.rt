@@ -5,7 +5,7 @@ ghost use Rattle.spin_core.specs.Texts.{lock_text};
 ghost use Rattle.spin_step.specs.declared.flag_calls.FlagCall.TheVariants.{Lock, TryLock};
 ghost use Rattle.spin_flag.specs.Passes.{Ends, Grants, OpensWith, Settles, new_in, opening};
 
-use spin_core::cell::Cell;
+use spin_core::cell::{Cell, WritePermit};
 use spin_core::guard::{self, Guard};
 use spin_core::lock::{Acquire, Lock, with_guard};
 use spin_core::relax::{RelaxStrategy, Spin, Strategy};
@@ -70,7 +70,7 @@ pub struct SpinMutex<T, R = Spin> {
 /// push_up(&mut lock.lock(&rt), 5);
 /// assert_eq!(rt; lock.into_inner(), 6);
 /// ```
-pub type SpinMutexGuard<'a, T, R = Spin> = Guard<'a, T, Party, Entry<T>, FlagRule, R>;
+pub type SpinMutexGuard<'a, T, R = Spin> = Guard<WritePermit<'a, T, Party, FlagRule>, Entry<T>, R>;
 
 /// A hold on a [`SpinMutex`]: it keeps the lock without a guard, and gives no access to the value.
 ///

@@ -1,7 +1,7 @@
 -- What a pass of a `TicketMutex` knows, and what its calls do.
 use Rattle.std.specs.Prelude.{ℕ}
+use Rattle.spin_core.specs.Guard.{Guard}
 use Rattle.spin_core.specs.Own.{Numbered}
-use Rattle.spin_core.specs.declared.guard.Guard.{Guard}
 use Rattle.spin_core.specs.declared.tie.Opening.{Opening}
 use Rattle.spin_core.specs.declared.trace.Trace.{Trace}
 use Rattle.spin_step.specs.declared.answer.Answer.{Answer}

@@ -4,7 +4,7 @@ ghost use Rattle.std.specs.Fmt.{DisplaysOnOk};
 ghost use Rattle.spin_core.specs.Texts.{lock_text};
 ghost use Rattle.spin_mutex.specs.TicketPasses.{Ends, Grants, Lock, OpensAt, OpensWith, Settles, TryLock, new_in, opening};
 
-use spin_core::cell::Cell;
+use spin_core::cell::{Cell, WritePermit};
 use spin_core::guard::{self, Guard};
 use spin_core::lock::{Acquire, Lock, with_guard};
 use spin_core::relax::{RelaxStrategy, Spin, Strategy};
@@ -54,7 +54,7 @@ pub struct TicketMutex<T, R = Spin> {
 ///
 /// # Contract
 /// `guard_value` is the lock's value. What is written through the guard is read through it.
-pub type TicketMutexGuard<'a, T, R = Spin> = Guard<'a, T, Party, Entry<T>, TicketRule, R>;
+pub type TicketMutexGuard<'a, T, R = Spin> = Guard<WritePermit<'a, T, Party, TicketRule>, Entry<T>, R>;
 
 /// A hold on a [`TicketMutex`]: it keeps the lock without a guard, and gives no access to the value.
 ///

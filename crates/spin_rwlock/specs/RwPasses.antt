@@ -17,11 +17,10 @@ use Rattle.spin_session.specs.Turns as turns
 pub use Rattle.spin_session.specs.Passes.{◌⨾◌, After, Learns, history, lock_of, new_in, opening_of, party, OpensWith}
 use Rattle.spin_rwlock.specs.Rw.{Done, View, rw_meaning, rw_tables}
 pub use Rattle.spin_rwlock.specs.Guards.{HasFound, RwSpot, shared_spot, write_spot, KnowsItsSteps}
-use Rattle.spin_rwlock.specs.Guards.{shared_value, write_value}
+use Rattle.spin_rwlock.specs.Guards.{RwLockWriteGuard, shared_value, write_value}
 use Rattle.spin_rwlock.specs.declared.rwlock.RwLock.{RwLock}
 use Rattle.spin_rwlock.specs.declared.rwlock.reader.SharedGuard.{SharedGuard}
 use Rattle.spin_rwlock.specs.declared.rwlock.rule.Kind.{Ghosts}
-use Rattle.spin_rwlock.specs.declared.rwlock.writer.RwLockWriteGuard.{RwLockWriteGuard}
 
 -- what was fixed when a lock under any rule was made
 abbrev pub key_of : {T R V P K S : Type 0} → RwLock T R V P K S → K
@@ -70,16 +69,16 @@ module _ {T : Type 0} where
     abbrev pub Lends : RwCall → Answer (Unit {0}) → RwSpot T → SharedGuard T K R kind → Type 0
     Lends call answer before guard = let now = shared_spot guard in ShowsLast guard now × Calls call answer before now
 
-  module _ {R : Type 0} where
+  module _ {R P S : Type 0} where
     -- By this call the party at `before` is the writer with this guard, whose value is the one written last.
-    abbrev pub Grants : RwCall → RwSpot T → RwLockWriteGuard T R → Type 0
+    abbrev pub Grants : RwCall → RwSpot T → RwLockWriteGuard T R P S → Type 0
     Grants call before guard = let now = write_spot guard in KnowsItsSteps guard × IsLast (opening_of now) (history now) (write_value guard) × Calls call Granted before now
 
     -- The writer has written the guard's value, so this is the one written last, and has then made this call.
-    abbrev pub Unlocks : RwCall → RwLockWriteGuard T R → RwSpot T → Type 0
+    abbrev pub Unlocks : RwCall → RwLockWriteGuard T R P S → RwSpot T → Type 0
     Unlocks call guard now = Wrote call (write_value guard) (write_spot guard) now × IsLast (opening_of (write_spot guard)) (history now) (write_value guard)
 
-  module _ {R K : Type 0} {kind : Ghosts K} where
+  module _ {R P S K : Type 0} {kind : Ghosts K} where
     -- If the writer knows its lock's history, it has written its value, and has become the reader with this guard by this call.
-    abbrev pub Lowers : RwCall → RwLockWriteGuard T R → SharedGuard T K R kind → Type 0
+    abbrev pub Lowers : RwCall → RwLockWriteGuard T R P S → SharedGuard T K R kind → Type 0
     Lowers call writer reader = KnowsItsSteps writer → Unlocks call writer (shared_spot reader)

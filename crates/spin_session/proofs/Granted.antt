@@ -2,13 +2,12 @@
 use Rattle.std.proofs.Common.{◌≡◌, ℕ, true, Option, Some, sym, ap, ◌∙◌, subst}
 use Rattle.std.specs.Option.{IfSome}
 use Rattle.spin_core.specs.Cell.{writes, use_of}
-use Rattle.spin_core.specs.Guard.{guard_value}
+use Rattle.spin_core.specs.Guard.{Guard, guard_value}
 use Rattle.spin_core.specs.Own.{Numbered, what}
 use Rattle.spin_core.specs.Passes.{Course, Nothing, WritesSome, IsCall}
 use Rattle.spin_core.specs.Spots.{Since, Releases}
 use Rattle.spin_core.specs.Values.{IsLast}
 use Rattle.spin_core.proofs.tie.Passes as passes
-use Rattle.spin_core.specs.declared.guard.Guard.{Guard}
 use Rattle.spin_core.specs.declared.tie.Opening.{Opening}
 use Rattle.spin_step.specs.Acts.{Table}
 use Rattle.spin_step.specs.Schedules.{Entry}

@@ -1,13 +1,12 @@
 -- What a pass of a lock knows, and what its calls do. A pass in a contract is its spot: the opening of its lock, its party, and all moves in the
 -- lock up to the party's last step.
 use Rattle.std.specs.Prelude.{◌≡◌, ◌≢◌, ◌≤◌, ℕ, true, Option, length}
-use Rattle.spin_core.specs.Guard.{IsHolder, guard_key, guard_seen, guard_value}
+use Rattle.spin_core.specs.Guard.{Guard, IsHolder, guard_key, guard_seen, guard_value}
 use Rattle.spin_core.specs.Cell.{writes, use_of}
 use Rattle.spin_core.specs.Own.{Numbered, what}
 use Rattle.spin_core.specs.Passes.{HasNumber, IsCall, WritesSome, own_mark}
 use Rattle.spin_core.specs.Spots.{Since}
 use Rattle.spin_core.specs.Values.{IsLast}
-use Rattle.spin_core.specs.declared.guard.Guard.{Guard}
 use Rattle.spin_core.specs.declared.tie.Opening.{Opening}
 use Rattle.spin_step.specs.Acts.{Table}
 use Rattle.spin_step.specs.Schedules.{Entry}

@@ -42,11 +42,8 @@ pub type SessionOf<'a, T, P> = Session<
 
 /// The guard of a party that writes the value of such a lock.
 pub type GuardOf<'a, T, P, R> = Guard<
-    'a,
-    T,
-    Party<<P as Runs<T>>::Call, <P as Runs<T>>::Point>,
+    WritePermit<'a, T, Party<<P as Runs<T>>::Call, <P as Runs<T>>::Point>, P>,
     Entry<<P as Runs<T>>::Call, T>,
-    P,
     R,
 >;
 

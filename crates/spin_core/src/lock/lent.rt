@@ -1,9 +1,9 @@
 //! A trait of guards of a writer, for code over any of them. Begin with [`Lent`].
 ghost use Rattle.std.specs.Prelude.{◌≡◌};
 ghost use Rattle.std.specs.Borrow.{Lends, sem};
-ghost use Rattle.spin_core.specs.Guard.{guard_value, guard_with};
+ghost use Rattle.spin_core.specs.Guard.{over};
 
-use crate::guard::{Guard, Release};
+use crate::guard::{Guard, Writes};
 use std::ops::DerefMut;
 
 /// A guard of a writer: what is written through it replaces the value that it shows.
@@ -30,16 +30,16 @@ pub trait Lent: DerefMut {
         ensures value { result.now ≡ Self.shown self.old };
 }
 
-impl<T, V, E, P: Release<T, V>, R> Lent for Guard<'_, T, V, E, P, R> {
-    ghost shown = { guard_value };
+impl<W: Writes, E, R> Lent for Guard<W, E, R> {
+    ghost shown = { λ guard. W.shown guard.writer };
 
-    ghost leaving = { guard_with };
+    ghost leaving = { λ guard x. over guard (W.with guard.writer x) };
 
-    fn whole(&self) -> &T {
+    fn whole(&self) -> &W::Value {
         &**self
     }
 
-    fn whole_mut(&mut self) -> &mut T {
+    fn whole_mut(&mut self) -> &mut W::Value {
         &mut **self
     }
 }

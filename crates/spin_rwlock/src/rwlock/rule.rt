@@ -1,16 +1,18 @@
 //! The rule of the cell of an `RwLock`, which runs the table of a read-write lock. Begin at [`RwRule`].
-ghost use Rattle.std.specs.Prelude.{◌≡◌};
+ghost use Rattle.std.specs.Prelude.{◌≡◌, refl};
+ghost use Rattle.spin_core.specs.Cell.{use_of};
 ghost use Rattle.spin_core.specs.Values.{untold};
-ghost use Rattle.spin_session.specs.Meaning.{ways_of};
+ghost use Rattle.spin_session.specs.Meaning.{use_of_party, ways_of};
 ghost use Rattle.spin_step.specs.declared.place.Hold.{Hold as AHold};
 ghost use Rattle.spin_step.specs.declared.place.Hold.TheVariants as hold;
 ghost use Rattle.spin_rwlock.specs.Rw.{IsRw, Comes, call_of, downgrade_to, rw_meaning, rw_tables};
 
-use spin_core::cell::{Rule, WritePermit};
+use spin_core::cell::{Left, Rule, WritePermit};
+use spin_core::guard::{Release, Uses};
 use spin_core::relax::MAX_BACK_OFF;
 use spin_core::tie::Opening;
-use spin_core::trace::Trace;
-use spin_session::calls::SessionOf;
+use spin_core::trace::{Trace, Watch};
+use spin_session::calls::{SessionOf, finish, give};
 use spin_session::table::{self, Ahead, Runs};
 use spin_session_more::leaps::Leaps;
 use spin_step::{Answer, Hold, Next, Operation, Steps};
@@ -120,6 +122,19 @@ impl<T> Runs<T> for RwRule<T> {
     }
 
     fn laws() {}
+}
+
+impl<T> Uses<Party> for RwRule<T> {
+    ghost use_at = { use_of (use_of_party rw_meaning) };
+}
+
+impl<'a, T> Release<'a, T, Party> for RwRule<T> {
+    fn release(writer: WritePermit<'a, T, Party, RwRule<T>>) -> Left<'a, T, Party, RwRule<T>> {
+        let (seen, release) = (Watch::nothing(), RwCall::Release);
+        finish(give::<T, RwRule<T>>(writer, seen, release, Hold::Write, None))
+    }
+
+    ghost same = { λ key view. refl };
 }
 
 impl<T> Leaps<T> for RwRule<T> {

@@ -1,28 +1,35 @@
 //! The writer's guard, and its hold without a guard. Begin at [`RwLockWriteGuard`].
 ghost use Rattle.std.specs.Prelude.{◌≡◌, ◌≢◌, ℕ, Some};
-ghost use Rattle.spin_core.specs.Cell.{off, use_of, writes};
+ghost use Rattle.std.specs.Borrow.{Lends, sem};
+ghost use Rattle.spin_core.specs.Cell.{off};
 ghost use Rattle.spin_step.specs.declared.answer.Answer.TheVariants.{Granted};
 ghost use Rattle.spin_step.specs.declared.place.Hold.TheVariants.{Write};
 ghost use Rattle.spin_step.specs.Schedules.{resting};
 ghost use Rattle.spin_step_more.specs.declared.rw_calls.RwCall.{RwCall as ACall};
 ghost use Rattle.spin_step_more.specs.declared.rw_calls.RwCall.TheVariants.{Downgrade, DowngradeToUpgradeable};
-ghost use Rattle.spin_session.specs.Meaning.{use_at, use_of_party};
+ghost use Rattle.spin_session.specs.Meaning.{use_at};
 ghost use Rattle.spin_session.specs.Turns.{SeesLast, Stands, spot_of};
 ghost use Rattle.spin_rwlock.specs.Rw.{MayLeave, downgrade_to, rw_meaning};
 
 use super::reader::{RwLockReadGuard, SharedGuard};
 use super::rule::{Entry, Kind, Party, RwRule, RwSession, Writer, downgrade_to};
 use super::upgradable::RwLockUpgradableGuard;
-use spin_core::cell::{Permit, WritePermit};
+use spin_core::guard::{Guard, Held};
 use spin_core::lock::Lent;
 use spin_core::relax::Spin;
 use spin_core::trace::{Knows, Watch};
-use spin_session::calls::{finish, give};
+use spin_session::calls::{GuardOf, give};
 use spin_session::session::Session;
 use spin_step::Hold;
 use spin_step_more::rw_calls::RwCall;
-use std::marker::PhantomData;
 use std::ops::{Deref, DerefMut};
+
+/// The guard of a writer, over the guard that releases the lock.
+#[must_use = "dropping the guard at once releases the lock: bind it, or write `drop(..)`"]
+#[derive(Drop)]
+pub struct WriteGuard<G> {
+    guard: G,
+}
 
 /// The guard of the writer of an [`RwLock`](super::RwLock). Dropping it releases the exclusive access.
 ///
@@ -30,12 +37,7 @@ use std::ops::{Deref, DerefMut};
 ///
 /// # Contract
 /// `write_value` is the lock's value. What is written through the guard is read through it.
-#[must_use = "dropping the guard at once releases the lock: bind it, or write `drop(..)`"]
-pub struct RwLockWriteGuard<'a, T, R = Spin> {
-    writer: WritePermit<'a, T, Party, RwRule<T>>,
-    seen: Watch<Entry<T>>,
-    strategy: PhantomData<R>,
-}
+pub type RwLockWriteGuard<'a, T, R = Spin> = WriteGuard<GuardOf<'a, T, RwRule<T>, R>>;
 
 /// The writer's hold on an `RwLock`: it keeps the exclusive access without a guard, and shows no value.
 ///
@@ -43,28 +45,17 @@ pub struct RwLockWriteGuard<'a, T, R = Spin> {
 /// release the access.
 ///
 /// # Contract
-/// The hold's party still writes (`writing`). `write_held_value` is the value that the guard had.
+/// The hold's party still writes. `write_held_value` is the value that the guard had.
 #[must_use = "dropping a hold does not release the lock: pass it to `force_write_unlock`"]
+#[derive(Drop)]
 pub struct WriteHeld<'a, T, R = Spin> {
-    permit: Permit<'a, T, Party, RwRule<T>>,
-    seen: Watch<Entry<T>>,
-    strategy: PhantomData<R>,
-    ghost writing: { use_of (use_of_party rw_meaning) permit.view ≡ writes },
+    held: Held<'a, T, Party, Entry<T>, RwRule<T>, R>,
 }
 
 impl<'a, T, R> RwLockWriteGuard<'a, T, R> {
+    ghost use Rattle.spin_core.specs.Guard.{guard_key};
     ghost use Rattle.spin_rwlock.specs.Guards.{HasFound, RwSpot, shared_value, write_value, write_held_value, shared_spot, write_spot, write_held_spot, KnowsItsSteps};
     ghost use Rattle.spin_rwlock.specs.RwPasses.{Calls, Grants, Learns, Lowers, Unlocks, lock_of};
-
-    fn new(writer: Writer<'a, T>, seen: Watch<Entry<T>>) -> Self
-        ensures { (result.writer ≡ writer.entry) × (result.seen ≡ seen) }
-    {
-        RwLockWriteGuard {
-            writer,
-            seen,
-            strategy: PhantomData,
-        }
-    }
 
     // Returns the guard of this party. A call by which the party came here has granted it.
     pub(super) fn written(session: RwSession<'a, T>) -> Self
@@ -73,7 +64,9 @@ impl<'a, T, R> RwLockWriteGuard<'a, T, R> {
         ensures grants { SeesLast session.entry → (call : ACall) (before : RwSpot T) → Calls call Granted before (spot_of session.entry) → Grants call before result }
     {
         let Session { permit, seen } = session;
-        Self::new(permit.into_writer(), seen)
+        WriteGuard {
+            guard: Guard::new(permit.into_writer(), seen),
+        }
     }
 
     /// Becomes a reader. Other readers are then admitted too. It never fails.
@@ -140,16 +133,13 @@ impl<'a, T, R> RwLockWriteGuard<'a, T, R> {
 
     // Makes a call by which the party no longer writes.
     pub(super) fn leave(self, call: RwCall, after: Option<Hold>) -> RwSession<'a, T>
-        requires { MayLeave call after self.writer.key }
+        requires { MayLeave call after (guard_key self.guard) }
         ensures stands { Stands after result }
         ensures made { KnowsItsSteps self.entry → Unlocks call self.entry (spot_of result) }
         ensures same { use_at rw_meaning (resting after) ≢ off → result.permit.value ≡ Some (write_value self.entry) }
     {
-        let Self {
-            writer,
-            seen,
-            strategy: _,
-        } = self;
+        let Self { guard } = self;
+        let (writer, seen) = Guard::into_parts(guard);
         let known = watch_of(&writer, &seen);
         give::<T, RwRule<T>>(writer, known, call, Hold::Write, after)
     }
@@ -163,8 +153,8 @@ impl<'a, T, R> RwLockWriteGuard<'a, T, R> {
     pub fn leak(this: Self) -> &'a mut T
         ensures { result.now ≡ write_value this.entry }
     {
-        let (writer, _) = this.into_parts();
-        writer.leak()
+        let Self { guard } = this;
+        Guard::leak(guard)
     }
 
     /// Consumes the guard and keeps the lock held.
@@ -187,11 +177,9 @@ impl<'a, T, R> RwLockWriteGuard<'a, T, R> {
         ensures value { write_held_value result ≡ Some (write_value this.entry) }
         ensures party { write_held_spot result ≡ write_spot this.entry }
     {
-        let (writer, seen) = this.into_parts();
+        let Self { guard } = this;
         WriteHeld {
-            permit: writer.into_permit(),
-            seen,
-            strategy: PhantomData,
+            held: Guard::hold(guard),
         }
     }
 
@@ -209,9 +197,10 @@ impl<'a, T, R> RwLockWriteGuard<'a, T, R> {
         ensures same { write_value result ≡ write_value this.entry }
         ensures learns { Learns (K.entries earlier.now) (write_spot this.entry) (write_spot result) }
     {
-        let (writer, seen) = this.into_parts();
-        let known = seen.later(&earlier.known());
-        Self::new(writer, known)
+        let Self { guard } = this;
+        WriteGuard {
+            guard: Guard::after(guard, earlier),
+        }
     }
 
     /// States that the guard's party found this value. It does nothing when it runs.
@@ -229,29 +218,15 @@ impl<'a, T, R> RwLockWriteGuard<'a, T, R> {
         let _ = this;
         let _ = value;
     }
-
-    fn into_parts(self) -> (Writer<'a, T>, Watch<Entry<T>>)
-        ensures { (result.0 ≡ self.entry.writer) × (result.1 ≡ self.entry.seen) }
-    {
-        let Self {
-            writer,
-            seen,
-            strategy: _,
-        } = self;
-        (writer, seen)
-    }
 }
 
-impl<T, R> Knows<Entry<T>> for RwLockWriteGuard<'_, T, R> {
-    ghost use Rattle.spin_rwlock.specs.Guards.{write_spot};
-    ghost use Rattle.spin_rwlock.specs.RwPasses.{history, lock_of};
+impl<E, G: Knows<E>> Knows<E> for WriteGuard<G> {
+    ghost of = { λ it. G.of it.guard };
 
-    ghost of = { λ guard. lock_of (write_spot guard) };
+    ghost entries = { λ it. G.entries it.guard };
 
-    ghost entries = { λ guard. history (write_spot guard) };
-
-    fn known(&self) -> Watch<Entry<T>> {
-        self.seen.copy()
+    fn known(&self) -> Watch<E> {
+        self.guard.known()
     }
 }
 
@@ -268,12 +243,10 @@ impl<'a, T, R> WriteHeld<'a, T, R> {
         ensures value { Some (write_value result) ≡ write_held_value self.entry }
         ensures party { write_spot result ≡ write_held_spot self.entry }
     {
-        let Self {
-            permit,
-            seen,
-            strategy: _,
-        } = self;
-        RwLockWriteGuard::new(permit.into_writer(), seen)
+        let Self { held } = self;
+        WriteGuard {
+            guard: held.into_guard(),
+        }
     }
 }
 
@@ -286,79 +259,41 @@ fn watch_of<T>(writer: &Writer<'_, T>, seen: &Watch<Entry<T>>) -> Watch<Entry<T>
     seen.under()
 }
 
-impl<T, R> Deref for RwLockWriteGuard<'_, T, R> {
-    ghost use Rattle.spin_rwlock.specs.Guards.{write_value};
+impl<G: Lent> Deref for WriteGuard<G> {
+    type Target = G::Target;
 
-    type Target = T;
+    ghost deref_gives = { λ it x. x ≡ G.shown it.guard };
 
-    ghost deref_gives = { λ g x. x ≡ write_value g };
-
-    fn deref(&self) -> &T
-        ensures { result.now ≡ write_value self.now }
+    fn deref(&self) -> &G::Target
+        ensures { result.now ≡ G.shown self.now.guard }
     {
-        self.writer.get()
+        self.guard.whole()
     }
 }
 
-impl<T, R> DerefMut for RwLockWriteGuard<'_, T, R> {
-    ghost use Rattle.std.specs.Prelude.{[]};
-    ghost use mir.Syntax.{named};
-    ghost use types.Logic.{sem};
-    ghost use denote.Follow.{follows};
-    ghost use Rattle.spin_rwlock.specs.contracts.rwlock.writer.RwLockWriteGuard.{the_row};
-    ghost use Rattle.spin_rwlock.specs.Guards.{write_value, write_with};
+impl<G: Lent> DerefMut for WriteGuard<G> {
+    ghost use Rattle.spin_rwlock.specs.contracts.rwlock.writer.WriteGuard.{the_row};
 
-    ghost deref_mut_gives = { λ g x. x ≡ write_value g };
+    ghost deref_mut_gives = { λ it x. x ≡ G.shown it.guard };
 
-    fn deref_mut(&mut self) -> &mut T
-        ensures* writes_back { sem 𝓛 (follows (the_row (record { mir = named 1; lft = [] }) T.row R.row) T.row self.entry.ghost_name result.ghost_name (write_with self.old)) }
-        ensures value { result.now ≡ write_value self.old }
+    fn deref_mut(&mut self) -> &mut G::Target
+        ensures* writes_back { sem 𝓛 (Lends (the_row G.row) G.Target.row self.entry result (λ x. record { guard = G.leaving self.old.guard x })) }
+        ensures value { result.now ≡ G.shown self.old.guard }
     {
-        self.writer.get_mut()
+        self.guard.whole_mut()
     }
 }
 
-impl<T, R> Lent for RwLockWriteGuard<'_, T, R> {
-    ghost use Rattle.spin_rwlock.specs.Guards.{write_value, write_with};
+impl<G: Lent> Lent for WriteGuard<G> {
+    ghost shown = { λ it. G.shown it.guard };
 
-    ghost shown = { write_value };
+    ghost leaving = { λ it x. record { guard = G.leaving it.guard x } };
 
-    ghost leaving = { write_with };
-
-    fn whole(&self) -> &T {
+    fn whole(&self) -> &G::Target {
         &**self
     }
 
-    fn whole_mut(&mut self) -> &mut T {
+    fn whole_mut(&mut self) -> &mut G::Target {
         &mut **self
     }
 }
-
-impl<T, R> Drop for RwLockWriteGuard<'_, T, R> {
-    fn drop(self) {
-        let _left = finish(self.leave(RwCall::Release, None));
-    }
-}
-
-impl<T, R> Drop for WriteHeld<'_, T, R> {
-    fn drop(self) {
-        let Self {
-            permit,
-            seen: _,
-            strategy: _,
-        } = self;
-        permit.leak();
-    }
-}
-
-// SAFETY: the new thread has the value to itself, and may become one reader among others.
-unsafe impl<T: Send + Sync, R> Send for RwLockWriteGuard<'_, T, R> {}
-
-// SAFETY: a shared reference to a guard lends a `&T` and no more.
-unsafe impl<T: Sync, R> Sync for RwLockWriteGuard<'_, T, R> {}
-
-// SAFETY: the new thread releases the lock, and so passes the value to its next user. The bounds are those of a guard.
-unsafe impl<T: Send + Sync, R> Send for WriteHeld<'_, T, R> {}
-
-// SAFETY: a shared reference to a hold lends nothing. The bounds are those of the lock.
-unsafe impl<T: Send + Sync, R> Sync for WriteHeld<'_, T, R> {}

@@ -2,7 +2,7 @@ use Rattle.std.proofs.Common.{sym, subst}
 use Rattle.spin_session.specs.Turns.{spot_of}
 use Rattle.spin_rwlock.specs.Rw.{downgrade_to}
 use Rattle.spin_rwlock.specs.RwPasses.{Unlocks}
-use Rattle.spin_rwlock.proofs.rwlock.writer.RwLockWriteGuard.lend.Goals as goal
+use Rattle.spin_rwlock.proofs.rwlock.writer.RwLockWriteGuard+T+R.lend.Goals as goal
 
 pub returns-clause-made : goal.returns-clause-made
 returns-clause-made g c holds =
