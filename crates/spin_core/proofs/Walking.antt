@@ -13,7 +13,7 @@ use prog.Wp.{Closed}
 use types.Logic.{Logic, sem}
 use types.Kit.{Seq, Go, ‵, raw, ◌⊛◌, split, ◌$◌, ◌∵◌, !, qed, by, move, use0, use1, allocs, params', runs, at_ret}
 use types.Run.{enter}
-use denote.Exit.{rest, no}
+use denote.Exit.{rest}
 use denote.RattleType.{RattleType, Denots, Valss, flat, owns}
 use denote.Laws.{Spells, Tells, Tellss, Is, Ises, Are, valss}
 use denote.Signature.{Signature, Slot, types_at, type_at}
@@ -27,9 +27,6 @@ use denote.Triple.Entry.{Args, Res}
 use denote.Triple.Spec.{Meets}
 use denote.Triple.Walked.{Stays, Silent, AllGo, stay_dropped, Goes-dropped, fits_of, has_of, walk_of}
 use Rattle.atomic_table.proofs.Walks.{proved, leaves}
-use mir.Raw.{raw as raw_type}
-use denote.Param.{arg, layout}
-use denote.Param.Laws.{Laws as ParamLaws, arg_laws}
 
 -- the tokens of lifetimes
 abbrev pub others : (n : ℕ) → Lfts n → Shares n → Fml
@@ -127,10 +124,3 @@ module _ {M : Type 1} {𝓤 : Ura M} (𝓛 : Logic 𝓤) (T : Ended) (c : Clause
       use1 𝓛 (‵ (others S.lifetimes κs qs)) (subst (λ (P : SProp 𝓤). ent 𝓤 P (sem 𝓛 (others S.lifetimes κs qs))) held (id⊢ 𝓤 _)) $
       enter ! 𝓣.C 𝓣.Λ e (flat Rs vss) Post $
       walk κs qs outlive a g are Post (λ v r. subst (λ (P : SProp 𝓤). ent 𝓤 (sep 𝓤 P (Last v r)) (Post v)) (sym held) (out v r)))
-
--- a type that is passed, with its laws, to a function that is generic in it
-abbrev pub passed : RattleType → RattleType
-passed A = arg (raw_type (layout A)) no A
-
-abbrev pub passed_laws : (A : RattleType) → ParamLaws A → raw_type (raw_type (layout A)) ≡ raw_type (layout A) → ParamLaws (passed A)
-passed_laws A = arg_laws (raw_type (layout A)) no A

@@ -54,7 +54,11 @@ pub struct TicketMutex<T, R = Spin> {
 ///
 /// # Contract
 /// `guard_value` is the lock's value. What is written through the guard is read through it.
-pub type TicketMutexGuard<'a, T, R = Spin> = Guard<WritePermit<'a, T, Party, TicketRule>, Entry<T>, R>;
+pub type TicketMutexGuard<'a, T, R = Spin> = Guard<
+    WritePermit<'a, T, Party, TicketRule>,
+    Entry<T>,
+    R,
+>;
 
 /// A hold on a [`TicketMutex`]: it keeps the lock without a guard, and gives no access to the value.
 ///

@@ -128,8 +128,10 @@ impl<T> Uses<Party> for RwRule<T> {
     ghost use_at = { use_of (use_of_party rw_meaning) };
 }
 
-impl<'a, T> Release<'a, T, Party> for RwRule<T> {
-    fn release(writer: WritePermit<'a, T, Party, RwRule<T>>) -> Left<'a, T, Party, RwRule<T>> {
+impl<T> Release<T, Party> for RwRule<T> {
+    fn release<'a>(writer: WritePermit<'a, T, Party, RwRule<T>>) -> Left<'a, T, Party, RwRule<T>>
+        ensures { result.0 ≡ writer.entry.key }
+    {
         let (seen, release) = (Watch::nothing(), RwCall::Release);
         finish(give::<T, RwRule<T>>(writer, seen, release, Hold::Write, None))
     }

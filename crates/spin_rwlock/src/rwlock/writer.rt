@@ -18,13 +18,13 @@ use spin_core::guard::{Guard, Held};
 use spin_core::lock::Lent;
 use spin_core::relax::Spin;
 use spin_core::trace::{Knows, Watch};
-use spin_session::calls::{GuardOf, give};
+use spin_session::calls::give;
 use spin_session::session::Session;
 use spin_step::Hold;
 use spin_step_more::rw_calls::RwCall;
 use std::ops::{Deref, DerefMut};
 
-/// The guard of a writer, over the guard that releases the lock.
+/// The guard of a writer, over the guard `G` that releases the lock. It adds what a writer can become.
 #[must_use = "dropping the guard at once releases the lock: bind it, or write `drop(..)`"]
 #[derive(Drop)]
 pub struct WriteGuard<G> {
@@ -37,7 +37,7 @@ pub struct WriteGuard<G> {
 ///
 /// # Contract
 /// `write_value` is the lock's value. What is written through the guard is read through it.
-pub type RwLockWriteGuard<'a, T, R = Spin> = WriteGuard<GuardOf<'a, T, RwRule<T>, R>>;
+pub type RwLockWriteGuard<'a, T, R = Spin> = WriteGuard<Guard<Writer<'a, T>, Entry<T>, R>>;
 
 /// The writer's hold on an `RwLock`: it keeps the exclusive access without a guard, and shows no value.
 ///

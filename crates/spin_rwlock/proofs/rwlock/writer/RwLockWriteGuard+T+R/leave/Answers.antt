@@ -12,4 +12,4 @@ returns-clause-made g c holds =
     let knows : k.result ≡ seen = λ i. record { marker = record {}; name = (k.ensures.0 ∙ named) i; entries = k.ensures.1 (sym named) i } in
     let within = subst (λ s. writer.view.2 ≤ length s.entries) (sym knows) upto in
     rw (← w.0, ← w.1) (subst (λ s. Wrote c.args.call writer.value (writer.key, Some writer.view, s) now × IsLast writer.key now.2.entries writer.value) knows
-        (c.give.ensures.releases (sym k.ensures.0) within))
+    (c.give.ensures.releases (sym k.ensures.0) within))
