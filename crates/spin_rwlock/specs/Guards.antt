@@ -1,6 +1,6 @@
 -- The value of a guard, and what the party of a guard knows of the history.
-use Rattle.std.specs.Prelude.{Option}
-use Rattle.spin_core.specs.Guard.{Guard, guard_spot, guard_value, held_key, held_seen, held_value, held_view}
+use Rattle.std.specs.Prelude.{Option, Some}
+use Rattle.spin_core.specs.Guard.{Guard, guard_spot, guard_value}
 use Rattle.spin_core.specs.Guard as core
 use Rattle.spin_core.specs.Own.{Numbered}
 use Rattle.spin_core.specs.declared.tie.Opening.{Opening}
@@ -34,14 +34,14 @@ module _ {T R : Type 0} where
 
   -- the value that the hold's release leaves
   abbrev pub write_held_value : WriteHeld T R → Option T
-  write_held_value it = held_value it.held
+  write_held_value it = Some (guard_value it.guard)
 
   -- the spot of a hold's party
   abbrev pub read_held_spot : ReadHeld T R → RwSpot T
   read_held_spot it = spot_of it.session
 
   abbrev pub write_held_spot : WriteHeld T R → RwSpot T
-  write_held_spot it = (held_key it.held, held_view it.held, held_seen it.held)
+  write_held_spot it = guard_spot it.guard
 
 -- the writer's guard, over a guard of a lock under any rule
 abbrev pub RwLockWriteGuard : (T R P S : Type 0) → Type 0

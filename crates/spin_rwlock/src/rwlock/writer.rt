@@ -12,9 +12,9 @@ ghost use Rattle.spin_session.specs.Turns.{SeesLast, Stands, spot_of};
 ghost use Rattle.spin_rwlock.specs.Rw.{MayLeave, downgrade_to, rw_meaning};
 
 use super::reader::{RwLockReadGuard, SharedGuard};
-use super::rule::{Entry, Kind, Party, RwRule, RwSession, Writer, downgrade_to};
+use super::rule::{Entry, Kind, RwRule, RwSession, Writer, downgrade_to};
 use super::upgradable::RwLockUpgradableGuard;
-use spin_core::guard::{Guard, Held};
+use spin_core::guard::Guard;
 use spin_core::lock::Lent;
 use spin_core::relax::Spin;
 use spin_core::trace::{Knows, Watch};
@@ -47,9 +47,8 @@ pub type RwLockWriteGuard<'a, T, R = Spin> = WriteGuard<Guard<Writer<'a, T>, Ent
 /// # Contract
 /// The hold's party still writes. `write_held_value` is the value that the guard had.
 #[must_use = "dropping a hold does not release the lock: pass it to `force_write_unlock`"]
-#[derive(Drop)]
 pub struct WriteHeld<'a, T, R = Spin> {
-    held: Held<'a, T, Party, Entry<T>, RwRule<T>, R>,
+    guard: Guard<Writer<'a, T>, Entry<T>, R>,
 }
 
 impl<'a, T, R> RwLockWriteGuard<'a, T, R> {
@@ -178,9 +177,7 @@ impl<'a, T, R> RwLockWriteGuard<'a, T, R> {
         ensures party { write_held_spot result ≡ write_spot this.entry }
     {
         let Self { guard } = this;
-        WriteHeld {
-            held: Guard::hold(guard),
-        }
+        WriteHeld { guard }
     }
 
     /// Returns this guard, which then also knows what the other knows. It does nothing when it runs.
@@ -243,10 +240,8 @@ impl<'a, T, R> WriteHeld<'a, T, R> {
         ensures value { Some (write_value result) ≡ write_held_value self.entry }
         ensures party { write_spot result ≡ write_held_spot self.entry }
     {
-        let Self { held } = self;
-        WriteGuard {
-            guard: held.into_guard(),
-        }
+        let Self { guard } = self;
+        WriteGuard { guard }
     }
 }
 
@@ -295,5 +290,12 @@ impl<G: Lent> Lent for WriteGuard<G> {
 
     fn whole_mut(&mut self) -> &mut G::Target {
         &mut **self
+    }
+}
+
+impl<T, R> Drop for WriteHeld<'_, T, R> {
+    fn drop(self) {
+        let Self { guard } = self;
+        Guard::leak(guard);
     }
 }
