@@ -3,3 +3,4 @@ pub mod Lemmas
 pub mod WalkSteps
 pub mod Walking
 pub mod WalkNames
+pub mod Plain

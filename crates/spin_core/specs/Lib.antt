@@ -14,3 +14,4 @@ pub mod Passes
 pub mod Spots
 pub mod Values
 pub mod Logs
+pub mod Known

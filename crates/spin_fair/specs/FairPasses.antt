@@ -1,10 +1,14 @@
 -- What a pass of a `FairMutex` knows, and what its calls do. A `Starvation` is a pass that holds a registration.
 use Rattle.std.specs.Prelude.{ℕ}
+use base.Fml.{Fml}
+use denote.RattleType.{RattleType}
 use Rattle.spin_core.specs.Guard.{Guard}
 use Rattle.spin_core.specs.Own.{Numbered}
 use Rattle.spin_core.specs.declared.tie.Opening.{Opening}
 use Rattle.spin_core.specs.declared.trace.Trace.{Trace}
+use Rattle.spin_core.specs.declared.trace.Watch.{Watch}
 use Rattle.spin_step.specs.declared.answer.Answer.{Answer}
+use Rattle.spin_step_more.specs.contracts.fair_calls.FairCall as call
 use Rattle.spin_step_more.specs.declared.fair_calls.FairCall.{FairCall}
 use Rattle.spin_step_more.specs.declared.fair_calls.FairCall.TheVariants.{Release}
 use Rattle.spin_step_more.specs.declared.fair_calls.FairPoint.{FairPoint}
@@ -30,7 +34,15 @@ module _ {T R : Type 0} where
 abbrev pub FairSpot : Type 0 → Type 0
 FairSpot T = SeatSpot T FairCall FairPoint
 
+-- what some watch knew, of which this holds
+abbrev pub known : (T : RattleType) → (Watch (Done T.Denot) → Type 0) → Fml
+known = ending.known call.the_row
+
 module _ {T : Type 0} where
+  -- A new party of this lock has made exactly this call, with this answer. The watch knows what the party then knew.
+  abbrev pub OneCall : FairCall → Answer (Unit {0}) → Opening T → Watch (Done T) → Type 0
+  OneCall = ending.OneCall fair_tables
+
   -- from `before` to `now` the pass has made exactly this call, with this answer
   abbrev pub Calls : FairCall → Answer (Unit {0}) → FairSpot T → FairSpot T → Type 0
   Calls = turns.Calls fair_tables

@@ -1,15 +1,16 @@
 //! A spinning mutex in which starvers go before newcomers. Begin at [`FairMutex::lock`] and [`FairMutex::starve`].
 ghost use Rattle.std.specs.Prelude.{IfErr, IfSome, IfOk};
-ghost use Rattle.spin_step.specs.declared.answer.Answer.TheVariants.{Granted};
-ghost use Rattle.spin_step_more.specs.declared.fair_calls.FairCall.TheVariants.{Lock, TryLock, TryLockStarver, Starve};
-ghost use Rattle.spin_fair.specs.FairPasses.{Calls, Ends, Grants, OpensWith, Settles, new_in, opening};
+ghost use types.Logic.{sem};
+ghost use Rattle.spin_step.specs.declared.answer.Answer.TheVariants.{Granted, Is};
+ghost use Rattle.spin_step_more.specs.declared.fair_calls.FairCall.TheVariants.{IsLocked, Lock, TryLock, TryLockStarver, Starve};
+ghost use Rattle.spin_fair.specs.FairPasses.{Calls, Ends, Grants, OneCall, OpensWith, Settles, known, new_in, opening};
 
 use spin_core::cell::{Cell, WritePermit};
 use spin_core::guard::{self, Guard};
 use spin_core::lock::{Acquire, Lock, Reserve, with_guard};
 use spin_core::relax::{RelaxStrategy, Spin, Strategy};
 use spin_core::tie::Opening;
-use spin_core::trace::Trace;
+use spin_core::trace::{Trace, Watch};
 use spin_session::calls::{acquire, enter};
 use spin_step_more::{FairCall, fair};
 use std::sync::Wait;
@@ -238,9 +239,21 @@ impl<T, R> FairMutex<T, R> {
     /// By the time the caller reads the answer it may be out of date.
     ///
     /// # Contract
-    /// Only that the call returns.
-    pub fn is_locked(&self) -> bool {
-        self.pass().is_locked().0
+    /// A new party has made exactly one `IsLocked`, with this answer (`did`). The call returns.
+    pub fn is_locked(&self) -> bool
+        ensures* did { sem 𝓛 (known T.row (OneCall IsLocked (Is result) (opening self.now))) }
+    {
+        let (is_locked, seen) = self.look();
+        forget(seen);
+        is_locked
+    }
+
+    // Makes the call of `is_locked`, and also returns what its party then knew.
+    fn look(&self) -> (bool, Watch<Entry<T>>)
+        ensures { OneCall IsLocked (Is result.0) (opening self.now) result.1 }
+    {
+        let (is_locked, pass) = self.pass().is_locked();
+        (is_locked, pass.into_seen())
     }
 
     /// Releases the lock that this `Held` holds.
@@ -262,6 +275,11 @@ impl<T, R> FairMutex<T, R> {
     pub fn get_mut(&mut self) -> &mut T {
         self.cell.get_mut()
     }
+}
+
+// Ends a watch.
+fn forget<T>(seen: Watch<Entry<T>>) {
+    seen.end();
 }
 
 /// Creates an unlocked mutex that holds the default value.

@@ -1,14 +1,18 @@
 -- What a pass of a `SpinMutex` knows, and what its calls do.
 use Rattle.std.specs.Prelude.{ℕ}
+use base.Fml.{Fml}
+use denote.RattleType.{RattleType}
 use Rattle.spin_core.specs.Guard.{Guard}
 use Rattle.spin_core.specs.Own.{Numbered}
 use Rattle.spin_core.specs.declared.tie.Opening.{Opening}
 use Rattle.spin_core.specs.declared.trace.Trace.{Trace}
+use Rattle.spin_core.specs.declared.trace.Watch.{Watch}
 use Rattle.spin_step.specs.declared.answer.Answer.{Answer}
 pub use Rattle.spin_step.specs.declared.answer.Answer.TheVariants.{Granted, Refused, Is}
 pub use Rattle.spin_step.specs.declared.flag_calls.FlagCall.{FlagCall}
 pub use Rattle.spin_step.specs.declared.flag_calls.FlagCall.TheVariants.{Lock, TryLock, IsLocked, Release}
 use Rattle.spin_step.specs.declared.flag_calls.FlagPoint.{FlagPoint}
+use Rattle.spin_step.specs.contracts.flag_calls.FlagCall as call
 use Rattle.spin_session.specs.Meaning.{just_one}
 use Rattle.spin_session.specs.Passes as session
 use Rattle.spin_session.specs.Ending as ending
@@ -28,10 +32,18 @@ module _ {T R : Type 0} where
   abbrev pub name_of : SpinMutex T R → ℕ
   name_of lock = (opening lock).name
 
+-- what some watch knew, of which this holds
+abbrev pub known : (T : RattleType) → (Watch (Done T.Denot) → Type 0) → Fml
+known = ending.known call.the_row
+
 abbrev pub FlagSpot : Type 0 → Type 0
 FlagSpot T = SeatSpot T FlagCall FlagPoint
 
 module _ {T : Type 0} where
+  -- A new party of this lock has made exactly this call, with this answer. The watch knows what the party then knew.
+  abbrev pub OneCall : FlagCall → Answer (Unit {0}) → Opening T → Watch (Done T) → Type 0
+  OneCall = ending.OneCall flag_tables
+
   -- from `before` to `now` the pass has made exactly this call, with this answer
   abbrev pub Calls : FlagCall → Answer (Unit {0}) → FlagSpot T → FlagSpot T → Type 0
   Calls = turns.Calls flag_tables

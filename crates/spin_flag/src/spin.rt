@@ -2,8 +2,10 @@
 ghost use Rattle.std.specs.Prelude.{Option, IfSome, IfOk, IfErr};
 ghost use Rattle.std.specs.Fmt.{DisplaysOnOk};
 ghost use Rattle.spin_core.specs.Texts.{lock_text};
-ghost use Rattle.spin_step.specs.declared.flag_calls.FlagCall.TheVariants.{Lock, TryLock};
-ghost use Rattle.spin_flag.specs.Passes.{Ends, Grants, OpensWith, Settles, new_in, opening};
+ghost use types.Logic.{sem};
+ghost use Rattle.spin_step.specs.declared.answer.Answer.TheVariants.{Is};
+ghost use Rattle.spin_step.specs.declared.flag_calls.FlagCall.TheVariants.{IsLocked, Lock, TryLock};
+ghost use Rattle.spin_flag.specs.Passes.{Ends, Grants, OneCall, OpensWith, Settles, known, new_in, opening};
 
 use spin_core::cell::{Cell, WritePermit};
 use spin_core::guard::{self, Guard};
@@ -11,7 +13,7 @@ use spin_core::lock::{Acquire, Lock, with_guard};
 use spin_core::relax::{RelaxStrategy, Spin, Strategy};
 use spin_core::texts::write_lock;
 use spin_core::tie::Opening;
-use spin_core::trace::Trace;
+use spin_core::trace::{Trace, Watch};
 use spin_session::calls::{acquire, enter};
 use spin_step::FlagCall;
 use std::fmt;
@@ -213,10 +215,21 @@ impl<T, R> SpinMutex<T, R> {
     /// By the time the caller reads the answer it may be out of date.
     ///
     /// # Contract
-    /// Only that the call returns.
-    pub fn is_locked(&self) -> bool {
-        let (is_locked, _pass) = self.pass().is_locked();
+    /// A new party has made exactly one `IsLocked`, with this answer (`did`). The call returns.
+    pub fn is_locked(&self) -> bool
+        ensures* did { sem 𝓛 (known T.row (OneCall IsLocked (Is result) (opening self.now))) }
+    {
+        let (is_locked, seen) = self.look();
+        forget(seen);
         is_locked
+    }
+
+    // Makes the call of `is_locked`, and also returns what its party then knew.
+    fn look(&self) -> (bool, Watch<Entry<T>>)
+        ensures { OneCall IsLocked (Is result.0) (opening self.now) result.1 }
+    {
+        let (is_locked, pass) = self.pass().is_locked();
+        (is_locked, pass.into_seen())
     }
 
     /// Releases the lock that this `Held` holds.
@@ -238,6 +251,11 @@ impl<T, R> SpinMutex<T, R> {
     pub fn get_mut(&mut self) -> &mut T {
         self.cell.get_mut()
     }
+}
+
+// Ends a watch.
+fn forget<T>(seen: Watch<Entry<T>>) {
+    seen.end();
 }
 
 /// Creates an unlocked mutex that holds the default value.

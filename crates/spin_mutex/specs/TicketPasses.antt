@@ -1,10 +1,14 @@
 -- What a pass of a `TicketMutex` knows, and what its calls do.
 use Rattle.std.specs.Prelude.{ℕ}
+use base.Fml.{Fml}
+use denote.RattleType.{RattleType}
 use Rattle.spin_core.specs.Guard.{Guard}
 use Rattle.spin_core.specs.Own.{Numbered}
 use Rattle.spin_core.specs.declared.tie.Opening.{Opening}
 use Rattle.spin_core.specs.declared.trace.Trace.{Trace}
+use Rattle.spin_core.specs.declared.trace.Watch.{Watch}
 use Rattle.spin_step.specs.declared.answer.Answer.{Answer}
+use Rattle.spin_step.specs.contracts.ticket_calls.TicketCall as call
 pub use Rattle.spin_step.specs.declared.ticket_calls.TicketCall.{TicketCall}
 pub use Rattle.spin_step.specs.declared.ticket_calls.TicketCall.TheVariants.{Lock, TryLock, IsLocked, Release}
 use Rattle.spin_step.specs.declared.ticket_calls.TicketPoint.{TicketPoint}
@@ -30,7 +34,15 @@ module _ {T R : Type 0} where
 abbrev pub TicketSpot : Type 0 → Type 0
 TicketSpot T = SeatSpot T TicketCall TicketPoint
 
+-- what some watch knew, of which this holds
+abbrev pub known : (T : RattleType) → (Watch (Made T.Denot) → Type 0) → Fml
+known = ending.known call.the_row
+
 module _ {T : Type 0} where
+  -- A new party of this lock has made exactly this call, with this answer. The watch knows what the party then knew.
+  abbrev pub OneCall : TicketCall → Answer (Unit {0}) → Opening T → Watch (Made T) → Type 0
+  OneCall = ending.OneCall ticket_tables
+
   -- from `before` to `now` the pass has made exactly this call, with this answer
   abbrev pub Calls : TicketCall → Answer (Unit {0}) → TicketSpot T → TicketSpot T → Type 0
   Calls = turns.Calls ticket_tables

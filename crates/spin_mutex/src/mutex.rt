@@ -1,10 +1,13 @@
 //! `Mutex`, which uses only the contract of an inner lock. Begin at [`Mutex::lock`].
 ghost use Rattle.std.specs.Prelude.{◌≡◌, IfErr, IfOk, IfSome};
-ghost use Rattle.spin_mutex.specs.Mutex.{Ends, Grants, Lock, OpensWith, Settles, TryLock, new_in, opening};
+ghost use types.Logic.{sem};
+ghost use Rattle.spin_step.specs.declared.answer.Answer.TheVariants.{Is};
+ghost use Rattle.spin_mutex.specs.Mutex.{Ends, Grants, IsLocked, Lock, OneCall, OpensWith, Settles, TryLock, known, new_in, opening};
 
-use crate::ticket::{self, TicketMutex, TicketMutexGuard};
+use crate::ticket::{self, Entry, TicketMutex, TicketMutexGuard, forget};
 use spin_core::lock::{Acquire, Lock, with_guard};
 use spin_core::relax::{RelaxStrategy, Spin};
+use spin_core::trace::Watch;
 use std::sync::Wait;
 
 mod texts;
@@ -19,7 +22,7 @@ pub mod tickets;
 /// # Contract
 /// While a guard or a hold of the lock lives, no other call acquires the lock. A guard gives a value of `T`,
 /// which satisfies the invariant of `T`. When the guard is acquired this is the value written last in the mutex's
-/// history. Without a [`pass`](Self::pass) other answers promise nothing.
+/// history. Without a [`pass`](Self::pass) a refusal promises nothing.
 ///
 /// # Examples
 /// ```
@@ -169,7 +172,7 @@ impl<T, R> Mutex<T, R> {
     /// By the time the caller reads the answer it may be out of date.
     ///
     /// # Contract
-    /// Only that the call returns.
+    /// A new party has made exactly one `IsLocked`, with this answer (`did`). The call returns.
     ///
     /// # Examples
     /// ```
@@ -181,8 +184,19 @@ impl<T, R> Mutex<T, R> {
     /// drop(guard);
     /// assert!(rt; !total.is_locked());
     /// ```
-    pub fn is_locked(&self) -> bool {
-        self.inner.is_locked()
+    pub fn is_locked(&self) -> bool
+        ensures* did { sem 𝓛 (known T.row (OneCall IsLocked (Is result) (opening self.now))) }
+    {
+        let (is_locked, seen) = self.look();
+        forget(seen);
+        is_locked
+    }
+
+    // Makes the call of `is_locked`, and also returns what its party then knew.
+    fn look(&self) -> (bool, Watch<Entry<T>>)
+        ensures { OneCall IsLocked (Is result.0) (opening self.now) result.1 }
+    {
+        self.inner.look()
     }
 
     /// Returns a pass that has made no call. It does not touch the lock.

@@ -2,7 +2,9 @@
 ghost use Rattle.std.specs.Prelude.{Option, IfErr, IfOk, IfSome};
 ghost use Rattle.std.specs.Fmt.{DisplaysOnOk};
 ghost use Rattle.spin_core.specs.Texts.{lock_text};
-ghost use Rattle.spin_mutex.specs.TicketPasses.{Ends, Grants, Lock, OpensAt, OpensWith, Settles, TryLock, new_in, opening};
+ghost use types.Logic.{sem};
+ghost use Rattle.spin_step.specs.declared.answer.Answer.TheVariants.{Is};
+ghost use Rattle.spin_mutex.specs.TicketPasses.{Ends, Grants, IsLocked, Lock, OneCall, OpensAt, OpensWith, Settles, TryLock, known, new_in, opening};
 
 use spin_core::cell::{Cell, WritePermit};
 use spin_core::guard::{self, Guard};
@@ -10,7 +12,7 @@ use spin_core::lock::{Acquire, Lock, with_guard};
 use spin_core::relax::{RelaxStrategy, Spin, Strategy};
 use spin_core::texts::write_lock;
 use spin_core::tie::Opening;
-use spin_core::trace::Trace;
+use spin_core::trace::{Trace, Watch};
 use spin_session::calls::{acquire, enter};
 use spin_step::TicketCall;
 use std::fmt::{self, Debug, Formatter};
@@ -33,7 +35,7 @@ pub use spin_core::laws::{a_guard_reads_the_last_value_written, two_guards_read_
 /// While a guard or a hold of the lock lives, no other call acquires it. Threads enter in the order of their tickets
 /// (`the_parties_of_a_ticket_mutex_enter_in_turn`). A guard gives a value of `T`, with all that the invariant of `T`
 /// says. When the guard is acquired this is the value written last in the lock's history. Without a
-/// [`pass`](Self::pass) other answers promise nothing.
+/// [`pass`](Self::pass) a refusal promises nothing.
 ///
 /// # Examples
 /// ```
@@ -187,7 +189,7 @@ impl<T, R> TicketMutex<T, R> {
     /// It makes two loads. By the time the caller reads the answer it may be out of date.
     ///
     /// # Contract
-    /// Only that the call returns.
+    /// A new party has made exactly one `IsLocked`, with this answer (`did`). The call returns.
     ///
     /// # Examples
     /// ```
@@ -199,8 +201,20 @@ impl<T, R> TicketMutex<T, R> {
     /// drop(guard);
     /// assert!(rt; !lock.is_locked());
     /// ```
-    pub fn is_locked(&self) -> bool {
-        self.pass().is_locked().0
+    pub fn is_locked(&self) -> bool
+        ensures* did { sem 𝓛 (known T.row (OneCall IsLocked (Is result) (opening self.now))) }
+    {
+        let (is_locked, seen) = self.look();
+        forget(seen);
+        is_locked
+    }
+
+    // Makes the call of `is_locked`, and also returns what its party then knew.
+    pub(crate) fn look(&self) -> (bool, Watch<Entry<T>>)
+        ensures { OneCall IsLocked (Is result.0) (opening self.now) result.1 }
+    {
+        let (is_locked, pass) = self.pass().is_locked();
+        (is_locked, pass.into_seen())
     }
 
     /// Releases the lock that this `Held` holds, and serves the next ticket.
@@ -231,6 +245,11 @@ impl<T: Debug, R> Debug for TicketMutex<T, R> {
     {
         write_lock(self.try_lock().as_ref().map(|guard| &**guard), f)
     }
+}
+
+// Ends a watch.
+pub(crate) fn forget<T>(seen: Watch<Entry<T>>) {
+    seen.end();
 }
 
 /// Creates an unlocked mutex that holds the default value.

@@ -1,3 +1,4 @@
 pub mod RwRefines
 pub mod RwCalls
 pub mod Standing
+pub mod Looks

@@ -1,14 +1,19 @@
 -- What a pass of a read-write lock knows, and what its calls do.
-use Rattle.std.specs.Prelude.{ℕ, List}
+use Rattle.std.specs.Prelude.{◌≡◌, ◌==◌, ℕ, Bool, List}
+use base.Fml.{Fml}
+use denote.RattleType.{RattleType}
 use Rattle.std.specs.Option.{IfSome}
 use Rattle.spin_core.specs.Cell.{Starts, Ways}
 use Rattle.spin_core.specs.Own.{Numbered}
 use Rattle.spin_core.specs.Values.{IsLast}
 use Rattle.spin_core.specs.declared.tie.Opening.{Opening}
 use Rattle.spin_core.specs.declared.trace.Trace.{Trace}
+use Rattle.spin_core.specs.declared.trace.Watch.{Watch}
 use Rattle.spin_step.specs.declared.answer.Answer.{Answer}
-use Rattle.spin_step.specs.declared.answer.Answer.TheVariants.{Granted}
+use Rattle.spin_step_more.specs.contracts.rw_calls.RwCall as call
+use Rattle.spin_step.specs.declared.answer.Answer.TheVariants.{Count, Granted}
 use Rattle.spin_step_more.specs.declared.rw_calls.RwCall.{RwCall}
+use Rattle.spin_step_more.specs.declared.rw_calls.RwCall.TheVariants.{WriterCount}
 use Rattle.spin_session.specs.Meaning.{just_one}
 use Rattle.spin_session.specs.Passes as session
 use Rattle.spin_session.specs.Ending as ending
@@ -39,7 +44,19 @@ module _ {T R P S : Type 0} where
   abbrev pub name_of : RwLock T R (Numbered View) P (Opening T) S → ℕ
   name_of lock = (opening lock).name
 
+-- what some watch knew, of which this holds
+abbrev pub known : (T : RattleType) → (Watch (Done T.Denot) → Type 0) → Fml
+known = ending.known call.the_row
+
 module _ {T : Type 0} where
+  -- A new party of this lock has made exactly this call, with this answer. The watch knows what the party then knew.
+  abbrev pub OneCall : RwCall → Answer (Unit {0}) → Opening T → Watch (Done T) → Type 0
+  OneCall = ending.OneCall rw_tables
+
+  -- such a party has counted the writers, and the answer is whether there was one
+  abbrev pub OneCallFor : Bool → Opening T → Watch (Done T) → Type 0
+  OneCallFor answer lock seen = (n : ℕ) × OneCall WriterCount (Count n) lock seen × (answer ≡ (n == 1))
+
   -- from `before` to `now` the pass has made exactly this call, with this answer
   abbrev pub Calls : RwCall → Answer (Unit {0}) → RwSpot T → RwSpot T → Type 0
   Calls = turns.Calls rw_tables

@@ -1,18 +1,19 @@
 //! A spinning lock for many readers or one writer. Begin at [`RwLock::read`] and [`RwLock::write`].
 ghost use Rattle.std.specs.Prelude.{◌≤◌, IfErr, IfOk, IfSome};
-ghost use Rattle.spin_step.specs.declared.answer.Answer.TheVariants.{Granted};
+ghost use types.Logic.{sem};
+ghost use Rattle.spin_step.specs.declared.answer.Answer.TheVariants.{Count, Granted, Is};
 ghost use Rattle.spin_step_more.specs.Readers.{reader_limit};
-ghost use Rattle.spin_step_more.specs.declared.rw_calls.RwCall.TheVariants.{TryRead, Read, TryUpgradeableRead, UpgradeableRead, TryWrite, Write};
+ghost use Rattle.spin_step_more.specs.declared.rw_calls.RwCall.TheVariants.{IsLocked, ReaderCount, WriterCount, TryRead, Read, TryUpgradeableRead, UpgradeableRead, TryWrite, Write};
 ghost use Rattle.spin_session.specs.Meaning.{ways_of};
 ghost use Rattle.spin_rwlock.specs.Rw.{IsRw, rw_meaning};
-ghost use Rattle.spin_rwlock.specs.RwPasses.{Ends, Grants, Lends, OpensWith, Settles, key_of, new_in, opening};
+ghost use Rattle.spin_rwlock.specs.RwPasses.{Ends, Grants, Lends, OneCall, OneCallFor, OpensWith, Settles, key_of, known, new_in, opening};
 
 use self::pass::{grant, lend};
 use spin_core::cell::{Cell, Rule};
 use spin_core::lock::{Acquire, AcquireShared, Lock, Reserve, SharedLock, with_guard};
 use spin_core::relax::{RelaxStrategy, Spin};
 use spin_core::tie::Opening;
-use spin_core::trace::Trace;
+use spin_core::trace::{Trace, Watch};
 use spin_session::calls::{enter, finish, in_three};
 use spin_session::table::Ahead;
 use spin_session_more::calls::exchange_for;
@@ -258,7 +259,8 @@ impl<T, R> RwLock<T, R> {
     /// It makes one load. By the time the caller reads the answer it may be out of date.
     ///
     /// # Contract
-    /// The answer is at most `rw::MAX_READERS` (`reader_limit`). The call returns.
+    /// A new party has made exactly one `ReaderCount`, with this answer (`did`). It is at most `rw::MAX_READERS`
+    /// (`reader_limit`). The call returns.
     ///
     /// # Examples
     /// ```
@@ -272,9 +274,20 @@ impl<T, R> RwLock<T, R> {
     /// assert_eq!(rt; limit.reader_count(), 0);
     /// ```
     pub fn reader_count(&self) -> usize
-        ensures { result ≤ reader_limit }
+        ensures limit { result ≤ reader_limit }
+        ensures* did { sem 𝓛 (known T.row (OneCall ReaderCount (Count result) (opening self.now))) }
     {
-        self.pass().reader_count().0
+        let (count, seen) = self.count_readers();
+        forget(seen);
+        count
+    }
+
+    // Makes the call of `reader_count`, and also returns what its party then knew.
+    fn count_readers(&self) -> (usize, Watch<Entry<T>>)
+        ensures { OneCall ReaderCount (Count result.0) (opening self.now) result.1 × (result.0 ≤ reader_limit) }
+    {
+        let (count, pass) = self.pass().reader_count();
+        (count, pass.into_seen())
     }
 
     /// Returns the number of writers at some moment during this call: 0 or 1.
@@ -282,7 +295,7 @@ impl<T, R> RwLock<T, R> {
     /// It makes one load. By the time the caller reads the answer it may be out of date.
     ///
     /// # Contract
-    /// The answer is at most 1. The call returns.
+    /// A new party has made exactly one `WriterCount`, with this answer (`did`), which is at most 1. The call returns.
     ///
     /// # Examples
     /// ```
@@ -295,9 +308,20 @@ impl<T, R> RwLock<T, R> {
     /// drop(writer);
     /// ```
     pub fn writer_count(&self) -> usize
-        ensures { result ≤ 1 }
+        ensures limit { result ≤ 1 }
+        ensures* did { sem 𝓛 (known T.row (OneCall WriterCount (Count result) (opening self.now))) }
     {
-        self.pass().writer_count().0
+        let (count, seen) = self.count_writers();
+        forget(seen);
+        count
+    }
+
+    // Makes the call of `writer_count`, and also returns what its party then knew.
+    fn count_writers(&self) -> (usize, Watch<Entry<T>>)
+        ensures { OneCall WriterCount (Count result.0) (opening self.now) result.1 × (result.0 ≤ 1) }
+    {
+        let (count, pass) = self.pass().writer_count();
+        (count, pass.into_seen())
     }
 
     /// Returns `true` if any thread holds the lock at some moment during this call, as a reader or as the writer.
@@ -305,7 +329,7 @@ impl<T, R> RwLock<T, R> {
     /// It makes one load. By the time the caller reads the answer it may be out of date.
     ///
     /// # Contract
-    /// Only that the call returns. [`Pass::is_locked`] promises more.
+    /// A new party has made exactly one `IsLocked`, with this answer (`did`). The call returns.
     ///
     /// # Examples
     /// ```
@@ -317,8 +341,20 @@ impl<T, R> RwLock<T, R> {
     /// drop(reader);
     /// assert!(rt; !limit.is_locked());
     /// ```
-    pub fn is_locked(&self) -> bool {
-        self.pass().is_locked().0
+    pub fn is_locked(&self) -> bool
+        ensures* did { sem 𝓛 (known T.row (OneCall IsLocked (Is result) (opening self.now))) }
+    {
+        let (is_locked, seen) = self.look();
+        forget(seen);
+        is_locked
+    }
+
+    // Makes the call of `is_locked`, and also returns what its party then knew.
+    fn look(&self) -> (bool, Watch<Entry<T>>)
+        ensures { OneCall IsLocked (Is result.0) (opening self.now) result.1 }
+    {
+        let (is_locked, pass) = self.pass().is_locked();
+        (is_locked, pass.into_seen())
     }
 
     /// Returns `true` if a writer holds the lock at some moment during this call.
@@ -326,7 +362,8 @@ impl<T, R> RwLock<T, R> {
     /// It makes one load. By the time the caller reads the answer it may be out of date.
     ///
     /// # Contract
-    /// Only that the call returns. [`Pass::writer_count`] promises more.
+    /// A new party has made exactly one `WriterCount`, whose answer is 1 exactly if this one is `true` (`did`). The call
+    /// returns.
     ///
     /// # Examples
     /// ```
@@ -338,8 +375,20 @@ impl<T, R> RwLock<T, R> {
     /// drop(writer);
     /// assert!(rt; !limit.is_locked_exclusive());
     /// ```
-    pub fn is_locked_exclusive(&self) -> bool {
-        self.writer_count() == 1
+    pub fn is_locked_exclusive(&self) -> bool
+        ensures* did { sem 𝓛 (known T.row (OneCallFor result (opening self.now))) }
+    {
+        let (is_locked, seen) = self.look_for_a_writer();
+        forget(seen);
+        is_locked
+    }
+
+    // Makes the call of `is_locked_exclusive`, and also returns what its party then knew.
+    fn look_for_a_writer(&self) -> (bool, Watch<Entry<T>>)
+        ensures { OneCallFor result.0 (opening self.now) result.1 }
+    {
+        let (count, seen) = self.count_writers();
+        (count == 1, seen)
     }
 
     /// Releases the shared access that the hold keeps.
@@ -457,6 +506,11 @@ impl<T, R: RelaxStrategy> RwLock<T, R> {
     {
         grant(enter(&self.cell), rt)
     }
+}
+
+// Ends a watch.
+fn forget<T>(seen: Watch<Entry<T>>) {
+    seen.end();
 }
 
 /// Creates an unlocked lock that holds the default value.

@@ -191,6 +191,15 @@ impl<'a, T, R> Pass<'a, T, R> {
         self.session.seen.copy()
     }
 
+    // Ends the pass, and returns what it knew.
+    pub(super) fn into_seen(self) -> Watch<Entry<T>>
+        ensures { Recalls self.entry result }
+    {
+        let seen = self.seen();
+        drop(self);
+        seen
+    }
+
     /// Compares what two passes of one lock know. It does nothing when it runs.
     ///
     /// # Contract
