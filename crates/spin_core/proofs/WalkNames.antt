@@ -37,5 +37,5 @@ pub use denote.Triple.Walked.{Stays, stay_dropped, walk_of, Goes-dropped}
 pub use Rattle.core.proofs.atomic.Steps.{tail}
 pub use Rattle.core.proofs.mem.Param.{El, lawful, Good, one}
 pub use Rattle.atomic_table.proofs.Walks.{proved, proved_at, leaves}
-pub use Rattle.atomic_table.proofs.Calls.{fm, seq_cst, found, finds, stored, has_stored, loads, stores, adds, subs, exchanges}
+pub use Rattle.atomic_table.proofs.Calls.{fm, seq_cst, found, finds, stored, has_stored, loads, stores, adds, subs, exchanges, lent, parks}
 pub use Rattle.spin_core.proofs.WalkSteps.{says, lies, lies_at}

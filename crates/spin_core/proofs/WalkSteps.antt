@@ -62,6 +62,13 @@ first_and_last 𝓤 φ ψ n φs = let First : SProp 𝓤 = fact 𝓤 φ in let L
 pub last_two : {M : Type 1} (𝓤 : Ura M) (φ ψ : Type 0) (n : ℕ) (φs : Facts n) → ent 𝓤 (after_facts 𝓤 (sep 𝓤 (fact 𝓤 φ) (fact 𝓤 ψ)) n φs) (fact 𝓤 (φ × ψ))
 last_two 𝓤 φ ψ n φs = via 𝓤 (sep 𝓤 (fact 𝓤 φ) (fact 𝓤 ψ)) (last_fact 𝓤 (sep 𝓤 (fact 𝓤 φ) (fact 𝓤 ψ)) n φs) (first_and_last 𝓤 φ ψ 0 tt)
 
+-- the first fact and the last two
+pub first_and_last_two : {M : Type 1} (𝓤 : Ura M) (φ χ ψ : Type 0) (n : ℕ) (φs : Facts n)
+    → ent 𝓤 (sep 𝓤 (fact 𝓤 φ) (after_facts 𝓤 (sep 𝓤 (fact 𝓤 χ) (fact 𝓤 ψ)) n φs)) (fact 𝓤 (φ × (χ × ψ)))
+first_and_last_two 𝓤 φ χ ψ n φs = let First : SProp 𝓤 = fact 𝓤 φ in let Last : SProp 𝓤 = after_facts 𝓤 (sep 𝓤 (fact 𝓤 χ) (fact 𝓤 ψ)) n φs in
+    fact_use 𝓤 φ (fst∗ 𝓤 First Last) (λ x. fact_use 𝓤 (χ × ψ) (via 𝓤 Last (snd∗ 𝓤 First Last) (last_two 𝓤 χ ψ n φs))
+    (λ y. fact_i 𝓤 (φ × (χ × ψ)) (sep 𝓤 First Last) (x, y)))
+
 -- The walk of a function that takes a permit first learns what the contract asks. What a permit owns (F) is false of
 -- the null pointer, so the permit's pointer points into a block.
 module _ {M : Type 1} {𝓤 : Ura M} {𝓛 : Logic 𝓤} {K : Type 0} {toks words rest : Fml} {Req : SProp 𝓤} {φ : Type 0} {G : Goal 𝓤 𝓛.H} where

@@ -13,6 +13,7 @@ ghost use Rattle.spin_core.specs.CellMemory.{Known, cell_owns, cell_shares, perm
 use crate::trace::{Trace, Watch};
 use std::marker::{Model, Move, Owns, PhantomData};
 use std::mem::ManuallyDrop;
+use std::sync::atomic::raw;
 
 pub mod stable;
 mod steps;
@@ -157,6 +158,16 @@ impl<T, V, P: Rule<T, V>> Cell<T, V, P> {
         let (_, value, second) = self.into_parts();
         let_go(second);
         value
+    }
+
+    /// Wakes one thread that sleeps on the first word ([`Permit::park`]).
+    pub fn wake_one(&self) {
+        unsafe { raw::wake_one(std::ptr::from_ref(self).cast()) }
+    }
+
+    /// Wakes each thread that sleeps on the first word.
+    pub fn wake_all(&self) {
+        unsafe { raw::wake_all(std::ptr::from_ref(self).cast()) }
     }
 
     /// Returns a permit that has taken no step.

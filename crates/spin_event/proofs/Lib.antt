@@ -4,3 +4,4 @@ pub mod Told
 pub mod First
 pub mod Refuted
 pub mod Returning
+pub mod Threads

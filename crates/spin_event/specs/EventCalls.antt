@@ -66,8 +66,9 @@ starts_at (Wait g) = Count g
 starts_at NotifyAll = Ring
 starts_at NotifyOne = Ring
 
+-- A move `Weak` ends a sleep for no reason.
 abbrev pub event : LockKind
-event = usual (λ s. s.arrivals) [] is_arrival (λ n h. a_call ∷ [])
+event = record (usual (λ s. s.arrivals) [] is_arrival (λ n h. a_call ∷ [])) { makes_value = true }
 
 abbrev pub EventTable : Type 0
 EventTable = Table EventWords (Unit {0}) EventCall EventPoint (Answer (Unit {0}))

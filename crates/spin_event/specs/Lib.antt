@@ -1,3 +1,4 @@
 pub mod EventCalls
 pub mod Sleeping
+pub mod Threads
 pub mod Wrong

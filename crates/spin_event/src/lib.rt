@@ -6,6 +6,7 @@
 
 mod calls;
 mod laws;
+mod rule;
 mod steps;
 mod waits;
 
@@ -14,4 +15,5 @@ pub use laws::{
     a_sleeper_is_awake_or_somebody_rings, a_sleeper_that_was_rung_wakes_up,
     a_wait_that_was_rung_returns, who_ends_a_ring_has_woken, wrong_events_lose_a_wake_up,
 };
+pub use rule::{Entry, EventRule, Party};
 pub use steps::{Counted, Event, Heard, Rung, Slept};

@@ -1,6 +1,11 @@
 //! Whole waits and notifications, of the steps in their order.
 
-use crate::steps::{Event, Heard};
+ghost use Rattle.std.specs.Prelude.{ℕ, Some, None};
+ghost use Rattle.spin_event.specs.declared.calls.EventCall.TheVariants.{NotifyAll, NotifyOne};
+ghost use Rattle.spin_event.specs.EventCalls.{EventSchedule};
+ghost use Rattle.spin_event.specs.Threads.{EventParty, Looks, Rings};
+
+use crate::steps::{Event, Heard, looks};
 use std::hint::spin_loop;
 use std::sync::Wait;
 use std::time::Duration;
@@ -23,15 +28,23 @@ impl Event {
     /// assert!(rt; heard.has_rung());
     /// heard.wait(&rt);
     /// ```
-    pub fn notify_one(&self) {
-        self.ring().wake_one();
+    pub fn notify_one(&self)
+        ensures { (u v : EventParty) × (log es log' es' : EventSchedule) × (n m : ℕ) × Rings NotifyOne None log es n u × Looks (Some u) log' es' m v }
+    {
+        if looks(self.ring_for_one()) {
+            self.wakes_one();
+        }
     }
 
     /// Ends each wait that has listened.
     ///
     /// If no thread is counted as a sleeper, it makes an addition and a load. Else it calls the system too.
-    pub fn notify_all(&self) {
-        self.ring().wake_all();
+    pub fn notify_all(&self)
+        ensures { (u v : EventParty) × (log es log' es' : EventSchedule) × (n m : ℕ) × Rings NotifyAll None log es n u × Looks (Some u) log' es' m v }
+    {
+        if looks(self.ring_for_all()) {
+            self.wakes_all();
+        }
     }
 }
 

@@ -35,7 +35,7 @@ use Rattle.spin_core.proofs.cell.PermitFields.{hand_of, Words, made}
 use Rattle.spin_core.proofs.cell.Rounds.{readies, settles_down}
 use Rattle.spin_core.proofs.cell.Walks.{permit_in}
 use Rattle.spin_core.proofs.Signs.{signs}
-use Rattle.spin_core.proofs.WalkSteps.{says, Facts, after_facts, first_and_last, takes_at}
+use Rattle.spin_core.proofs.WalkSteps.{says, Facts, after_facts, first_and_last, first_and_last_two, takes_at}
 use Rattle.spin_core.proofs.cell.Shifts as steps
 use Rattle.spin_core.proofs.Lemmas.{Lemma, script, cite, twice}
 
@@ -183,9 +183,9 @@ module _ {M : Type 1} {𝓤 : Ura M} (𝓛 : Logic 𝓤) (𝓜 : Model 𝓤 𝓛
       pub found : {K : Type 0} {Γ : List (Item 𝓤)} {G : Goal 𝓤 𝓛.H} → K → Soaks G → (n : ℕ) → n < 2 ^ 64 → (os : Fml)
           → ((s : W.Denot × Option R.Denot) (l : ℕ × List Er.Denot) → Seq K 𝓛 (Tokens os ∷ ‵ (fex (Valss (u64 ∷ Hr ∷ Wr ∷ [])) (all n s l)) ∷ Says l n s ∷ Γ) G)
           → Seq K 𝓛 (‵ (leaves n) ∷ raw rest ∷ ‵ os ∷ Γ) G
-      pub stored : {K : Type 0} {Γ : List (Item 𝓤)} {G : Goal 𝓤 𝓛.H} → K → Soaks G → (os : Fml)
-          → ((s : W.Denot × Option R.Denot) (l : ℕ × List Er.Denot) → Seq K 𝓛 (Tokens os ∷ ‵ (fex (Valss (Hr ∷ Wr ∷ [])) (both s l)) ∷ Says l 0 s ∷ Γ) G)
-          → Seq K 𝓛 (‵ (leaves 0) ∷ raw rest ∷ ‵ os ∷ Γ) G
+      pub stored : {K : Type 0} {Γ : List (Item 𝓤)} {G : Goal 𝓤 𝓛.H} → K → Soaks G → (n : ℕ) → (os : Fml)
+          → ((s : W.Denot × Option R.Denot) (l : ℕ × List Er.Denot) → Seq K 𝓛 (Tokens os ∷ ‵ (fex (Valss (Hr ∷ Wr ∷ [])) (both s l)) ∷ Says l n s ∷ Γ) G)
+          → Seq K 𝓛 (‵ (leaves n) ∷ raw rest ∷ ‵ os ∷ Γ) G
 
     closing : (k : Entry) → Closes (left k) (back k)
     closing k = record {
@@ -193,7 +193,7 @@ module _ {M : Type 1} {𝓤 : Ura M} (𝓛 : Logic 𝓤) (𝓜 : Model 𝓤 𝓛
           feq_i t _ (vint w64 n ∷ []) _ refl $ fjoin t $ fjoin t $ feq_i t _ (triple_of n ∷ []) _ refl $ fjoin t $
           fpack t (Valss (u64 ∷ Hr ∷ Wr ∷ [])) (all n v l) (vint w64 n ∷ [], (hand_of here ∷ [], (token ∷ [], tt))) $
           move t (1 ∷ []) $ go v l);
-      stored = λ t z os go. closes t z k 0 os (λ v l. feq_i t _ (pair_of ∷ []) _ refl $ fjoin t $
+      stored = λ t z n os go. closes t z k n os (λ v l. feq_i t _ (pair_of ∷ []) _ refl $ fjoin t $
           fpack t (Valss (Hr ∷ Wr ∷ [])) (both v l) (hand_of here ∷ [], (token ∷ [], tt)) $ move t (1 ∷ []) $ go v l);
     }
 
@@ -236,6 +236,17 @@ module _ {M : Type 1} {𝓤 : Ura M} (𝓛 : Logic 𝓤) (𝓜 : Model 𝓤 𝓛
     begins {os = os} {Asked = Asked} {at} t knows n φs f can go =
         takes_at t Owned refl h.cell (first_and_last 𝓤 (τ ⊑ T.lives) Asked n φs) (λ asked inb. move t (2 ∷ []) $
         cite _ knows $ move t (1 ∷ []) $ go inb (opens at f os asked.0 (can asked.1)))
+
+    -- the same for a walk that also uses the fact before the last
+    pub begins_two : {K : Type 0} {G : Goal 𝓤 𝓛.H} {os words rest : Fml} {More Asked : Type 0} {at : Ptr} → K
+        → ‵ rest ⊩ ‵ (Known seen) → (n : ℕ) (φs : Facts n) (f : ℕ → ℕ) → (Asked → Asks at f)
+        → (let toks : Fml = fsep (flft β q) (fsep (flft τ r) os) in
+        (More → InBlock h.cell → Opens at f os → Seq K 𝓛 (‵ (Owned here) ∷ ‵ (Known seen) ∷ ‵ toks ∷ []) G)
+        → Seq K 𝓛 (‵ toks ∷ ‵ (fsep (fsep words (Owned h.cell)) rest)
+        ∷ raw (sep 𝓤 (fact 𝓤 (τ ⊑ T.lives)) (after_facts 𝓤 (sep 𝓤 (fact 𝓤 More) (fact 𝓤 Asked)) n φs)) ∷ []) G)
+    begins_two {os = os} {More = More} {Asked = Asked} {at} t knows n φs f can go =
+        takes_at t Owned refl h.cell (first_and_last_two 𝓤 (τ ⊑ T.lives) More Asked n φs) (λ asked inb. move t (2 ∷ []) $
+        cite _ knows $ move t (1 ∷ []) $ go asked.1.0 inb (opens at f os asked.0 (can asked.1.1)))
 
 -- a step on the first word, and one on the second word, if that is a number
 module _ {M : Type 1} {𝓤 : Ura M} {𝓛 : Logic 𝓤} {𝓜 : Model 𝓤 𝓛.H} {𝓡 : Running 𝓤 𝓛.H 𝓜} {ℓ : NamedLft}

@@ -167,6 +167,26 @@ module _ {W V C L A X S : Type 0} (m : Machine W V C L A) (seat_of : X → Seat 
       (w', now, ap g.0 s_is ∙ sym become, there, rests, runs.of_calls m log p own fits all) in
       (p, own, outs, (run, none, mine, subst (λ y. says own outs (g.1 y) u) (sym s_is) said))
 
+  -- The result of a step whose next view may depend on all words of the model: here of its kernel's, too.
+  pub step_to : (view : Option (Numbered X)) (g : OnWord S) (to : X → Type 0) (says : Says V C A X)
+      → (id : ℕ) (s : ℕ × S) (log : Schedule) (vs : List (Numbered X)) → Run log s vs → HasView id view vs
+      → ((w : W) (value : Option V) → s ≡ words_of w → (u : X) × to u × run.Goes m seat_of words_of (what view) u w value (g.0 (words_of w)) (λ own outs. says own outs (g.1 (words_of w)) u))
+      → (u : X) × to u × (p : ℕ) × (own : List (Move C V)) × (outs : List (Outcome A V)) × (let es = by_party p own in
+      Run (log ++ es) (g.0 s) (views_after id view vs (u, p, length (log ++ es)))
+      × MadeNone log p view × run.AreOwn m own outs log es × says own outs (g.1 s) u)
+  step_to view g to says id s log vs is at moves =
+      let (front, o, back, (w, value, s_is, leads, rested, fits), o_is, none, becomes) = placed log s vs id view is at in
+      let (u, is_to, (own, outs, said, all, fine, w', now, alone, are, become)) = moves w value s_is in
+      let p : ℕ = length front in let log' : Schedule = log ++ by_party p own in let came : Came X = front ++ Some (u, length log') ∷ back in
+      let (leads', mine) = runs.goes m log (w, value, sits (what view)) (w', now, seat_of u) (seats front) (seats back)
+      (rw (seats-seam front o back, o_is) at leads) own outs all fine alone are p
+      (sym (length-map (map kind front) sits ∙ length-map front kind)) in
+      let there : runs.Leads m log' w' now (seats came) = rw (seats-seam front (Some (u, length log')) back) leads' in
+      let rests = made log p own 0 front o u back (omega arith) rested in
+      let run = as_run log' (g.0 s) (views_after id view vs (u, p, length log')) came (becomes u (length log'))
+      (w', now, ap g.0 s_is ∙ sym become, there, rests, runs.of_calls m log p own fits all) in
+      (u, is_to, p, own, outs, (run, none, mine, subst (λ y. says own outs (g.1 y) u) (sym s_is) said))
+
   -- an idle party may leave
   pub leave : (v : Numbered X) → seat_of v.0 ≡ Idle → (s : ℕ × S) (log : Schedule) (before after : List (Numbered X))
       → Run log s (before ++ v ∷ after) → Run log s (before ++ after)

@@ -7,6 +7,7 @@ use super::{Permit, Rule};
 use crate::trace::{Trace, Watch};
 use atomic_table::exchange;
 use std::marker::{Brand, PhantomData};
+use std::sync::Wait;
 use std::sync::atomic::Ordering::SeqCst;
 use std::sync::atomic::raw;
 
@@ -90,6 +91,30 @@ impl<'a, T, V, E, S, P: Rule<T, V, Second = Trace<E, S>>> Permit<'a, T, V, P> {
     {
         let Permit { cell, marker: _ } = self;
         unsafe { raw::store::<Brand>(&raw const (*cell).first, new, SeqCst) };
+        (
+            Permit {
+                cell,
+                marker: PhantomData,
+            },
+            seen,
+        )
+    }
+
+    /// Sleeps if the low 32 bits of the first word are those of `expected`, until a wake, or for so many seconds and
+    /// nanoseconds. It may also return for no reason. The step is the comparison. It tells its play `expected`.
+    pub fn park<M: Play<P::Key, V, E>, R: Wait>(
+        self,
+        rt: &R,
+        expected: u64,
+        secs: u64,
+        nanos: u64,
+        seen: Watch<E>,
+    ) -> (Permit<'a, T, V, P>, Watch<E>)
+        requires { MayKnow (P.holds self.key) (P.ways self.key) seen × Traces (P.holds self.key) (P.ways self.key) self.view self.value (λ n. n) (λ log es _. M.told self.key self.view log es expected) }
+        ensures { MadeStep P.holds P.ways M.told self.entry seen expected result.0 result.1 }
+    {
+        let Permit { cell, marker: _ } = self;
+        unsafe { raw::park::<Brand, R>(rt, &raw const (*cell).first, expected, secs, nanos) };
         (
             Permit {
                 cell,

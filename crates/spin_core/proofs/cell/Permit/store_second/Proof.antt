@@ -28,4 +28,4 @@ store_second_spec 𝓤 𝓛 𝓜 𝓡 wired T V E P K Mv L _ _ _ _ _ g d g' d' _
     lands_last ! refl (tt, tt) $ exec ! 𝓣.C 𝓣.Λ Ev (tail (tail fn.body)) (at_ret Ev Post) $
     sets ! (agg ! (no_more !)) refl (tt, tt) $ sets ! (agg ! (two ! refl refl)) refl (tt, (tt, (tt, tt))) $
     sets ! (of_opd ! (get ! refl)) refl (tt, (tt, tt)) $ sets ! (agg ! (two ! refl refl)) refl (tt, ((tt, (tt, tt)), ((tt, tt), tt))) $
-    closes.stored ! tt _ (λ s l. returns ! (look_at ! 0 refl) $ free_all ! refl $ by ! (out _ (next h b o s, knowing l)))))))))
+    closes.stored ! tt 0 _ (λ s l. returns ! (look_at ! 0 refl) $ free_all ! refl $ by ! (out _ (next h b o s, knowing l)))))))))
