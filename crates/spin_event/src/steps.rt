@@ -34,9 +34,10 @@ const FOR_EVER: u64 = i64::MAX as u64;
 /// and to wake whom it finds.
 ///
 /// # Contract
-/// No clause says that a call wakes: what a sleep and a wake of the kernel do is not told. In each schedule of the
-/// table ([`EventPoint`](crate::EventPoint)) no wake-up is lost (`a_sleeper_is_awake_or_somebody_rings`), if of 2^32
-/// rings not exactly a multiple comes between the `listen` and the sleep.
+/// Each call makes its steps of the table ([`EventPoint`](crate::EventPoint)): the trace of the event's cell is a schedule
+/// of it ([`EventRule`](crate::EventRule)), while there are fewer than 2^64 moves. So no wake-up is lost
+/// (`a_sleeper_is_awake_or_somebody_rings`), if of 2^32 rings not exactly a multiple comes between the `listen` and the
+/// sleep. What a sleep and a wake of the kernel do is assumed.
 ///
 /// # Examples
 /// ```
