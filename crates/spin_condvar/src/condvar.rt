@@ -24,7 +24,7 @@ use std::time::{Clock, Duration};
 /// # Contract
 /// A wait takes a guard that a call of its lock returned, and returns a guard of the same party. The party has written
 /// the guard's value, made one release, and then acquired the lock by one call, and it has made no other call
-/// (`Waited`). Of the notifications nothing is proved on threads; see [`Event`].
+/// (`Waited`). A notification is one of an [`Event`].
 ///
 /// # Examples
 /// ```

@@ -17,8 +17,8 @@ use std::time::{Clock, Duration};
 /// addition and a load, besides the release.
 ///
 /// # Contract
-/// What is known of a guard is what the call of the lock in it says (`grants` and `tries` of [`Acquire`]). Of the
-/// notifications nothing is proved on threads; see [`Event`].
+/// What is known of a guard is what the call of the lock in it says (`grants` and `tries` of [`Acquire`]). A notification is
+/// one of an [`Event`].
 ///
 /// # Examples
 /// ```
